@@ -1,0 +1,60 @@
+-- Refusal 4, BODY: a count, arity, mode or mark outside its range, or fields that do not end at the record's end.
+-- Each test holds where the record is right. Fields are read with the arity that the record itself writes.
+use mathlib.Core.Bool.{_&&_, Bool, cond}
+use mathlib.Core.List.{List}
+use Prim.Native.Nat.{_+_, ℕ}
+use lib.Dec.{eqb, leb}
+use Rattle.parlog.specs.Image.{bodyAt, byteAt, goalEnd, guardAt, literalEnd, modeEnd, recordEnd, stageEnd}
+use Rattle.parlog.specs.Scan.{each, total}
+
+-- kind 1: a mode is 0 or 1
+abbrev pub modeRange : List ℕ → ℕ → Bool
+modeRange s at = leb (byteAt s at) 1
+
+abbrev pub modesRange : List ℕ → ℕ → ℕ → Bool
+modesRange s n at = each (modeRange s) modeEnd n at
+
+-- literals: an arity is 0 to 4
+abbrev pub literalRange : List ℕ → ℕ → Bool
+literalRange s at = leb (byteAt s (at + 1)) 4
+
+abbrev pub literalsRange : List ℕ → ℕ → ℕ → Bool
+literalsRange s n at = each (literalRange s) (literalEnd s) n at
+
+-- goals: a stage has at least 1 literal
+unfoldable pub stageRange : List ℕ → ℕ → Bool
+stageRange s at = leb 1 (byteAt s at) && literalsRange s (byteAt s at) (at + 1)
+
+abbrev pub stagesRange : List ℕ → ℕ → ℕ → Bool
+stagesRange s n at = each (stageRange s) (stageEnd s) n at
+
+-- the literals of n stages
+abbrev pub literalCount : List ℕ → ℕ → ℕ → ℕ
+literalCount s n at = total (byteAt s) (stageEnd s) n at
+
+-- goals: 0 to 8 stages, at most 8 literals in a goal
+unfoldable pub goalRange : List ℕ → ℕ → Bool
+goalRange s at =
+    leb (byteAt s at) 8 && (stagesRange s (byteAt s at) (at + 1) && leb (literalCount s (byteAt s at) (at + 1)) 8)
+
+-- kind 1: arity 0 to 4, its modes, and the record's end
+unfoldable pub relationBody : List ℕ → ℕ → Bool
+relationBody s at =
+    leb (byteAt s (at + 4)) 4
+    && (modesRange s (byteAt s (at + 4)) (at + 5) && eqb (at + 5 + byteAt s (at + 4)) (recordEnd s at))
+
+-- kind 2: arity 0 to 4, mark 0 or 1, 0 to 16 variables, guard, body, and the record's end
+unfoldable pub clauseBody : List ℕ → ℕ → Bool
+clauseBody s at =
+    leb (byteAt s (at + 5)) 4
+    && (leb (byteAt s (at + 6)) 1
+    && (leb (byteAt s (at + 7)) 16
+    && (goalRange s (guardAt s at)
+    && (goalRange s (bodyAt s at) && eqb (goalEnd s (bodyAt s at)) (recordEnd s at)))))
+
+-- kind 3: 0 to 16 variables, goal, and the record's end
+unfoldable pub askBody : List ℕ → ℕ → Bool
+askBody s at = leb (byteAt s (at + 4)) 16 && (goalRange s (at + 5) && eqb (goalEnd s (at + 5)) (recordEnd s at))
+
+unfoldable pub bodyRight : List ℕ → ℕ → ℕ → Bool
+bodyRight s at kind = cond (eqb kind 1) (relationBody s at) (cond (eqb kind 2) (clauseBody s at) (askBody s at))

@@ -1,0 +1,126 @@
+-- Marked runs, c1 to c12, computed from the bytes of their images, with the images in order of first mention.
+use mathlib.Core.Path.{_≡_, refl}
+use mathlib.Core.List.{[], _++_, _∷_, List}
+use Prim.Native.Nat.{ℕ}
+use lib.ListN.{length}
+use Rattle.parlog.specs.Limits.{small}
+use Rattle.parlog.specs.Load.{loadOf}
+use Rattle.parlog.specs.Opened.{opened}
+use Rattle.parlog.specs.Program.{Program, programOf}
+use Rattle.parlog.specs.Run.{given, Running, runTables, Supplying, supplyTables, ungiven}
+use Rattle.parlog.specs.Tables.{at, freshTables, noted, Tables}
+use Rattle.parlog.specs.Text.{runnerText}
+use Rattle.parlog.specs.Unify.{value}
+use Rattle.parlog.specs.declared.End.{End}
+use Rattle.parlog.specs.declared.End.the-variants.{Failure, Success, Waiting}
+use Rattle.parlog.specs.declared.Loaded.{Loaded}
+use Rattle.parlog.specs.declared.Loaded.the-variants.{Accepted, Refused}
+
+-- ---- images
+
+unfoldable pub emptyGoal : List ℕ
+emptyGoal = 6 ∷ 0 ∷ 3 ∷ 0 ∷ 0 ∷ 0 ∷ []
+
+-- the goal a = b, for two constants
+abbrev pub equationGoal : ℕ → ℕ → List ℕ
+equationGoal a b = 13 ∷ 0 ∷ 3 ∷ 0 ∷ 0 ∷ 1 ∷ 1 ∷ 255 ∷ 2 ∷ a ∷ 0 ∷ b ∷ 0 ∷ []
+
+-- relation p, and the goal p
+abbrev pub relationP : List ℕ
+relationP = 5 ∷ 0 ∷ 1 ∷ 0 ∷ 0 ∷ []
+
+abbrev pub goalP : List ℕ
+goalP = 9 ∷ 0 ∷ 3 ∷ 0 ∷ 0 ∷ 1 ∷ 1 ∷ 0 ∷ 0 ∷ []
+
+-- the fact p
+abbrev pub factP : List ℕ
+factP = 10 ∷ 0 ∷ 2 ∷ 0 ∷ 0 ∷ 0 ∷ 0 ∷ 0 ∷ 0 ∷ 0 ∷ []
+
+-- a relation with one argument of mode m, the fact that it holds of constant c, and the goal that asks it of variable 0
+abbrev pub askOne : ℕ → ℕ → List ℕ
+askOne m c =
+    6 ∷ 0 ∷ 1 ∷ 0 ∷ 1 ∷ m
+    ∷ 12 ∷ 0 ∷ 2 ∷ 0 ∷ 0 ∷ 1 ∷ 0 ∷ 0 ∷ c ∷ 0 ∷ 0 ∷ 0
+    ∷ 11 ∷ 0 ∷ 3 ∷ 0 ∷ 1 ∷ 1 ∷ 1 ∷ 0 ∷ 1 ∷ 0 ∷ 128 ∷ []
+
+-- mode t(?,?), fact t(X,X), goal t(A,B)
+abbrev pub twice : List ℕ
+twice =
+    7 ∷ 0 ∷ 1 ∷ 0 ∷ 2 ∷ 0 ∷ 0
+    ∷ 14 ∷ 0 ∷ 2 ∷ 0 ∷ 0 ∷ 2 ∷ 0 ∷ 1 ∷ 0 ∷ 128 ∷ 0 ∷ 128 ∷ 0 ∷ 0
+    ∷ 13 ∷ 0 ∷ 3 ∷ 0 ∷ 2 ∷ 1 ∷ 1 ∷ 0 ∷ 2 ∷ 0 ∷ 128 ∷ 1 ∷ 128 ∷ []
+
+-- ---- what is shown of an image's run in turn order from a start
+
+pub data Shown : Type 0 where
+  refused : ℕ → ℕ → Shown
+  shown : ℕ → End → ℕ → Shown
+
+-- a value supplied between two parts of a run
+pub record Supply : Type 0 where
+  pub var : ℕ
+  pub value : ℕ
+
+abbrev pub supplyThen : Supplying → Tables → Tables
+supplyThen (ungiven k) t = t
+supplyThen (given v t) u = t
+
+-- runs until it stops, then once more after each supply
+unfoldable pub runThrough : Program → Tables → List Supply → Running
+runThrough pr t [] = runTables 60000 small pr t
+runThrough pr t (u ∷ us) = runThrough pr (supplyThen (supplyTables pr (runTables 60000 small pr t .tables) (u .var) (u .value)) (runTables 60000 small pr t .tables)) us
+
+abbrev pub showRun : Running → Shown
+showRun r = shown (r .tables .steps) (r .end) (length (r .tables .state .procs))
+
+abbrev pub showLoaded : Loaded → List ℕ → List Supply → Shown
+showLoaded (Refused r) s us = refused (r .number) (r .offset)
+showLoaded (Accepted r c) s us = showRun (runThrough (programOf s r c) (freshTables (programOf s r c)) us)
+
+-- steps taken in all, end and process count; or the refusal and its offset
+unfoldable pub outcome : List ℕ → List Supply → Shown
+outcome s us = showLoaded (loadOf s) s us
+
+-- the variables that process p has noted at the end
+abbrev pub notesLoaded : Loaded → List ℕ → List Supply → ℕ → List ℕ
+notesLoaded (Refused r) s us p = []
+notesLoaded (Accepted r c) s us p = noted (at (runThrough (programOf s r c) (freshTables (programOf s r c)) us .tables .state .procs) p)
+
+unfoldable pub notesOf : List ℕ → List Supply → ℕ → List ℕ
+notesOf s us p = notesLoaded (loadOf s) s us p
+
+abbrev pub give : ℕ → ℕ → Supply
+give v c = record { var = v; value = c }
+
+-- ---- the table
+
+pub cases : (outcome emptyGoal [] ≡ shown 2 Success 1)
+  × (outcome (equationGoal 1 1) [] ≡ shown 2 Success 1)
+  × (outcome (equationGoal 1 2) [] ≡ shown 2 Failure 1)
+  × (outcome (relationP ++ goalP) [] ≡ shown 4 Failure 2)
+  × (outcome (relationP ++ factP ++ goalP) [] ≡ shown 16 Success 7)
+  × (outcome (askOne 0 1) [] ≡ shown 9 Waiting 6)
+  × (notesOf (askOne 0 1) [] 4 ≡ 0 ∷ [])
+  × (outcome (askOne 0 1) (give 0 1 ∷ []) ≡ shown 18 Success 7)
+  × (outcome (askOne 0 1) (give 0 2 ∷ []) ≡ shown 16 Failure 6)
+  × (outcome twice [] ≡ shown 9 Waiting 6)
+  × (notesOf twice [] 4 ≡ 1 ∷ [])
+  × (outcome twice (give 0 7 ∷ []) ≡ shown 9 Waiting 6)
+  × (outcome twice (give 0 7 ∷ give 1 7 ∷ []) ≡ shown 18 Success 7)
+  × (outcome [] [] ≡ refused 7 0)
+  × (outcome (3 ∷ 0 ∷ 3 ∷ 0 ∷ []) [] ≡ refused 2 0)
+unfolding opened emptyGoal runThrough outcome notesOf
+cases = (refl, refl, refl, refl, refl, refl, refl, refl, refl, refl, refl, refl, refl, refl, refl)
+
+-- the numbers that the readings give besides: c9 with B supplied first
+pub casesMore : (outcome twice (give 1 7 ∷ []) ≡ shown 11 Waiting 6) × (notesOf twice (give 1 7 ∷ []) 4 ≡ 0 ∷ [])
+unfolding opened runThrough outcome notesOf
+casesMore = (refl, refl)
+
+-- what the runner prints for mode s(^), fact s(5), goal s(A): "steps 16", "end success", "var 0 = 5"
+pub printed : runnerText small (askOne 1 5)
+  ≡ 115 ∷ 116 ∷ 101 ∷ 112 ∷ 115 ∷ 32 ∷ 49 ∷ 54 ∷ 10
+  ∷ 101 ∷ 110 ∷ 100 ∷ 32 ∷ 115 ∷ 117 ∷ 99 ∷ 99 ∷ 101 ∷ 115 ∷ 115 ∷ 10
+  ∷ 118 ∷ 97 ∷ 114 ∷ 32 ∷ 48 ∷ 32 ∷ 61 ∷ 32 ∷ 53 ∷ 10 ∷ []
+unfolding opened
+printed = refl

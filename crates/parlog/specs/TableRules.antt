@@ -1,0 +1,200 @@
+-- The table rules: what refusal 8 tests, a definition for each part of the sentence. n is the variable count.
+use mathlib.Core.Bool.{_&&_, _||_, Bool, false, not, true}
+use mathlib.Core.List.{[], _∷_, List}
+use Prim.Native.Nat.{_*_, _+_, suc, zero, ℕ}
+use lib.Dec.{eqb, leb, ltb}
+use lib.ListN.{length}
+use Rattle.parlog.specs.Codes.{and-par, and-seq, dormant, equate, guard-eval, input-match, isMode, isResult, isTag, Kind, kindCode, kindOf, none, or-par, or-search, reporting, seq-search, success, suspended, Tag, tagCode, tagOf, the-body, the-goal, the-guard, try-clause, waiting}
+use Rattle.parlog.specs.Image.{equality}
+use Rattle.parlog.specs.Limits.{Limits}
+use Rattle.parlog.specs.Program.{blockCount, clauseAt, goalAt, Literal, literalAt, Program, stageAt, tagOfGoal, varsOf}
+use Rattle.parlog.specs.Scan.{every, implies}
+use Rattle.parlog.specs.Tables.{at, bindingOf, cellSize, headSize, Lent, noted, numberAt, rowSize, sortAt, State, Tables, tablesIn, varCount}
+use Rattle.parlog.specs.declared.Binding.{Binding}
+use Rattle.parlog.specs.declared.Binding.the-variants.{Bound, Free}
+use Rattle.parlog.specs.declared.Process.{Process}
+use Rattle.parlog.specs.declared.Spot.{Spot}
+use Rattle.parlog.specs.declared.Term.the-variants.{Const, Var}
+
+-- ---- counts
+
+-- 1 to 512 processes, at most 1,024 variables and no fewer than the goal's
+unfoldable pub countsOk : Limits → Program → State → Bool
+countsOk lim pr s =
+    leb 1 (length (s .procs))
+    && (leb (length (s .procs)) (lim .procs) && (leb (length (s .vars)) (lim .vars) && leb (pr .goalVars) (length (s .vars))))
+
+-- ---- known tags, modes and results (none, success, failure), and kinds of goals
+
+unfoldable pub known : Process → Bool
+known x = ltb (x .tag) 9 && (ltb (x .mode) 6 && (ltb (x .result) 3 && ltb (x .spot .kind) 3))
+
+-- ---- results
+
+-- a reporting process has success or failure, and so has process 0 when dormant
+unfoldable pub resultOk : ℕ → Process → Bool
+resultOk i x = implies (isMode reporting (x .mode) || (eqb i 0 && isMode dormant (x .mode))) (not (isResult none (x .result)))
+
+-- ---- kin
+
+abbrev pub isLiteralTag : Tag → Bool
+isLiteralTag and-par = false
+isLiteralTag and-seq = false
+isLiteralTag or-par = true
+isLiteralTag seq-search = false
+isLiteralTag or-search = false
+isLiteralTag try-clause = false
+isLiteralTag input-match = false
+isLiteralTag guard-eval = false
+isLiteralTag equate = true
+
+abbrev pub isStageTag : Tag → Bool
+isStageTag t = isLiteralTag t || isTag and-par (tagCode t)
+
+abbrev pub isGoalTag : Tag → Bool
+isGoalTag t = isStageTag t || isTag and-seq (tagCode t)
+
+-- the tags that a tag's rules make
+abbrev pub makesTag : Tag → Tag → Bool
+makesTag and-par t = isLiteralTag t
+makesTag and-seq t = isStageTag t
+makesTag or-par t = isTag seq-search (tagCode t) || isGoalTag t
+makesTag seq-search t = isTag or-search (tagCode t)
+makesTag or-search t = isTag try-clause (tagCode t)
+makesTag try-clause t = isTag input-match (tagCode t) || isTag guard-eval (tagCode t)
+makesTag input-match t = false
+makesTag guard-eval t = isGoalTag t
+makesTag equate t = false
+
+-- process 0 has its goal's tag and no parent (its row holds 0), and names the image's goal;
+-- every other has a lower-numbered parent whose rules make its tag
+unfoldable pub kinOk : Program → List Process → ℕ → Process → Bool
+kinOk pr ps zero x = isTag (tagOfGoal (pr .goal)) (x .tag) && (eqb (x .parent) 0 && eqb (x .spot .kind) (kindCode the-goal))
+kinOk pr ps (suc i) x = ltb (x .parent) (suc i) && makesTag (tagOf (at ps (x .parent) .tag)) (tagOf (x .tag))
+
+-- ---- places
+
+-- the clause exists and its variable block ends at or below the variable count
+unfoldable pub clauseIn : Program → ℕ → ℕ → ℕ → Bool
+clauseIn pr n k v = ltb k (length (pr .clauses)) && leb (v + varsOf pr k) n
+
+-- so for a goal; the variables of the image's goal begin at 0
+unfoldable pub goalInBy : Kind → Program → ℕ → Spot → Bool
+goalInBy the-goal pr n z = eqb (z .base) 0 && leb (pr .goalVars) n
+goalInBy the-guard pr n z = clauseIn pr n (z .clause) (z .base)
+goalInBy the-body pr n z = clauseIn pr n (z .clause) (z .base)
+
+unfoldable pub goalIn : Program → ℕ → Spot → Bool
+goalIn pr n z = goalInBy (kindOf (z .kind)) pr n z
+
+-- the stage exists
+abbrev pub stageIn : Program → Spot → Bool
+stageIn pr z = ltb (z .stage) (length (goalAt pr z))
+
+-- the literal exists; it is a call, or it is an equality
+unfoldable pub literalIn : Program → ℕ → Spot → Bool
+literalIn pr n z = goalIn pr n z && ltb (z .literal) (length (stageAt pr z))
+
+abbrev pub isEquality : Literal → Bool
+isEquality l = eqb (l .rel) equality
+
+unfoldable pub callIn : Program → ℕ → Spot → Bool
+callIn pr n z = literalIn pr n z && not (isEquality (literalAt pr z))
+
+unfoldable pub equalityIn : Program → ℕ → Spot → Bool
+equalityIn pr n z = literalIn pr n z && isEquality (literalAt pr z)
+
+-- a block of the relation called
+abbrev pub blockIn : Program → Spot → Bool
+blockIn pr z = ltb (z .block) (blockCount pr (literalAt pr z .rel))
+
+-- the clause found or tried, with its variables
+abbrev pub foundIn : Program → ℕ → Spot → Bool
+foundIn pr n z = clauseIn pr n (z .found) (z .first)
+
+-- a clause of the relation called
+unfoldable pub tryIn : Program → ℕ → Spot → Bool
+tryIn pr n z = foundIn pr n z && eqb (clauseAt pr (z .found) .rel) (literalAt pr z .rel)
+
+-- each process names the places that its own rules read, of the kind they need
+unfoldable pub placesOk : Tag → Program → ℕ → Spot → Bool
+placesOk and-par pr n z = goalIn pr n z && stageIn pr z
+placesOk and-seq pr n z = goalIn pr n z && leb (z .stage) (length (goalAt pr z))
+placesOk or-par pr n z = callIn pr n z
+placesOk seq-search pr n z = callIn pr n z
+placesOk or-search pr n z = callIn pr n z && blockIn pr z
+placesOk try-clause pr n z = callIn pr n z && tryIn pr n z
+placesOk input-match pr n z = callIn pr n z && tryIn pr n z
+placesOk guard-eval pr n z = foundIn pr n z
+placesOk equate pr n z = equalityIn pr n z
+
+abbrev pub succeeds : Process → Bool
+succeeds x = isMode reporting (x .mode) && isResult success (x .result)
+
+-- and in some modes those that its own waiting and its parent's rules read: a waiting and-seq has a stage left, a waiting
+-- seq-search a block, a search that reports success a clause
+unfoldable pub goingOk : Tag → Program → ℕ → Process → Bool
+goingOk and-par pr n x = true
+goingOk and-seq pr n x = implies (isMode waiting (x .mode)) (stageIn pr (x .spot))
+goingOk or-par pr n x = true
+goingOk seq-search pr n x = implies (isMode waiting (x .mode)) (blockIn pr (x .spot)) && implies (succeeds x) (foundIn pr n (x .spot))
+goingOk or-search pr n x = implies (succeeds x) (foundIn pr n (x .spot))
+goingOk try-clause pr n x = true
+goingOk input-match pr n x = true
+goingOk guard-eval pr n x = true
+goingOk equate pr n x = true
+
+-- ---- notes
+
+unfoldable pub allBelow : ℕ → List ℕ → Bool
+allBelow n [] = true
+allBelow n (v ∷ vs) = ltb v n && allBelow n vs
+
+-- a suspended process notes at most four variables, all below the count
+unfoldable pub notesOk : ℕ → Process → Bool
+notesOk n x = implies (isMode suspended (x .mode)) (leb (x .count) 4 && allBelow n (noted x))
+
+-- ---- a row, a binding, the tables
+
+unfoldable pub rowOk : Program → List Process → ℕ → ℕ → Bool
+rowOk pr ps n i =
+    known (at ps i)
+    && (kinOk pr ps i (at ps i)
+    && (resultOk i (at ps i)
+    && (placesOk (tagOf (at ps i .tag)) pr n (at ps i .spot)
+    && (goingOk (tagOf (at ps i .tag)) pr n (at ps i)
+    && notesOk n (at ps i)))))
+
+-- a bound variable holds a constant up to 32,767 or a lower-numbered variable
+abbrev pub bindingOk : ℕ → Binding → Bool
+bindingOk v Free = true
+bindingOk v (Bound (Const c)) = leb c 32767
+bindingOk v (Bound (Var w)) = ltb w v
+
+unfoldable pub varOk : List Binding → ℕ → Bool
+varOk vs v = bindingOk v (bindingOf vs v)
+
+unfoldable pub stateOk : Limits → Program → State → Bool
+stateOk lim pr s =
+    countsOk lim pr s
+    && (every (rowOk pr (s .procs) (length (s .vars))) (length (s .procs)) && every (varOk (s .vars)) (length (s .vars)))
+
+-- and the turn marker is below the process count
+unfoldable pub tablesOk : Limits → Program → Tables → Bool
+tablesOk lim pr t = stateOk lim pr (t .state) && ltb (t .last) (length (t .state .procs))
+
+-- ---- over lent bytes
+
+-- a lent table is of the full size for its limit
+unfoldable pub fullSize : Limits → Lent → Bool
+fullSize lim l =
+    eqb (length (l .head)) headSize
+    && (eqb (length (l .procs)) (lim .procs * rowSize) && eqb (length (l .vars)) (lim .vars * cellSize))
+
+-- bytes that no record has: an unknown sort, or an unbound variable with a number
+unfoldable pub cellKnown : List ℕ → ℕ → Bool
+cellKnown l v = ltb (sortAt l v) 3 && implies (eqb (sortAt l v) 0) (eqb (numberAt l v) 0)
+
+-- 8 STATE is given exactly when this fails
+unfoldable pub lentOk : Limits → Program → Lent → Bool
+lentOk lim pr l = fullSize lim l && (every (cellKnown (l .vars)) (varCount (l .head)) && tablesOk lim pr (tablesIn l))

@@ -1,0 +1,215 @@
+-- The run's tables: records, and their rows of bytes.
+use mathlib.Core.Bool.{cond}
+use mathlib.Core.List.{[], _++_, _∷_, List}
+use Prim.Native.Nat.{_%_, _*_, _+_, _/_, ℕ}
+use lib.Dec.{eqb}
+use lib.ListN.{drop, getD, length, replicate, take}
+use Rattle.parlog.specs.Codes.{Kind, kindCode, Mode, modeCode, none, resultCode, starting, Tag, tagCode, the-goal}
+use Rattle.parlog.specs.Limits.{Limits}
+use Rattle.parlog.specs.Program.{Program, tagOfGoal}
+use Rattle.parlog.specs.Scan.{build}
+use Rattle.parlog.specs.declared.Binding.{Binding}
+use Rattle.parlog.specs.declared.Binding.the-variants.{Bound, Free}
+use Rattle.parlog.specs.declared.Process.{Process}
+use Rattle.parlog.specs.declared.Spot.{Spot}
+use Rattle.parlog.specs.declared.Term.the-variants.{Const, Var}
+
+-- the used rows: processes and variables by number
+pub record State : Type 0 where
+  pub procs : List Process
+  pub vars : List Binding
+
+-- and the turn marker: the last process stepped, and the steps taken so far
+pub record Tables : Type 0 where
+  pub state : State
+  pub last : ℕ
+  pub steps : ℕ
+
+-- ---- records by number
+
+abbrev pub nowhere : Spot
+nowhere = record { kind = 0; clause = 0; base = 0; stage = 0; literal = 0; block = 0; found = 0; first = 0 }
+
+abbrev pub noNotes : List ℕ
+noNotes = 0 ∷ 0 ∷ 0 ∷ 0 ∷ []
+
+-- a row of zeros; it is dormant
+abbrev pub idle : Process
+idle = record { tag = 0; mode = 0; result = 0; count = 0; parent = 0; spot = nowhere; notes = noNotes }
+
+abbrev pub at : List Process → ℕ → Process
+at ps i = getD ps i idle
+
+abbrev pub bindingOf : List Binding → ℕ → Binding
+bindingOf vs v = getD vs v Free
+
+-- the variables that a process has noted
+unfoldable pub noted : Process → List ℕ
+noted x = take (x .count) (x .notes)
+
+-- ---- a process row: 24 bytes, every one of a field
+
+-- this and the sizes below stand behind names, since later rows may be longer
+abbrev pub rowSize : ℕ
+rowSize = 24
+
+abbrev pub u16At : List ℕ → ℕ → ℕ
+u16At l i = getD l i 0 + getD l (i + 1) 0 * 256
+
+unfoldable pub spotAt : List ℕ → ℕ → Spot
+spotAt l i = record {
+  kind = getD l (i * 24 + 6) 0;
+  clause = getD l (i * 24 + 7) 0;
+  base = u16At l (i * 24 + 8);
+  stage = getD l (i * 24 + 10) 0;
+  literal = getD l (i * 24 + 11) 0;
+  block = getD l (i * 24 + 12) 0;
+  found = getD l (i * 24 + 13) 0;
+  first = u16At l (i * 24 + 14) }
+
+unfoldable pub notesAt : List ℕ → ℕ → List ℕ
+notesAt l i = u16At l (i * 24 + 16) ∷ u16At l (i * 24 + 18) ∷ u16At l (i * 24 + 20) ∷ u16At l (i * 24 + 22) ∷ []
+
+unfoldable pub processAt : List ℕ → ℕ → Process
+processAt l i = record {
+  tag = getD l (i * 24) 0;
+  mode = getD l (i * 24 + 1) 0;
+  result = getD l (i * 24 + 2) 0;
+  count = getD l (i * 24 + 3) 0;
+  parent = u16At l (i * 24 + 4);
+  spot = spotAt l i;
+  notes = notesAt l i }
+
+abbrev pub low : ℕ → ℕ
+low v = v % 256
+
+abbrev pub high : ℕ → ℕ
+high v = v / 256
+
+unfoldable pub processBytes : Process → List ℕ
+processBytes x =
+    x .tag ∷ x .mode ∷ x .result ∷ x .count
+    ∷ low (x .parent) ∷ high (x .parent)
+    ∷ x .spot .kind ∷ x .spot .clause
+    ∷ low (x .spot .base) ∷ high (x .spot .base)
+    ∷ x .spot .stage ∷ x .spot .literal ∷ x .spot .block ∷ x .spot .found
+    ∷ low (x .spot .first) ∷ high (x .spot .first)
+    ∷ low (getD (x .notes) 0 0) ∷ high (getD (x .notes) 0 0)
+    ∷ low (getD (x .notes) 1 0) ∷ high (getD (x .notes) 1 0)
+    ∷ low (getD (x .notes) 2 0) ∷ high (getD (x .notes) 2 0)
+    ∷ low (getD (x .notes) 3 0) ∷ high (getD (x .notes) 3 0) ∷ []
+
+-- the first n rows
+unfoldable pub procsOf : List ℕ → ℕ → List Process
+procsOf l n = build (processAt l) n
+
+-- ---- a variable row: 4 bytes, a sort (0 unbound, 1 constant, 2 variable), then a three-byte number
+
+abbrev pub cellSize : ℕ
+cellSize = 4
+
+abbrev pub sortAt : List ℕ → ℕ → ℕ
+sortAt l v = getD l (v * 4) 0
+
+abbrev pub numberAt : List ℕ → ℕ → ℕ
+numberAt l v = getD l (v * 4 + 1) 0 + getD l (v * 4 + 2) 0 * 256 + getD l (v * 4 + 3) 0 * 65536
+
+-- an unknown sort, which the table rules refuse, reads as the last case
+unfoldable pub bindingBy : ℕ → ℕ → Binding
+bindingBy sort n = cond (eqb sort 0) Free (cond (eqb sort 1) (Bound (Const n)) (Bound (Var n)))
+
+unfoldable pub bindingAt : List ℕ → ℕ → Binding
+bindingAt l v = bindingBy (sortAt l v) (numberAt l v)
+
+abbrev pub sortCode : Binding → ℕ
+sortCode Free = 0
+sortCode (Bound (Const c)) = 1
+sortCode (Bound (Var v)) = 2
+
+abbrev pub numberCode : Binding → ℕ
+numberCode Free = 0
+numberCode (Bound (Const c)) = c
+numberCode (Bound (Var v)) = v
+
+unfoldable pub bindingBytes : Binding → List ℕ
+bindingBytes b = sortCode b ∷ numberCode b % 256 ∷ numberCode b / 256 % 256 ∷ numberCode b / 65536 ∷ []
+
+unfoldable pub varsIn : List ℕ → ℕ → List Binding
+varsIn l n = build (bindingAt l) n
+
+-- ---- the head: the counts (processes 2 bytes, variables 2), then the marker (last process stepped 2, steps 4)
+
+abbrev pub headSize : ℕ
+headSize = 10
+
+abbrev pub procCount : List ℕ → ℕ
+procCount h = u16At h 0
+
+abbrev pub varCount : List ℕ → ℕ
+varCount h = u16At h 2
+
+abbrev pub markerLast : List ℕ → ℕ
+markerLast h = u16At h 4
+
+abbrev pub markerSteps : List ℕ → ℕ
+markerSteps h = u16At h 6 + u16At h 8 * 65536
+
+unfoldable pub headBytes : ℕ → ℕ → ℕ → ℕ → List ℕ
+headBytes n m last steps =
+    low n ∷ high n ∷ low m ∷ high m ∷ low last ∷ high last
+    ∷ steps % 256 ∷ steps / 256 % 256 ∷ steps / 65536 % 256 ∷ steps / 16777216 ∷ []
+
+-- ---- what a call is lent
+
+pub record Lent : Type 0 where
+  pub head : List ℕ
+  pub procs : List ℕ
+  pub vars : List ℕ
+
+-- the tables that lent bytes hold
+unfoldable pub tablesIn : Lent → Tables
+tablesIn l = record {
+  state = record { procs = procsOf (l .procs) (procCount (l .head)); vars = varsIn (l .vars) (varCount (l .head)) };
+  last = markerLast (l .head);
+  steps = markerSteps (l .head) }
+
+-- the bytes of rows in order
+unfoldable pub rowsBytes : {A : Type 0} → (A → List ℕ) → List A → List ℕ
+rowsBytes bytes [] = []
+rowsBytes bytes (x ∷ xs) = bytes x ++ rowsBytes bytes xs
+
+-- The refusal numbers, last: the bytes past the used rows stay
+unfoldable pub written : List ℕ → List ℕ → List ℕ
+written rows old = rows ++ drop (length rows) old
+
+-- lent bytes after they hold these tables
+unfoldable pub putTables : Lent → Tables → Lent
+putTables l t = record {
+  head = headBytes (length (t .state .procs)) (length (t .state .vars)) (t .last) (t .steps);
+  procs = written (rowsBytes processBytes (t .state .procs)) (l .procs);
+  vars = written (rowsBytes bindingBytes (t .state .vars)) (l .vars) }
+
+-- ---- A run's tables, 2: the start
+
+-- a process for a whole goal; a row holds zeros where its tag names nothing
+abbrev pub goalSpot : Kind → ℕ → ℕ → Spot
+goalSpot kind k base = record { kind = kindCode kind; clause = k; base = base; stage = 0; literal = 0; block = 0; found = 0; first = 0 }
+
+unfoldable pub newProcess : Tag → Mode → ℕ → Spot → Process
+newProcess t m parent z = record { tag = tagCode t; mode = modeCode m; result = resultCode none; count = 0; parent = parent; spot = z; notes = noNotes }
+
+-- process 0 gets the goal, mode starting, tag by the rule of goals; the goal's variables are numbers 0 upward, unbound
+unfoldable pub fresh : Program → State
+fresh pr = record { procs = newProcess (tagOfGoal (pr .goal)) starting 0 (goalSpot the-goal 0 0) ∷ []; vars = replicate (pr .goalVars) Free }
+
+-- the turn marker is 0 with 0 steps
+unfoldable pub freshTables : Program → Tables
+freshTables pr = record { state = fresh pr; last = 0; steps = 0 }
+
+-- and unused rows hold zeros
+unfoldable pub zeros : ℕ → List ℕ
+zeros n = replicate n 0
+
+unfoldable pub startedLent : Limits → Program → Lent
+startedLent lim pr =
+    putTables (record { head = zeros headSize; procs = zeros (lim .procs * rowSize); vars = zeros (lim .vars * cellSize) }) (freshTables pr)
