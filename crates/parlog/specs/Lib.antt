@@ -19,3 +19,5 @@ pub mod Calls
 pub mod Text
 pub mod Opened
 pub mod Cases
+pub mod Notions
+pub mod Relation

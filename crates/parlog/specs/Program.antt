@@ -9,7 +9,7 @@ use Rattle.parlog.specs.Image.{bodyAt, byteAt, equality, guardAt, isInpu
 use Rattle.parlog.specs.Scan.{listOf, tally, those}
 use Rattle.parlog.specs.declared.Spot.{Spot}
 use Rattle.parlog.specs.declared.Term.{Term}
-use Rattle.parlog.specs.declared.Term.the-variants.{Var}
+use Rattle.parlog.specs.declared.Term.the-variants.{Const, Var}
 
 -- The image, literals: a relation and its arguments
 pub record Literal : Type 0 where
@@ -142,6 +142,10 @@ stageAt pr z = getD (goalAt pr z) (z .stage) []
 
 unfoldable pub literalAt : Program → Spot → Literal
 literalAt pr z = getD (stageAt pr z) (z .literal) noLiteral
+
+-- argument i of a literal
+abbrev pub argument : Literal → ℕ → Term
+argument l i = getD (l .args) i (Const 0)
 
 -- the modes of the relation called
 abbrev pub callModes : Program → Spot → List ℕ

@@ -7,7 +7,7 @@ use lib.ListN.{getD, length}
 use Rattle.parlog.specs.Codes.{and-par, and-seq, dormant, equate, failure, guard-eval, input-match, isTag, Mode, modeOf, or-par, or-search, ready, reporting, seq-search, starting, success, suspended, Tag, tagOf, the-body, the-guard, try-clause, waiting}
 use Rattle.parlog.specs.Delta.{atBlock, atStage, blockSpot, callSpot, Delta, guardSpot, literalSpot, making, nextRow, only, report, reporting-with, trySpot, withClause, withMode, withNotes, withSpot, woken}
 use Rattle.parlog.specs.Limits.{Limits}
-use Rattle.parlog.specs.Program.{blockCount, blockOf, callModes, clauseAt, committedBody, Goal, goalAt, literalAt, noLiteral, Program, stageAt, tagOfGoal, tagOfLiteral, tagOfStage, varsOf}
+use Rattle.parlog.specs.Program.{argument, blockCount, blockOf, callModes, clauseAt, committedBody, Goal, goalAt, literalAt, noLiteral, Program, stageAt, tagOfGoal, tagOfLiteral, tagOfStage, varsOf}
 use Rattle.parlog.specs.Scan.{build}
 use Rattle.parlog.specs.Tables.{at, goalSpot, newProcess, noted, State}
 use Rattle.parlog.specs.Tree.{allChildren, anyChild, bad, enclosing, firstOf, good, Heard, heard, lowestChild, silent}
@@ -186,7 +186,7 @@ guardEvalWait (bad c) p x = by-rule (GuardEvalFailure p) (report failure x)
 -- ---- equate starting: unify its two terms; suspend where it would bind below the first variable of the nearest enclosing try-clause
 
 unfoldable pub equateAt : Program → State → ℕ → Spot → Decided
-equateAt pr s p z = equateOf (s .vars) (literalAt pr z .args) (z .base) (firstOf (s .procs) (enclosing (s .procs) p))
+equateAt pr s p z = equateOf (s .vars) (argument (literalAt pr z) 0) (argument (literalAt pr z) 1) (z .base) (firstOf (s .procs) (enclosing (s .procs) p))
 
 unfoldable pub equateStart : Decided → ℕ → Process → Applied
 equateStart fails p x = by-rule (EquateFailure p) (report failure x)

@@ -142,13 +142,8 @@ matchOf vs ms as′ base ts first own = decide vs (pairsOf ms as′ base ts firs
 
 -- ---- equate: its two terms, where nothing below `bar` may be bound
 
-unfoldable pub twoTerms : List Term → ℕ → List Pair
-twoTerms [] base = []
-twoTerms (t ∷ []) base = []
-twoTerms (t ∷ u ∷ ts) base = record { left = shift base t; right = shift base u } ∷ []
-
-unfoldable pub equateOf : List Binding → List Term → ℕ → ℕ → Decided
-equateOf vs ts base bar = decide vs (twoTerms ts base) (λ v. ltb v bar)
+unfoldable pub equateOf : List Binding → Term → Term → ℕ → ℕ → Decided
+equateOf vs t u base bar = decide vs (record { left = shift base t; right = shift base u } ∷ []) (λ v. ltb v bar)
 
 -- ---- suspended: a noted variable is bound
 

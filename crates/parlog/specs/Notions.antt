@@ -1,0 +1,235 @@
+-- The notions of the rules as relations, stated apart from the functions that compute them.
+use mathlib.Core.Path.{_≡_}
+use mathlib.Core.Logic.{_≢_}
+use mathlib.Core.List.{[], _++_, _∷_, List}
+use Prim.Native.Nat.{_+_, _<_, _≤_, suc, ℕ}
+use lib.ListN.{getD, length, replicate}
+use Rattle.parlog.specs.Codes.{dormant, guard-eval, Mode, modeCode, ready, reporting, Result, resultCode, Tag, tagCode, try-clause}
+use Rattle.parlog.specs.Delta.{literalSpot, trySpot, withMode, withResult}
+use Rattle.parlog.specs.Program.{Clause, clauseAt, Goal, Literal, modesAt, noLiteral, Program, tagOfLiteral, varsOf}
+use Rattle.parlog.specs.Tables.{at, bindingOf, fresh, newProcess, State}
+use Rattle.parlog.specs.Tree.{below, latest, reports}
+use Rattle.parlog.specs.Unify.{change, changed, shift}
+use Rattle.parlog.specs.declared.Binding.{Binding}
+use Rattle.parlog.specs.declared.Binding.the-variants.{Bound, Free}
+use Rattle.parlog.specs.declared.Change.{Change}
+use Rattle.parlog.specs.declared.Pair.{Pair}
+use Rattle.parlog.specs.declared.Process.{Process}
+use Rattle.parlog.specs.declared.Spot.{Spot}
+use Rattle.parlog.specs.declared.Term.{Term}
+use Rattle.parlog.specs.declared.Term.the-variants.{Const, Var}
+
+-- ---- the mover
+
+abbrev pub me : State → ℕ → Process
+me s p = at (s .procs) p
+
+abbrev pub HasMode : State → ℕ → Mode → Type 0
+HasMode s p m = me s p .mode ≡ modeCode m
+
+abbrev pub HasTag : State → ℕ → Tag → Type 0
+HasTag s p t = me s p .tag ≡ tagCode t
+
+-- tag(p) and mode(p)
+pub record Is (s : State) (p : ℕ) (t : Tag) (m : Mode) : Type 0 where
+  pub tag : HasTag s p t
+  pub mode : HasMode s p m
+
+-- ---- children
+
+-- c is a child of p: parent(c) = p; process 0 has no parent
+pub record Child (s : State) (p c : ℕ) : Type 0 where
+  pub there : c < length (s .procs)
+  pub other : c ≢ 0
+  pub parent : me s c .parent ≡ p
+
+-- mode(c) = reporting and res(c) = r
+pub record Reports (s : State) (c : ℕ) (r : Result) : Type 0 where
+  pub mode : HasMode s c reporting
+  pub result : me s c .result ≡ resultCode r
+
+-- the latest child: a child with none higher
+pub record Latest (s : State) (p c : ℕ) : Type 0 where
+  pub child : Child s p c
+  pub none-higher : (i : ℕ) → Child s p i → i ≤ c
+
+-- the latest child, and what it reports
+pub record Hears (s : State) (p c : ℕ) (r : Result) : Type 0 where
+  pub latest : Latest s p c
+  pub reports : Reports s c r
+
+-- for all children
+abbrev pub AllReport : State → ℕ → Result → Type 0
+AllReport s p r = (c : ℕ) → Child s p c → Reports s c r
+
+-- for some child
+pub record SomeReports (s : State) (p : ℕ) (r : Result) : Type 0 where
+  pub which : ℕ
+  pub child : Child s p which
+  pub reports : Reports s which r
+
+-- a child that reports this, and none lower does
+pub record LowestReports (s : State) (p c : ℕ) (r : Result) : Type 0 where
+  pub child : Child s p c
+  pub reports : Reports s c r
+  pub none-lower : (i : ℕ) → Child s p i → Reports s i r → c ≤ i
+
+-- below: a chain of parents
+pub data Below (s : State) (p : ℕ) : ℕ → Type 0 where
+  next-below : {c : ℕ} → Child s p c → Below s p c
+  deeper : {c d : ℕ} → Below s p c → Child s c d → Below s p d
+
+-- c is the nearest try-clause above p
+pub data Nearest (s : State) : ℕ → ℕ → Type 0 where
+  is-parent : {p c : ℕ} → Child s c p → HasTag s c try-clause → Nearest s p c
+  above-parent : {p q c : ℕ} → Child s q p → (HasTag s q try-clause → ⊥) → Nearest s q c → Nearest s p c
+
+-- p stands below a guard-eval
+pub record UnderGuard (s : State) (p : ℕ) : Type 0 where
+  pub guard : ℕ
+  pub below : Below s guard p
+  pub tag : HasTag s guard guard-eval
+
+-- ---- the committed body
+
+-- the output equations of a head: one per output argument, in argument order, their variables numbered on from v
+pub data Outputs : List ℕ → List Term → ℕ → List Literal → Type 0 where
+  no-argument : {ts : List Term} {v : ℕ} → Outputs [] ts v []
+  no-term : {m : ℕ} {ms : List ℕ} {v : ℕ} → Outputs (m ∷ ms) [] v []
+  skip-input : {m : ℕ} {ms : List ℕ} {t : Term} {ts : List Term} {v : ℕ} {es : List Literal} → m ≡ 0 → Outputs ms ts v es → Outputs (m ∷ ms) (t ∷ ts) v es
+  an-output : {m : ℕ} {ms : List ℕ} {t : Term} {ts : List Term} {v : ℕ} {es : List Literal} → m ≢ 0 → Outputs ms ts (suc v) es
+    → Outputs (m ∷ ms) (t ∷ ts) v (record { rel = 255; args = t ∷ Var v ∷ [] } ∷ es)
+
+abbrev pub OutputsOf : Program → Clause → List Literal → Type 0
+OutputsOf pr c es = Outputs (modesAt pr (c .rel)) (c .head) (c .vars) es
+
+-- clbody(clause), with the output equations in front
+pub data Committed (pr : Program) (c : Clause) : Goal → Type 0 where
+  as-it-stands : OutputsOf pr c [] → Committed pr c (c .body)
+  one-stage : {e : Literal} {es : List Literal} → OutputsOf pr c (e ∷ es) → c .body ≡ [] → Committed pr c ((e ∷ es) ∷ [])
+  in-front : {e : Literal} {es st : List Literal} {g : Goal} → OutputsOf pr c (e ∷ es) → c .body ≡ st ∷ g → Committed pr c ((e ∷ es ++ st) ∷ g)
+
+-- goal(p): the image's, a clause's guard, or a committed body
+pub data Works (pr : Program) (z : Spot) : Goal → Type 0 where
+  in-goal : z .kind ≡ 0 → Works pr z (pr .goal)
+  in-guard : z .kind ≡ 1 → Works pr z (clauseAt pr (z .clause) .guard)
+  in-body : {g : Goal} → z .kind ≡ 2 → Committed pr (clauseAt pr (z .clause)) g → Works pr z g
+
+-- the stage and the literal that z names there
+pub record AtStage (pr : Program) (z : Spot) (st : List Literal) : Type 0 where
+  pub goal : Goal
+  pub works : Works pr z goal
+  pub stage : getD goal (z .stage) [] ≡ st
+
+pub record AtLiteral (pr : Program) (z : Spot) (l : Literal) : Type 0 where
+  pub goal : List Literal
+  pub stage : AtStage pr z goal
+  pub literal : getD goal (z .literal) noLiteral ≡ l
+
+-- ---- values and unifiers
+
+-- where the bindings lead from a term
+pub data Leads (vs : List Binding) : Term → Term → Type 0 where
+  a-constant : {c : ℕ} → Leads vs (Const c) (Const c)
+  unbound : {v : ℕ} → bindingOf vs v ≡ Free → Leads vs (Var v) (Var v)
+  onward : {v : ℕ} {t u : Term} → bindingOf vs v ≡ Bound t → Leads vs t u → Leads vs (Var v) u
+
+-- what unifying two values binds
+pub data Meets : Term → Term → List Change → Type 0 where
+  same-constant : {c : ℕ} → Meets (Const c) (Const c) []
+  same-variable : {v : ℕ} → Meets (Var v) (Var v) []
+  to-left : {c v : ℕ} → Meets (Const c) (Var v) (change v (Const c) ∷ [])
+  to-right : {c v : ℕ} → Meets (Var v) (Const c) (change v (Const c) ∷ [])
+  higher-left : {v w : ℕ} → w < v → Meets (Var v) (Var w) (change v (Var w) ∷ [])
+  higher-right : {v w : ℕ} → v < w → Meets (Var v) (Var w) (change w (Var v) ∷ [])
+
+-- two different constants
+pub data Clashes : Term → Term → Type 0 where
+  different : {a b : ℕ} → a ≢ b → Clashes (Const a) (Const b)
+
+-- unify the pairs from left to right, each by value; what is bound, in order
+pub data Unifies : List Binding → List Pair → List Change → Type 0 where
+  all-done : {vs : List Binding} → Unifies vs [] []
+  one-done : {vs : List Binding} {e : Pair} {es : List Pair} {a b : Term} {bs cs : List Change}
+    → Leads vs (e .left) a → Leads vs (e .right) b → Meets a b bs → Unifies (changed vs bs) es cs → Unifies vs (e ∷ es) (bs ++ cs)
+
+-- two different constants meet on the way
+pub data Fails : List Binding → List Pair → Type 0 where
+  fails-here : {vs : List Binding} {e : Pair} {es : List Pair} {a b : Term} → Leads vs (e .left) a → Leads vs (e .right) b → Clashes a b → Fails vs (e ∷ es)
+  fails-later : {vs : List Binding} {e : Pair} {es : List Pair} {a b : Term} {bs : List Change}
+    → Leads vs (e .left) a → Leads vs (e .right) b → Meets a b bs → Fails (changed vs bs) es → Fails vs (e ∷ es)
+
+-- the call's arguments with the head's, output arguments of the head replaced by their new variables
+pub data Matches (base first : ℕ) : List ℕ → List Term → List Term → ℕ → List Pair → Type 0 where
+  no-mode : {xs ts : List Term} {out : ℕ} → Matches base first [] xs ts out []
+  no-call : {m : ℕ} {ms : List ℕ} {ts : List Term} {out : ℕ} → Matches base first (m ∷ ms) [] ts out []
+  no-head : {m : ℕ} {ms : List ℕ} {a : Term} {xs : List Term} {out : ℕ} → Matches base first (m ∷ ms) (a ∷ xs) [] out []
+  input : {m : ℕ} {ms : List ℕ} {a t : Term} {xs ts : List Term} {out : ℕ} {es : List Pair} → m ≡ 0 → Matches base first ms xs ts out es
+    → Matches base first (m ∷ ms) (a ∷ xs) (t ∷ ts) out (record { left = shift base a; right = shift first t } ∷ es)
+  output : {m : ℕ} {ms : List ℕ} {a t : Term} {xs ts : List Term} {out : ℕ} {es : List Pair} → m ≢ 0 → Matches base first ms xs ts (out + 1) es
+    → Matches base first (m ∷ ms) (a ∷ xs) (t ∷ ts) out (record { left = shift base a; right = Var (first + out) } ∷ es)
+
+-- in_var: v is the value of an input argument of the call
+pub data InputValue (vs : List Binding) (base v : ℕ) : List ℕ → List Term → Type 0 where
+  this-one : {m : ℕ} {ms : List ℕ} {a : Term} {xs : List Term} → m ≡ 0 → Leads vs (shift base a) (Var v) → InputValue vs base v (m ∷ ms) (a ∷ xs)
+  a-later : {m : ℕ} {ms : List ℕ} {a : Term} {xs : List Term} → InputValue vs base v ms xs → InputValue vs base v (m ∷ ms) (a ∷ xs)
+
+-- numbered below the first variable of the nearest enclosing try-clause, for a process below a guard-eval
+pub record Older (s : State) (p v : ℕ) : Type 0 where
+  pub under : UnderGuard s p
+  pub try : ℕ
+  pub nearest : Nearest s p try
+  pub older : v < me s try .spot .first
+
+-- susp_var: of the variables bound, those that must not be, in the order bound
+pub data Notes (Held : ℕ → Type 0) : List Change → List ℕ → Type 0 where
+  none-left : Notes Held [] []
+  a-note : {c : Change} {cs : List Change} {ns : List ℕ} → Held (c .var) → Notes Held cs ns → Notes Held (c ∷ cs) (c .var ∷ ns)
+  no-note : {c : Change} {cs : List Change} {ns : List ℕ} → (Held (c .var) → ⊥) → Notes Held cs ns → Notes Held (c ∷ cs) ns
+
+-- ---- what a move does to the tables: the mover's new record, who falls asleep, the new processes, the bindings, the new variables
+
+pub record After (s : State) (p : ℕ) (self : Process) (Sleeps : ℕ → Type 0) (new : List Process) (cs : List Change) (fresh : ℕ) (s′ : State) : Type 0 where
+  pub count : length (s′ .procs) ≡ length (s .procs) + length new
+  pub mover : me s′ p ≡ self
+  pub slept : (i : ℕ) → i < length (s .procs) → i ≢ p → Sleeps i → me s′ i ≡ withMode dormant (me s i)
+  pub kept : (i : ℕ) → i < length (s .procs) → i ≢ p → (Sleeps i → ⊥) → me s′ i ≡ me s i
+  pub created : (j : ℕ) → j < length new → me s′ (length (s .procs) + j) ≡ at new j
+  pub bindings : s′ .vars ≡ changed (s .vars ++ replicate fresh Free) cs
+
+abbrev pub Nobody : ℕ → Type 0
+Nobody i = ⊥
+
+abbrev pub Just : ℕ → ℕ → Type 0
+Just c i = i ≡ c
+
+-- the mover alone changes
+abbrev pub Becomes : State → ℕ → Process → State → Type 0
+Becomes s p self s′ = After s p self Nobody [] [] 0 s′
+
+-- report from the subtree: reporting with a result, everything below dormant
+abbrev pub ReportsWith : State → ℕ → Result → Process → List Change → State → Type 0
+ReportsWith s p r x cs s′ = After s p (withResult r x) (Below s p) [] cs 0 s′
+
+abbrev pub Ends : State → ℕ → Result → State → Type 0
+Ends s p r s′ = ReportsWith s p r (me s p) [] s′
+
+-- create one child
+abbrev pub Creates : State → ℕ → Process → (ℕ → Type 0) → Process → State → Type 0
+Creates s p self Sleeps y s′ = After s p self Sleeps (y ∷ []) [] 0 s′
+
+-- the first process made, else the process itself
+pub data FirstMade (s : State) (p : ℕ) : List Process → ℕ → Type 0 where
+  itself : FirstMade s p [] p
+  a-new-one : {y : Process} {ys : List Process} → FirstMade s p (y ∷ ys) (length (s .procs))
+
+-- a child per literal, in order
+pub record PerLiteral (p : ℕ) (z : Spot) (st : List Literal) (new : List Process) : Type 0 where
+  pub count : length new ≡ length st
+  pub child : (j : ℕ) → j < length st → at new j ≡ newProcess (tagOfLiteral (getD st j noLiteral)) ready p (literalSpot z j)
+
+-- a try-clause per clause, in order, each with its new variables numbered on from v; n are made in all
+pub data Trials (pr : Program) (p : ℕ) (z : Spot) : ℕ → List ℕ → List Process → ℕ → Type 0 where
+  no-trial : {v : ℕ} → Trials pr p z v [] [] 0
+  a-trial : {v k n : ℕ} {ks : List ℕ} {ys : List Process} → Trials pr p z (v + varsOf pr k) ks ys n
+    → Trials pr p z v (k ∷ ks) (newProcess try-clause ready p (trySpot z k v) ∷ ys) (varsOf pr k + n)
