@@ -1,0 +1,11 @@
+-- Laws of the definitions, and the theorems over them.
+pub mod Bools
+pub mod Scans
+pub mod Coded
+pub mod Kin
+pub mod Effects
+pub mod Placed
+pub mod Values
+pub mod Unified
+pub mod Decided
+pub mod Good
