@@ -65,15 +65,16 @@ module _ (s : State) (p : ℕ) (d : Delta) where
       slept = λ i h q z. apply-other i h q ∙ rw (slept-by i h z);
       kept = λ i h q n. apply-other i h q ∙ rw (kept-by i h q n);
       created = λ j h. apply-new j;
-      bindings = refl }
+      bindings = refl;
+    }
 
     module _ (s′ : State) (r : After s p (d .me) Sleeps (d .new) (d .changes) (d .fresh) s′) where
       same-old : (i : ℕ) → i < length (s .procs) → me s′ i ≡ me (apply s p d) i
       same-old i h = split (eqb i p)
           (λ e. let z : i ≡ p = eqb-true i p e in rw z (r .mover ∙ sym (apply-mover low)))
           (λ e. let q : i ≢ p = eqb-false i p e in split (sleepsIn s p d i)
-              (λ w. r .slept i h q (a .sleeps i h w) ∙ sym (apply-other i h q ∙ rw w))
-              (λ w. r .kept i h q (a .stays i h w) ∙ sym (apply-other i h q ∙ rw w)))
+          (λ w. r .slept i h q (a .sleeps i h w) ∙ sym (apply-other i h q ∙ rw w))
+          (λ w. r .kept i h q (a .stays i h w) ∙ sym (apply-other i h q ∙ rw w)))
 
       same-new : (i : ℕ) → length (s .procs) ≤ i → i < length (s′ .procs) → me s′ i ≡ me (apply s p d) i
       same-new i h l =

@@ -91,4 +91,5 @@ module _ (lim : Limits) (pr : Program) (s : State) (ok : stateOk lim pr s ≡ tr
     kinds = by-row (λ x. x .spot .kind < 3) (omega arith) (λ i h. known-parts (me s i) (row-known i h) .2);
     kin = record { lower = λ i h o. kin-lower i o (me s i) (row-kin i h) .0 };
     makes = λ {p} {c} d. rw (← d .parent) (kin-lower c (d .other) (me s c) (row-kin c (d .there)) .1);
-    falls = falling }
+    falls = falling;
+  }

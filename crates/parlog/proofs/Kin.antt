@@ -67,6 +67,7 @@ module _ (s : State) (p : ℕ) where
       on d l true b qa qb w = let z : d ≡ c = cc in rw (← z) (record { latest = l; reports = reports-at s d success qa })
       on d l false true qa qb w = let z : _≡_ {A = ℕ} 0 1 = cc in absurd (omega arith)
       on d l false false qa qb w = let z : _≡_ {A = ℕ} 0 1 = cc in absurd (omega arith)
+
       go : (f : Found) → latest (s .procs) p ≡ f → heardFrom (s .procs) f ≡ good c → Hears s p c success
       go Nothing q w = let z : _≡_ {A = ℕ} 0 1 = cc in absurd (omega arith)
       go (At d) q w = on d (latest-at d q) (reports success (me s d)) (reports failure (me s d)) refl refl w
@@ -79,6 +80,7 @@ module _ (s : State) (p : ℕ) where
       on d l true b qa qb w = let z : _≡_ {A = ℕ} 0 1 = cc in absurd (omega arith)
       on d l false true qa qb w = let z : d ≡ c = cc in rw (← z) (record { latest = l; reports = reports-at s d failure qb })
       on d l false false qa qb w = let z : _≡_ {A = ℕ} 0 1 = cc in absurd (omega arith)
+
       go : (f : Found) → latest (s .procs) p ≡ f → heardFrom (s .procs) f ≡ bad c → Hears s p c failure
       go Nothing q w = let z : _≡_ {A = ℕ} 0 1 = cc in absurd (omega arith)
       go (At d) q w = on d (latest-at d q) (reports success (me s d)) (reports failure (me s d)) refl refl w
@@ -125,6 +127,10 @@ module _ (s : State) (p : ℕ) where
   pub all-not-any : AllReport s p success → anyChild failure (s .procs) p ≡ false
   all-not-any q = not-so (anyChild failure (s .procs) p) (λ e. let a = any-at failure e in not-both s (a .which) (q (a .which) (a .child)) (a .reports))
 
+  -- all fail: none succeeds
+  pub all-fail : AllReport s p failure → SomeReports s p success → ⊥
+  all-fail q a = not-both s (a .which) (a .reports) (q (a .which) (a .child))
+
   pub lowest-child-at : (r : Result) (c : ℕ) → lowestChild r (s .procs) p ≡ At c → LowestReports s p c r
   unfolding lowestChild childReports
   lowest-child-at r c e =
@@ -133,7 +139,8 @@ module _ (s : State) (p : ℕ) where
       record {
         child = child-at s p c (q .there) (a .0);
         reports = reports-at s c r (a .1);
-        none-lower = λ i d w. q .least i (d .there) (true-and (isChild (s .procs) p i) (reports r (me s i)) (child-test s p d) (reports-test s i r w)) }
+        none-lower = λ i d w. q .least i (d .there) (true-and (isChild (s .procs) p i) (reports r (me s i)) (child-test s p d) (reports-test s i r w));
+      }
 
   pub lowest-child-is : (r : Result) {c : ℕ} → LowestReports s p c r → lowestChild r (s .procs) p ≡ At c
   unfolding lowestChild childReports
@@ -142,7 +149,8 @@ module _ (s : State) (p : ℕ) where
       (record {
         there = q .child .there;
         passes = true-and (isChild (s .procs) p c) (reports r (me s c)) (child-test s p (q .child)) (reports-test s c r (q .reports));
-        least = λ i h e. let a = and-true (isChild (s .procs) p i) (reports r (me s i)) e in q .none-lower i (child-at s p i h (a .0)) (reports-at s i r (a .1)) })
+        least = λ i h e. let a = and-true (isChild (s .procs) p i) (reports r (me s i)) e in q .none-lower i (child-at s p i h (a .0)) (reports-at s i r (a .1));
+      })
 
   pub lowest-child-none : (r : Result) → lowestChild r (s .procs) p ≡ Nothing → SomeReports s p r → ⊥
   unfolding lowestChild childReports
@@ -155,7 +163,7 @@ module _ (s : State) (p : ℕ) where
   no-lowest-child r n =
       lowest-nothing (childReports r (s .procs) p) (length (s .procs))
       (λ i h. not-so (childReports r (s .procs) p i) (λ e.
-          let a = and-true (isChild (s .procs) p i) (reports r (me s i)) e in n (record { which = i; child = child-at s p i h (a .0); reports = reports-at s i r (a .1) })))
+      let a = and-true (isChild (s .procs) p i) (reports r (me s i)) e in n (record { which = i; child = child-at s p i h (a .0); reports = reports-at s i r (a .1) })))
 
   -- ---- below
 
@@ -191,7 +199,7 @@ module _ (s : State) (p : ℕ) where
 
 module _ (s : State) (k : Kin s) where
   near-from : (n i c : ℕ) → i < length (s .procs) → i ≢ 0 → (b : Bool) → isTag try-clause (me s (me s i .parent) .tag) ≡ b
-    → (tryAbove n (s .procs) (me s i .parent) ≡ At c → Nearest s (me s i .parent) c) → cond b (At (me s i .parent)) (tryAbove n (s .procs) (me s i .parent)) ≡ At c → Nearest s i c
+      → (tryAbove n (s .procs) (me s i .parent) ≡ At c → Nearest s (me s i .parent) c) → cond b (At (me s i .parent)) (tryAbove n (s .procs) (me s i .parent)) ≡ At c → Nearest s i c
   near-from n i c h o true q back e =
       let z : me s i .parent ≡ c = cc in
       rw (← z) (is-parent (record { there = h; other = o; parent = refl }) (eqb-true (me s (me s i .parent) .tag) (tagCode try-clause) q))
@@ -206,7 +214,7 @@ module _ (s : State) (k : Kin s) where
   near-by (suc n) i c h e = split (eqb i 0)
       (λ q. nothing-at (rw q at e))
       (λ q. let o : i ≢ 0 = eqb-false i 0 q in
-          near-from n i c h o (isTag try-clause (me s (me s i .parent) .tag)) refl (near-by n (me s i .parent) c (omega (arith, k .lower i h o))) (rw q at e))
+      near-from n i c h o (isTag try-clause (me s (me s i .parent) .tag)) refl (near-by n (me s i .parent) c (omega (arith, k .lower i h o))) (rw q at e))
 
   pub nearest-at : (i c : ℕ) → i < length (s .procs) → enclosing (s .procs) i ≡ At c → Nearest s i c
   unfolding enclosing

@@ -9,3 +9,7 @@ pub mod Values
 pub mod Unified
 pub mod Decided
 pub mod Good
+pub mod Held
+pub mod Says
+pub mod Computes
+pub mod Exact

@@ -24,7 +24,7 @@ use Rattle.parlog.specs.declared.Term.{Term}
 -- ---- the committed body
 
 outputs-by : (m : ℕ) (ms : List ℕ) (t : Term) (ts : List Term) (v : ℕ) (b : Bool) → isInput m ≡ b → Outputs ms ts v (outputs ms ts v) → Outputs ms ts (suc v) (outputs ms ts (suc v))
-  → Outputs (m ∷ ms) (t ∷ ts) v (cond b (outputs ms ts v) (equation t v ∷ outputs ms ts (suc v)))
+    → Outputs (m ∷ ms) (t ∷ ts) v (cond b (outputs ms ts v) (equation t v ∷ outputs ms ts (suc v)))
 outputs-by m ms t ts v true e a o = skip-input (eqb-true m 0 e) a
 outputs-by m ms t ts v false e a o = an-output (eqb-false m 0 e) o
 

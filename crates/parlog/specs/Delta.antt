@@ -120,4 +120,5 @@ rowAfter ps p d i = cond (eqb i p) (d .me) (asleep ((d .cut && below ps p i) || 
 unfoldable pub apply : State → ℕ → Delta → State
 apply s p d = record {
   procs = build (rowAfter (s .procs) p d) (length (s .procs)) ++ d .new;
-  vars = changed (s .vars ++ replicate (d .fresh) Free) (d .changes) }
+  vars = changed (s .vars ++ replicate (d .fresh) Free) (d .changes);
+}

@@ -98,7 +98,7 @@ pub data Outputs : List ℕ → List Term → ℕ → List Literal → Type 0 wh
   no-term : {m : ℕ} {ms : List ℕ} {v : ℕ} → Outputs (m ∷ ms) [] v []
   skip-input : {m : ℕ} {ms : List ℕ} {t : Term} {ts : List Term} {v : ℕ} {es : List Literal} → m ≡ 0 → Outputs ms ts v es → Outputs (m ∷ ms) (t ∷ ts) v es
   an-output : {m : ℕ} {ms : List ℕ} {t : Term} {ts : List Term} {v : ℕ} {es : List Literal} → m ≢ 0 → Outputs ms ts (suc v) es
-    → Outputs (m ∷ ms) (t ∷ ts) v (record { rel = 255; args = t ∷ Var v ∷ [] } ∷ es)
+      → Outputs (m ∷ ms) (t ∷ ts) v (record { rel = 255; args = t ∷ Var v ∷ [] } ∷ es)
 
 abbrev pub OutputsOf : Program → Clause → List Literal → Type 0
 OutputsOf pr c es = Outputs (modesAt pr (c .rel)) (c .head) (c .vars) es
@@ -151,13 +151,13 @@ pub data Clashes : Term → Term → Type 0 where
 pub data Unifies : List Binding → List Pair → List Change → Type 0 where
   all-done : {vs : List Binding} → Unifies vs [] []
   one-done : {vs : List Binding} {e : Pair} {es : List Pair} {a b : Term} {bs cs : List Change}
-    → Leads vs (e .left) a → Leads vs (e .right) b → Meets a b bs → Unifies (changed vs bs) es cs → Unifies vs (e ∷ es) (bs ++ cs)
+      → Leads vs (e .left) a → Leads vs (e .right) b → Meets a b bs → Unifies (changed vs bs) es cs → Unifies vs (e ∷ es) (bs ++ cs)
 
 -- two different constants meet on the way
 pub data Fails : List Binding → List Pair → Type 0 where
   fails-here : {vs : List Binding} {e : Pair} {es : List Pair} {a b : Term} → Leads vs (e .left) a → Leads vs (e .right) b → Clashes a b → Fails vs (e ∷ es)
   fails-later : {vs : List Binding} {e : Pair} {es : List Pair} {a b : Term} {bs : List Change}
-    → Leads vs (e .left) a → Leads vs (e .right) b → Meets a b bs → Fails (changed vs bs) es → Fails vs (e ∷ es)
+      → Leads vs (e .left) a → Leads vs (e .right) b → Meets a b bs → Fails (changed vs bs) es → Fails vs (e ∷ es)
 
 -- the call's arguments with the head's, output arguments of the head replaced by their new variables
 pub data Matches (base first : ℕ) : List ℕ → List Term → List Term → ℕ → List Pair → Type 0 where
@@ -165,9 +165,9 @@ pub data Matches (base first : ℕ) : List ℕ → List Term → List Term → �
   no-call : {m : ℕ} {ms : List ℕ} {ts : List Term} {out : ℕ} → Matches base first (m ∷ ms) [] ts out []
   no-head : {m : ℕ} {ms : List ℕ} {a : Term} {xs : List Term} {out : ℕ} → Matches base first (m ∷ ms) (a ∷ xs) [] out []
   input : {m : ℕ} {ms : List ℕ} {a t : Term} {xs ts : List Term} {out : ℕ} {es : List Pair} → m ≡ 0 → Matches base first ms xs ts out es
-    → Matches base first (m ∷ ms) (a ∷ xs) (t ∷ ts) out (record { left = shift base a; right = shift first t } ∷ es)
+      → Matches base first (m ∷ ms) (a ∷ xs) (t ∷ ts) out (record { left = shift base a; right = shift first t } ∷ es)
   output : {m : ℕ} {ms : List ℕ} {a t : Term} {xs ts : List Term} {out : ℕ} {es : List Pair} → m ≢ 0 → Matches base first ms xs ts (out + 1) es
-    → Matches base first (m ∷ ms) (a ∷ xs) (t ∷ ts) out (record { left = shift base a; right = Var (first + out) } ∷ es)
+      → Matches base first (m ∷ ms) (a ∷ xs) (t ∷ ts) out (record { left = shift base a; right = Var (first + out) } ∷ es)
 
 -- in_var: v is the value of an input argument of the call
 pub data InputValue (vs : List Binding) (base v : ℕ) : List ℕ → List Term → Type 0 where
@@ -232,4 +232,4 @@ pub record PerLiteral (p : ℕ) (z : Spot) (st : List Literal) (new : List Proce
 pub data Trials (pr : Program) (p : ℕ) (z : Spot) : ℕ → List ℕ → List Process → ℕ → Type 0 where
   no-trial : {v : ℕ} → Trials pr p z v [] [] 0
   a-trial : {v k n : ℕ} {ks : List ℕ} {ys : List Process} → Trials pr p z (v + varsOf pr k) ks ys n
-    → Trials pr p z v (k ∷ ks) (newProcess try-clause ready p (trySpot z k v) ∷ ys) (varsOf pr k + n)
+      → Trials pr p z v (k ∷ ks) (newProcess try-clause ready p (trySpot z k v) ∷ ys) (varsOf pr k + n)

@@ -57,7 +57,8 @@ clauseOf s at = record {
   vars = byteAt s (at + 7);
   head = listOf (termAt s) termEnd (byteAt s (at + 5)) (at + 8);
   guard = goalOf s (guardAt s at);
-  body = goalOf s (bodyAt s at) }
+  body = goalOf s (bodyAt s at);
+}
 
 -- The image, kinds: r relations, then c clauses, then the goal
 unfoldable pub programOf : List ℕ → ℕ → ℕ → Program
@@ -65,7 +66,8 @@ programOf s r c = record {
   relations = listOf (modesOf s) (recordEnd s) r 0;
   clauses = listOf (clauseOf s) (recordEnd s) c (recordAt s r);
   goalVars = byteAt s (recordAt s (r + c) + 4);
-  goal = goalOf s (recordAt s (r + c) + 5) }
+  goal = goalOf s (recordAt s (r + c) + 5);
+}
 
 -- ---- read by number; past the end a clause of no relation, and an equality of nothing
 

@@ -53,73 +53,64 @@ WithClauseOf s c p = withSpot reporting (withClause (spotOf s c .found) (spotOf 
 pub data Rule (pr : Program) (s : State) (p : ℕ) : Move → State → Type 0 where
   ready-rule : {s′ : State} → HasMode s p ready → Becomes s p (withMode starting (me s p)) s′ → Rule pr s p (Ready p) s′
   wake-rule : {s′ : State} {t : Term} (k : ℕ) → HasMode s p suspended → k < length (noted (me s p)) → bindingOf (s .vars) (getD (noted (me s p)) k 0) ≡ Bound t
-    → Becomes s p (woken (me s p)) s′ → Rule pr s p (Wake p) s′
-  stop-rule : {s′ : State} → HasMode s p reporting → p ≡ 0 → Becomes s p (withMode dormant (me s p)) s′ → Rule pr s p (Stop p) s′
-
+      → Becomes s p (woken (me s p)) s′ → Rule pr s p (Wake p) s′
+  stop-rule : {s′ : State} → HasMode s p reporting → p ≡ 0 → Becomes s p (withMode dormant (me s p)) s′ → Rule pr s p (Stop 0) s′
   and-par-start : {s′ : State} {st : List Literal} {new : List Process} {q : ℕ} → Is s p and-par starting → AtStage pr (spotOf s p) st
-    → PerLiteral p (spotOf s p) st new → FirstMade s p new q → After s p (withMode waiting (me s p)) Nobody new [] 0 s′ → Rule pr s p (AndParStart q) s′
+      → PerLiteral p (spotOf s p) st new → FirstMade s p new q → After s p (withMode waiting (me s p)) Nobody new [] 0 s′ → Rule pr s p (AndParStart q) s′
   and-par-success : {s′ : State} → Is s p and-par waiting → AllReport s p success → Ends s p success s′ → Rule pr s p (AndParSuccess p) s′
   and-par-failure : {s′ : State} → Is s p and-par waiting → SomeReports s p failure → Ends s p failure s′ → Rule pr s p (AndParFailure p) s′
-
   and-seq-start : {s′ : State} {g : Goal} {st : List Literal} → Is s p and-seq starting → Works pr (spotOf s p) g → spotOf s p .stage < length g → getD g (spotOf s p .stage) [] ≡ st
-    → Creates s p (withMode waiting (me s p)) Nobody (newProcess (tagOfStage st) starting p (literalSpot (spotOf s p) 0)) s′ → Rule pr s p (AndSeqStart (length (s .procs))) s′
+      → Creates s p (withMode waiting (me s p)) Nobody (newProcess (tagOfStage st) starting p (literalSpot (spotOf s p) 0)) s′ → Rule pr s p (AndSeqStart (length (s .procs))) s′
   and-seq-next : {s′ : State} {c : ℕ} → Is s p and-seq waiting → Hears s p c success
-    → After s p (withSpot starting (atStage (suc (spotOf s p .stage)) (spotOf s p)) (me s p)) (Just c) [] [] 0 s′ → Rule pr s p (AndSeqNext p) s′
+      → After s p (withSpot starting (atStage (suc (spotOf s p .stage)) (spotOf s p)) (me s p)) (Just c) [] [] 0 s′ → Rule pr s p (AndSeqNext p) s′
   and-seq-success : {s′ : State} {g : Goal} → Is s p and-seq starting → Works pr (spotOf s p) g → length g ≤ spotOf s p .stage → Ends s p success s′ → Rule pr s p (AndSeqSuccess p) s′
   and-seq-failure : {s′ : State} {c : ℕ} → Is s p and-seq waiting → Hears s p c failure → Ends s p failure s′ → Rule pr s p (AndSeqFailure p) s′
-
   or-par-start : {s′ : State} → Is s p or-par starting → Creates s p (withMode waiting (me s p)) Nobody (newProcess seq-search starting p (callSpot (spotOf s p))) s′
-    → Rule pr s p (OrParStart (length (s .procs))) s′
+      → Rule pr s p (OrParStart (length (s .procs))) s′
   or-par-spawn : {s′ : State} {c : ℕ} {g : Goal} → Is s p or-par waiting → Hears s p c success → HasTag s c seq-search → Committed pr (clauseAt pr (spotOf s c .found)) g
-    → Creates s p (me s p) (Just c) (newProcess (tagOfGoal g) starting p (goalSpot the-body (spotOf s c .found) (spotOf s c .first))) s′ → Rule pr s p (OrParSpawn (length (s .procs))) s′
+      → Creates s p (me s p) (Just c) (newProcess (tagOfGoal g) starting p (goalSpot the-body (spotOf s c .found) (spotOf s c .first))) s′ → Rule pr s p (OrParSpawn (length (s .procs))) s′
   or-par-success : {s′ : State} {c : ℕ} → Is s p or-par waiting → Hears s p c success → (HasTag s c seq-search → ⊥) → Ends s p success s′ → Rule pr s p (OrParSuccess p) s′
   or-par-failure : {s′ : State} {c : ℕ} → Is s p or-par waiting → Hears s p c failure → Ends s p failure s′ → Rule pr s p (OrParFailure p) s′
-
   seq-search-none : {s′ : State} {r : ℕ} → Is s p seq-search starting → Called pr s p r → blockCount pr r ≡ 0 → Ends s p failure s′ → Rule pr s p (SeqSearchNone p) s′
   seq-search-start : {s′ : State} {r : ℕ} → Is s p seq-search starting → Called pr s p r → 0 < blockCount pr r
-    → Creates s p (withSpot waiting (atBlock 0 (spotOf s p)) (me s p)) Nobody (newProcess or-search starting p (blockSpot (spotOf s p) 0)) s′ → Rule pr s p (SeqSearchStart (length (s .procs))) s′
+      → Creates s p (withSpot waiting (atBlock 0 (spotOf s p)) (me s p)) Nobody (newProcess or-search starting p (blockSpot (spotOf s p) 0)) s′ → Rule pr s p (SeqSearchStart (length (s .procs))) s′
   seq-search-next : {s′ : State} {r c : ℕ} → Is s p seq-search waiting → Hears s p c failure → Called pr s p r → suc (spotOf s p .block) < blockCount pr r
-    → Creates s p (withSpot waiting (atBlock (suc (spotOf s p .block)) (spotOf s p)) (me s p)) (Just c) (newProcess or-search starting p (blockSpot (spotOf s p) (suc (spotOf s p .block)))) s′
-    → Rule pr s p (SeqSearchNext (length (s .procs))) s′
+      → Creates s p (withSpot waiting (atBlock (suc (spotOf s p .block)) (spotOf s p)) (me s p)) (Just c) (newProcess or-search starting p (blockSpot (spotOf s p) (suc (spotOf s p .block)))) s′
+      → Rule pr s p (SeqSearchNext (length (s .procs))) s′
   seq-search-success : {s′ : State} {c : ℕ} → Is s p seq-search waiting → Hears s p c success → ReportsWith s p success (WithClauseOf s c p) [] s′ → Rule pr s p (SeqSearchSuccess p) s′
   seq-search-failure : {s′ : State} {r c : ℕ} → Is s p seq-search waiting → Hears s p c failure → Called pr s p r → blockCount pr r ≤ suc (spotOf s p .block)
-    → Ends s p failure s′ → Rule pr s p (SeqSearchFailure p) s′
-
+      → Ends s p failure s′ → Rule pr s p (SeqSearchFailure p) s′
   or-search-start : {s′ : State} {r n q : ℕ} {new : List Process} → Is s p or-search starting → Called pr s p r
-    → Trials pr p (spotOf s p) (length (s .vars)) (blockOf pr r (spotOf s p .block)) new n → FirstMade s p new q
-    → After s p (withMode waiting (me s p)) Nobody new [] n s′ → Rule pr s p (OrSearchStart q) s′
+      → Trials pr p (spotOf s p) (length (s .vars)) (blockOf pr r (spotOf s p .block)) new n → FirstMade s p new q
+      → After s p (withMode waiting (me s p)) Nobody new [] n s′ → Rule pr s p (OrSearchStart q) s′
   or-search-commit : {s′ : State} {c : ℕ} → Is s p or-search waiting → LowestReports s p c success → ReportsWith s p success (WithClauseOf s c p) [] s′ → Rule pr s p (OrSearchCommit p) s′
-  or-search-failure : {s′ : State} → Is s p or-search waiting → (SomeReports s p success → ⊥) → AllReport s p failure → Ends s p failure s′ → Rule pr s p (OrSearchFailure p) s′
-
+  or-search-failure : {s′ : State} → Is s p or-search waiting → AllReport s p failure → Ends s p failure s′ → Rule pr s p (OrSearchFailure p) s′
   try-clause-start : {s′ : State} → Is s p try-clause starting
-    → After s p (withMode waiting (me s p)) Nobody
+      → After s p (withMode waiting (me s p)) Nobody
       (newProcess input-match ready p (trySpot (spotOf s p) (spotOf s p .found) (spotOf s p .first)) ∷ newProcess guard-eval ready p (guardSpot (spotOf s p .found) (spotOf s p .first)) ∷ []) [] 0 s′
-    → Rule pr s p (TryClauseStart (length (s .procs))) s′
+      → Rule pr s p (TryClauseStart (length (s .procs))) s′
   try-clause-success : {s′ : State} → Is s p try-clause waiting → AllReport s p success → Ends s p success s′ → Rule pr s p (TryClauseSuccess p) s′
   try-clause-failure : {s′ : State} → Is s p try-clause waiting → SomeReports s p failure → Ends s p failure s′ → Rule pr s p (TryClauseFailure p) s′
-
   input-match-bind : {s′ : State} {call : Literal} {es : List Pair} {c : Change} {cs : List Change} → Is s p input-match starting → Matching pr s p call es
-    → Unifies (s .vars) es (c ∷ cs) → Notes (InputOf pr s p call) (c ∷ cs) [] → ReportsWith s p success (me s p) (c ∷ cs) s′ → Rule pr s p (InputMatchBind (Var (c .var))) s′
+      → Unifies (s .vars) es (c ∷ cs) → Notes (InputOf pr s p call) (c ∷ cs) [] → ReportsWith s p success (me s p) (c ∷ cs) s′ → Rule pr s p (InputMatchBind (Var (c .var))) s′
   input-match-success : {s′ : State} {call : Literal} {es : List Pair} → Is s p input-match starting → Matching pr s p call es
-    → Unifies (s .vars) es [] → Ends s p success s′ → Rule pr s p (InputMatchSuccess p) s′
+      → Unifies (s .vars) es [] → Ends s p success s′ → Rule pr s p (InputMatchSuccess p) s′
   input-match-failure : {s′ : State} {call : Literal} {es : List Pair} → Is s p input-match starting → Matching pr s p call es
-    → Fails (s .vars) es → Ends s p failure s′ → Rule pr s p (InputMatchFailure p) s′
+      → Fails (s .vars) es → Ends s p failure s′ → Rule pr s p (InputMatchFailure p) s′
   input-match-suspend : {s′ : State} {call : Literal} {es : List Pair} {cs : List Change} {v : ℕ} {ns : List ℕ} → Is s p input-match starting → Matching pr s p call es
-    → Unifies (s .vars) es cs → Notes (InputOf pr s p call) cs (v ∷ ns) → Becomes s p (withNotes (v ∷ ns) (me s p)) s′ → Rule pr s p (InputMatchSuspend (Var v)) s′
-
+      → Unifies (s .vars) es cs → Notes (InputOf pr s p call) cs (v ∷ ns) → Becomes s p (withNotes (v ∷ ns) (me s p)) s′ → Rule pr s p (InputMatchSuspend (Var v)) s′
   guard-eval-empty : {s′ : State} → Is s p guard-eval starting → clauseAt pr (spotOf s p .found) .guard ≡ [] → Ends s p success s′ → Rule pr s p (GuardEvalEmpty p) s′
   guard-eval-start : {s′ : State} {st : List Literal} {g : Goal} → Is s p guard-eval starting → clauseAt pr (spotOf s p .found) .guard ≡ st ∷ g
-    → Creates s p (withMode waiting (me s p)) Nobody (newProcess (tagOfGoal (st ∷ g)) starting p (goalSpot the-guard (spotOf s p .found) (spotOf s p .first))) s′
-    → Rule pr s p (GuardEvalStart (length (s .procs))) s′
+      → Creates s p (withMode waiting (me s p)) Nobody (newProcess (tagOfGoal (st ∷ g)) starting p (goalSpot the-guard (spotOf s p .found) (spotOf s p .first))) s′
+      → Rule pr s p (GuardEvalStart (length (s .procs))) s′
   guard-eval-success : {s′ : State} {c : ℕ} → Is s p guard-eval waiting → Hears s p c success → Ends s p success s′ → Rule pr s p (GuardEvalSuccess p) s′
   guard-eval-failure : {s′ : State} {c : ℕ} → Is s p guard-eval waiting → Hears s p c failure → Ends s p failure s′ → Rule pr s p (GuardEvalFailure p) s′
-
   equate-bind : {s′ : State} {e : Pair} {c : Change} {cs : List Change} → Is s p equate starting → Equating pr s p e
-    → Unifies (s .vars) (e ∷ []) (c ∷ cs) → Notes (Older s p) (c ∷ cs) [] → ReportsWith s p success (me s p) (c ∷ cs) s′ → Rule pr s p (EquateBind (Var (c .var))) s′
+      → Unifies (s .vars) (e ∷ []) (c ∷ cs) → Notes (Older s p) (c ∷ cs) [] → ReportsWith s p success (me s p) (c ∷ cs) s′ → Rule pr s p (EquateBind (Var (c .var))) s′
   equate-success : {s′ : State} {e : Pair} → Is s p equate starting → Equating pr s p e → Unifies (s .vars) (e ∷ []) [] → Ends s p success s′ → Rule pr s p (EquateSuccess p) s′
   equate-failure : {s′ : State} {e : Pair} → Is s p equate starting → Equating pr s p e → Fails (s .vars) (e ∷ []) → Ends s p failure s′ → Rule pr s p (EquateFailure p) s′
   equate-suspend : {s′ : State} {e : Pair} {cs : List Change} {v : ℕ} {ns : List ℕ} → Is s p equate starting → Equating pr s p e
-    → Unifies (s .vars) (e ∷ []) cs → Notes (Older s p) cs (v ∷ ns) → Becomes s p (withNotes (v ∷ ns) (me s p)) s′ → Rule pr s p (EquateSuspend (Var v)) s′
+      → Unifies (s .vars) (e ∷ []) cs → Notes (Older s p) cs (v ∷ ns) → Becomes s p (withNotes (v ∷ ns) (me s p)) s′ → Rule pr s p (EquateSuspend (Var v)) s′
 
 -- a move with the tables after it fits where they are within the limits
 pub record Fits (lim : Limits) (s : State) : Type 0 where

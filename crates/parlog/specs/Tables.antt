@@ -65,7 +65,8 @@ spotAt l i = record {
   literal = getD l (i * 24 + 11) 0;
   block = getD l (i * 24 + 12) 0;
   found = getD l (i * 24 + 13) 0;
-  first = u16At l (i * 24 + 14) }
+  first = u16At l (i * 24 + 14);
+}
 
 unfoldable pub notesAt : List ℕ → ℕ → List ℕ
 notesAt l i = u16At l (i * 24 + 16) ∷ u16At l (i * 24 + 18) ∷ u16At l (i * 24 + 20) ∷ u16At l (i * 24 + 22) ∷ []
@@ -78,7 +79,8 @@ processAt l i = record {
   count = getD l (i * 24 + 3) 0;
   parent = u16At l (i * 24 + 4);
   spot = spotAt l i;
-  notes = notesAt l i }
+  notes = notesAt l i;
+}
 
 abbrev pub low : ℕ → ℕ
 low v = v % 256
@@ -171,7 +173,8 @@ unfoldable pub tablesIn : Lent → Tables
 tablesIn l = record {
   state = record { procs = procsOf (l .procs) (procCount (l .head)); vars = varsIn (l .vars) (varCount (l .head)) };
   last = markerLast (l .head);
-  steps = markerSteps (l .head) }
+  steps = markerSteps (l .head);
+}
 
 -- the bytes of rows in order
 unfoldable pub rowsBytes : {A : Type 0} → (A → List ℕ) → List A → List ℕ
@@ -187,7 +190,8 @@ unfoldable pub putTables : Lent → Tables → Lent
 putTables l t = record {
   head = headBytes (length (t .state .procs)) (length (t .state .vars)) (t .last) (t .steps);
   procs = written (rowsBytes processBytes (t .state .procs)) (l .procs);
-  vars = written (rowsBytes bindingBytes (t .state .vars)) (l .vars) }
+  vars = written (rowsBytes bindingBytes (t .state .vars)) (l .vars);
+}
 
 -- ---- A run's tables, 2: the start
 
