@@ -9,3 +9,4 @@ pub mod Values
 pub mod Unified
 pub mod Decided
 pub mod Good
+pub mod Rows
