@@ -13,3 +13,4 @@ pub mod Held
 pub mod Says
 pub mod Computes
 pub mod Exact
+pub mod Rows
