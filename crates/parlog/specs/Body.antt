@@ -7,43 +7,46 @@ use lib.Dec.{eqb, leb}
 use Rattle.parlog.specs.Image.{bodyAt, byteAt, goalEnd, guardAt, literalEnd, modeEnd, recordEnd, stageEnd}
 use Rattle.parlog.specs.Scan.{each, total}
 
--- kind 1: a mode is 0 or 1
+-- Image 3: a mode is one of two
 abbrev pub modeRange : List ℕ → ℕ → Bool
 modeRange s at = leb (byteAt s at) 1
 
+-- each of n modes is
 abbrev pub modesRange : List ℕ → ℕ → ℕ → Bool
 modesRange s n at = each (modeRange s) modeEnd n at
 
--- literals: an arity is 0 to 4
+-- Image 11: a literal has up to four terms
 abbrev pub literalRange : List ℕ → ℕ → Bool
 literalRange s at = leb (byteAt s (at + 1)) 4
 
+-- each of n literals has
 abbrev pub literalsRange : List ℕ → ℕ → ℕ → Bool
 literalsRange s n at = each (literalRange s) (literalEnd s) n at
 
--- goals: a stage has at least 1 literal
+-- Image 10: no stage is empty
 unfoldable pub stageRange : List ℕ → ℕ → Bool
 stageRange s at = leb 1 (byteAt s at) && literalsRange s (byteAt s at) (at + 1)
 
+-- each of n stages is right
 abbrev pub stagesRange : List ℕ → ℕ → ℕ → Bool
 stagesRange s n at = each (stageRange s) (stageEnd s) n at
 
--- the literals of n stages
+-- Image 10: the literals of n stages together
 abbrev pub literalCount : List ℕ → ℕ → ℕ → ℕ
 literalCount s n at = total (byteAt s) (stageEnd s) n at
 
--- goals: 0 to 8 stages, at most 8 literals in a goal
+-- Image 10: up to 8 stages, and up to 8 literals over all of them
 unfoldable pub goalRange : List ℕ → ℕ → Bool
 goalRange s at =
     leb (byteAt s at) 8 && (stagesRange s (byteAt s at) (at + 1) && leb (literalCount s (byteAt s at) (at + 1)) 8)
 
--- kind 1: arity 0 to 4, its modes, and the record's end
+-- Image 3: a relation's record
 unfoldable pub relationBody : List ℕ → ℕ → Bool
 relationBody s at =
     leb (byteAt s (at + 4)) 4
     && (modesRange s (byteAt s (at + 4)) (at + 5) && eqb (at + 5 + byteAt s (at + 4)) (recordEnd s at))
 
--- kind 2: arity 0 to 4, mark 0 or 1, 0 to 16 variables, guard, body, and the record's end
+-- Image 5: a clause's record
 unfoldable pub clauseBody : List ℕ → ℕ → Bool
 clauseBody s at =
     leb (byteAt s (at + 5)) 4
@@ -52,9 +55,10 @@ clauseBody s at =
     && (goalRange s (guardAt s at)
     && (goalRange s (bodyAt s at) && eqb (goalEnd s (bodyAt s at)) (recordEnd s at)))))
 
--- kind 3: 0 to 16 variables, goal, and the record's end
+-- Image 8: the goal's record
 unfoldable pub askBody : List ℕ → ℕ → Bool
 askBody s at = leb (byteAt s (at + 4)) 16 && (goalRange s (at + 5) && eqb (goalEnd s (at + 5)) (recordEnd s at))
 
+-- Refusals 4: the record of this kind has every number in its range, and its fields fill it
 unfoldable pub bodyRight : List ℕ → ℕ → ℕ → Bool
 bodyRight s at kind = cond (eqb kind 1) (relationBody s at) (cond (eqb kind 2) (clauseBody s at) (askBody s at))

@@ -3,24 +3,25 @@ use mathlib.Core.Bool.{Bool, not}
 use Prim.Native.Nat.{suc, zero, ℕ}
 use lib.Dec.{eqb}
 
--- Tags and modes, 1: the nine tags
+-- Tags 1: what a process is for; equality has a tag of its own
 pub data Tag : Type 0 where
   and-par and-seq or-par seq-search or-search try-clause input-match guard-eval equate : Tag
 
--- Tags and modes, 2: the six modes
+-- Tags 2: how far a process has come
 pub data Mode : Type 0 where
   dormant ready starting waiting reporting suspended : Mode
 
--- A run's tables, table rules: the results
+-- Tables 3: what a process has to tell
 pub data Result : Type 0 where
   none success failure : Result
 
--- A run's tables, table rules (places): a process works in the image's goal, in a clause's guard or in a committed body
+-- Tables 3: where a process finds its goal: in the image, in a clause's guard, or in a body committed to
 pub data Kind : Type 0 where
   the-goal the-guard the-body : Kind
 
 -- ---- the numbers in a row
 
+-- Tables 3: the number of each tag in a row
 abbrev pub tagCode : Tag → ℕ
 tagCode and-par = 0
 tagCode and-seq = 1
@@ -32,6 +33,7 @@ tagCode input-match = 6
 tagCode guard-eval = 7
 tagCode equate = 8
 
+-- Tables 3: the number of each mode in a row
 abbrev pub modeCode : Mode → ℕ
 modeCode dormant = 0
 modeCode ready = 1
@@ -40,11 +42,13 @@ modeCode waiting = 3
 modeCode reporting = 4
 modeCode suspended = 5
 
+-- Tables 3: the number of each result in a row
 abbrev pub resultCode : Result → ℕ
 resultCode none = 0
 resultCode success = 1
 resultCode failure = 2
 
+-- Tables 3: the number of each kind of goal in a row
 abbrev pub kindCode : Kind → ℕ
 kindCode the-goal = 0
 kindCode the-guard = 1
@@ -52,6 +56,7 @@ kindCode the-body = 2
 
 -- ---- and back; an unknown number, which the table rules refuse, reads as the last case
 
+-- the tag of a number
 unfoldable pub tagOf : ℕ → Tag
 tagOf zero = and-par
 tagOf (suc zero) = and-seq
@@ -63,6 +68,7 @@ tagOf (suc (suc (suc (suc (suc (suc zero)))))) = input-match
 tagOf (suc (suc (suc (suc (suc (suc (suc zero))))))) = guard-eval
 tagOf (suc (suc (suc (suc (suc (suc (suc (suc n)))))))) = equate
 
+-- the mode of a number
 unfoldable pub modeOf : ℕ → Mode
 modeOf zero = dormant
 modeOf (suc zero) = ready
@@ -71,11 +77,13 @@ modeOf (suc (suc (suc zero))) = waiting
 modeOf (suc (suc (suc (suc zero)))) = reporting
 modeOf (suc (suc (suc (suc (suc n))))) = suspended
 
+-- the result of a number
 unfoldable pub resultOf : ℕ → Result
 resultOf zero = none
 resultOf (suc zero) = success
 resultOf (suc (suc n)) = failure
 
+-- the kind of goal of a number
 unfoldable pub kindOf : ℕ → Kind
 kindOf zero = the-goal
 kindOf (suc zero) = the-guard
@@ -83,15 +91,18 @@ kindOf (suc (suc n)) = the-body
 
 -- ---- tests
 
+-- a number stands for this tag
 abbrev pub isTag : Tag → ℕ → Bool
 isTag t n = eqb n (tagCode t)
 
+-- a number stands for this mode
 abbrev pub isMode : Mode → ℕ → Bool
 isMode m n = eqb n (modeCode m)
 
--- Tags and modes, 3: live means not dormant
+-- Tags 3: every mode but one counts as live
 abbrev pub isLive : ℕ → Bool
 isLive n = not (isMode dormant n)
 
+-- a number stands for this result
 abbrev pub isResult : Result → ℕ → Bool
 isResult r n = eqb n (resultCode r)

@@ -19,35 +19,41 @@ use Rattle.parlog.specs.declared.Spot.{Spot}
 
 -- ---- one process changed
 
+-- in another mode
 unfoldable pub withMode : Mode → Process → Process
 withMode m x = record { tag = x .tag; mode = modeCode m; result = x .result; count = x .count; parent = x .parent; spot = x .spot; notes = x .notes }
 
--- reporting with a result
+-- Tags 5: reporting a result
 unfoldable pub withResult : Result → Process → Process
 withResult r x = record { tag = x .tag; mode = modeCode reporting; result = resultCode r; count = x .count; parent = x .parent; spot = x .spot; notes = x .notes }
 
--- suspended, noting these, at most four
+-- notes fill a row's four places, zeros behind them
 unfoldable pub fourOf : List ℕ → List ℕ
 fourOf ns = getD ns 0 0 ∷ getD ns 1 0 ∷ getD ns 2 0 ∷ getD ns 3 0 ∷ []
 
+-- Tags 30: suspended on these
 unfoldable pub withNotes : List ℕ → Process → Process
 withNotes ns x = record { tag = x .tag; mode = modeCode suspended; result = x .result; count = length ns; parent = x .parent; spot = x .spot; notes = fourOf ns }
 
--- starting again, noting nothing
+-- Tags 37: about to start again, its notes cleared
 unfoldable pub woken : Process → Process
 woken x = record { tag = x .tag; mode = modeCode starting; result = x .result; count = 0; parent = x .parent; spot = x .spot; notes = noNotes }
 
+-- in another mode, at other places
 unfoldable pub withSpot : Mode → Spot → Process → Process
 withSpot m z x = record { tag = x .tag; mode = modeCode m; result = x .result; count = x .count; parent = x .parent; spot = z; notes = x .notes }
 
 -- ---- places changed, and places of new processes: zeros where their tag names nothing
 
+-- another stage
 unfoldable pub atStage : ℕ → Spot → Spot
 atStage k z = record { kind = z .kind; clause = z .clause; base = z .base; stage = k; literal = z .literal; block = z .block; found = z .found; first = z .first }
 
+-- another block
 unfoldable pub atBlock : ℕ → Spot → Spot
 atBlock k z = record { kind = z .kind; clause = z .clause; base = z .base; stage = z .stage; literal = z .literal; block = k; found = z .found; first = z .first }
 
+-- a clause and its first variable
 unfoldable pub withClause : ℕ → ℕ → Spot → Spot
 withClause k v z = record { kind = z .kind; clause = z .clause; base = z .base; stage = z .stage; literal = z .literal; block = z .block; found = k; first = v }
 
@@ -63,18 +69,17 @@ callSpot z = literalSpot z (z .literal)
 unfoldable pub blockSpot : Spot → ℕ → Spot
 blockSpot z b = atBlock b (callSpot z)
 
--- a clause for that call, with its first variable
+-- a clause for that call
 unfoldable pub trySpot : Spot → ℕ → ℕ → Spot
 trySpot z k v = withClause k v (callSpot z)
 
--- the clause alone
+-- a clause alone
 unfoldable pub guardSpot : ℕ → ℕ → Spot
 guardSpot k v = withClause k v nowhere
 
 -- ---- a delta
 
--- the mover's new record, whether all below it becomes dormant, one child that does, the new processes, the bindings made in
--- order, and how many new variables there are
+-- what a move changes: the mover, whether all below it falls asleep, one child that does, the processes and variables made, what is bound
 pub record Delta : Type 0 where
   pub me : Process
   pub cut : Bool
@@ -83,32 +88,36 @@ pub record Delta : Type 0 where
   pub changes : List Change
   pub fresh : ℕ
 
--- the mover alone changes
+-- the mover alone
 abbrev pub only : Process → Delta
 only x = record { me = x; cut = false; nap = Nothing; new = []; changes = []; fresh = 0 }
 
--- Tags and modes, 5: to report is to become reporting with a result and make every process below dormant
+-- Tags 5: a report, with what is bound on the way; the whole subtree falls asleep
 abbrev pub reporting-with : Result → Process → List Change → Delta
 reporting-with r x cs = record { me = withResult r x; cut = true; nap = Nothing; new = []; changes = cs; fresh = 0 }
 
+-- Tags 5: a report that binds nothing
 abbrev pub report : Result → Process → Delta
 report r x = reporting-with r x []
 
--- new processes, and a child that becomes dormant
+-- processes made, and perhaps a child that falls asleep
 abbrev pub making : Process → Found → List Process → ℕ → Delta
 making x nap new fresh = record { me = x; cut = false; nap = nap; new = new; changes = []; fresh = fresh }
 
 -- ---- which rows new processes take: today the next ones
 
+-- Tables 1: no row is used twice, so new processes take the rows behind
 abbrev pub nextRow : State → ℕ
 nextRow s = length (s .procs)
 
 -- ---- the change
 
+-- i is the one found
 abbrev pub isAt : Found → ℕ → Bool
 isAt Nothing i = false
 isAt (At c) i = eqb i c
 
+-- dormant, where it falls asleep
 abbrev pub asleep : Bool → Process → Process
 asleep true x = withMode dormant x
 asleep false x = x
@@ -117,6 +126,7 @@ asleep false x = x
 unfoldable pub rowAfter : List Process → ℕ → Delta → ℕ → Process
 rowAfter ps p d i = cond (eqb i p) (d .me) (asleep ((d .cut && below ps p i) || isAt (d .nap) i) (at ps i))
 
+-- the tables after the change
 unfoldable pub apply : State → ℕ → Delta → State
 apply s p d = record {
   procs = build (rowAfter (s .procs) p d) (length (s .procs)) ++ d .new;

@@ -1,4 +1,5 @@
--- What a reader must believe: document 01 as definitions, in its order.
+-- What a reader must believe: document 01 as definitions, in its order. A comment names the section and the sentence that a definition fixes:
+-- Image, Refusals, Tables, Tags and Turns with the numbers of docs/SENTENCES.md.
 pub mod Scan
 pub mod Codes
 pub mod Image

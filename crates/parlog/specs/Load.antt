@@ -14,27 +14,27 @@ use Rattle.parlog.specs.declared.Refusal.{Refusal}
 use Rattle.parlog.specs.declared.Verdict.{Verdict}
 use Rattle.parlog.specs.declared.Verdict.the-variants.{Goes, Refuses}
 
--- 1 LONG: image over 32,768 bytes
+-- Refusals 1: more bytes than an image may have
 unfoldable pub long : List ℕ → Bool
 long s = ltb 32768 (length s)
 
--- 2 CUT: 1 to 3 bytes remain, or a length is under 4 or passes the end
+-- Refusals 2: no room for a record's first four bytes, or for the record, or a length that could not hold them
 unfoldable pub cut : List ℕ → ℕ → Bool
 cut s at = ltb (length s) (at + 4) || (ltb (wordAt s at) 4 || ltb (length s) (recordEnd s at))
 
--- 3 KIND: kind not 1, 2 or 3, or lower than the kind before, or a record after the goal
+-- Refusals 3: no kind of ours, or one that steps back, or anything behind the goal
 unfoldable pub kindFault : Progress → ℕ → Bool
 kindFault g kind = ltb kind 1 || (ltb 3 kind || (ltb kind (g .kind) || eqb (g .kind) 3))
 
--- 6 MANY: 33rd relation, 65th clause
+-- Refusals 6: one relation or one clause too many
 unfoldable pub tooMany : Progress → ℕ → Bool
 tooMany g kind = cond (eqb kind 1) (leb 32 (g .relations)) (eqb kind 2 && leb 64 (g .clauses))
 
--- how many clauses the block has with this one: mark 0 joins the block of the clause before, of the same relation
+-- Image 6: the size of the block that this clause comes to stand in
 abbrev pub blockWith : Progress → ℕ → ℕ → ℕ
 blockWith g r mark = cond (follows g r && eqb mark 0) (g .block + 1) 1
 
--- 6 MANY: 9th clause of a block
+-- Refusals 6: one clause too many in its block
 unfoldable pub blockFull : List ℕ → Progress → ℕ → ℕ → Bool
 blockFull s g at kind = eqb kind 2 && ltb 8 (blockWith g (byteAt s (at + 4)) (byteAt s (at + 6)))
 
@@ -47,12 +47,12 @@ progressed s g at kind =
     (record { relations = g .relations; clauses = g .clauses + 1; kind = kind; relation = byteAt s (at + 4); block = blockWith g (byteAt s (at + 4)) (byteAt s (at + 6)) })
     (record { relations = g .relations; clauses = g .clauses; kind = kind; relation = g .relation; block = g .block }))
 
--- a test that refuses, before the tests that come after it
+-- a test refuses with its number, else the next tests decide
 abbrev pub refuseIf : Bool → ℕ → Verdict → Verdict
 refuseIf true n v = Refuses n
 refuseIf false n v = v
 
--- The refusal numbers, after the table, 2 and 3: each record is tested 2, 3, 6, 4, 5; the ninth-clause part of 6 after 5
+-- Refusals 16, 17: the tests of one record in their order
 unfoldable pub verdict : List ℕ → Progress → ℕ → Verdict
 verdict s g at =
     refuseIf (cut s at) 2
@@ -63,27 +63,29 @@ verdict s g at =
     (refuseIf (blockFull s g at (kindAt s at)) 6
     (Goes (progressed s g at (kindAt s at))))))))
 
+-- Refusals 18: a number and an offset
 abbrev pub refusal : ℕ → ℕ → Refusal
 refusal n o = record { number = n; offset = o }
 
--- 7 NOGOAL: the image ends without a goal; it carries the image's length. An accepted load answers the relation and clause counts
+-- Refusals 7, 19: at the end of the bytes there was a goal, or there was none
 abbrev pub loadEnd : List ℕ → Progress → Loaded
 loadEnd s g = cond (eqb (g .kind) 3) (Accepted (g .relations) (g .clauses)) (Refused (refusal 7 (length s)))
 
--- a refusal of a record carries the record's offset
+-- Refusals 18: a record that is refused gives its own offset
 abbrev pub after : (Progress → Loaded) → ℕ → Verdict → Loaded
 after rest at (Refuses n) = Refused (refusal n at)
 after rest at (Goes g) = rest g
 
--- records in file order. The fuel is the image's length: no record is empty, so it never runs out
+-- Refusals 16: one record after the other. No record that passes is empty, so the image's length is fuel enough
 unfoldable pub records : List ℕ → ℕ → ℕ → Progress → Loaded
 records s zero at g = loadEnd s g
 records s (suc n) at g =
     cond (ltb at (length s)) (after (records s n (recordEnd s at)) at (verdict s g at)) (loadEnd s g)
 
+-- nothing is known before the first record
 abbrev pub nothingRead : Progress
 nothingRead = record { relations = 0; clauses = 0; kind = 0; relation = 0; block = 0 }
 
--- The refusal numbers, after the table, 1: LONG comes first, and carries 0
+-- Refusals 15: the length of the whole image is looked at before any record
 unfoldable pub loadOf : List ℕ → Loaded
 loadOf s = cond (long s) (Refused (refusal 1 0)) (records s (length s) 0 nothingRead)

@@ -21,12 +21,15 @@ use Rattle.parlog.specs.declared.Term.the-variants.{Const, Var}
 
 -- ---- the mover
 
+-- the process that is spoken of
 abbrev pub me : State → ℕ → Process
 me s p = at (s .procs) p
 
+-- mode(p)
 abbrev pub HasMode : State → ℕ → Mode → Type 0
 HasMode s p m = me s p .mode ≡ modeCode m
 
+-- tag(p)
 abbrev pub HasTag : State → ℕ → Tag → Type 0
 HasTag s p t = me s p .tag ≡ tagCode t
 
@@ -37,7 +40,7 @@ pub record Is (s : State) (p : ℕ) (t : Tag) (m : Mode) : Type 0 where
 
 -- ---- children
 
--- c is a child of p: parent(c) = p; process 0 has no parent
+-- parent(c) = p; process 0 has no parent
 pub record Child (s : State) (p c : ℕ) : Type 0 where
   pub there : c < length (s .procs)
   pub other : c ≢ 0
@@ -48,43 +51,43 @@ pub record Reports (s : State) (c : ℕ) (r : Result) : Type 0 where
   pub mode : HasMode s c reporting
   pub result : me s c .result ≡ resultCode r
 
--- the latest child: a child with none higher
+-- Tags 6: a child with none higher
 pub record Latest (s : State) (p c : ℕ) : Type 0 where
   pub child : Child s p c
   pub none-higher : (i : ℕ) → Child s p i → i ≤ c
 
--- the latest child, and what it reports
+-- Tags 6: the latest child, and what it reports
 pub record Hears (s : State) (p c : ℕ) (r : Result) : Type 0 where
   pub latest : Latest s p c
   pub reports : Reports s c r
 
--- for all children
+-- Tags 7: every child
 abbrev pub AllReport : State → ℕ → Result → Type 0
 AllReport s p r = (c : ℕ) → Child s p c → Reports s c r
 
--- for some child
+-- Tags 13: some child
 pub record SomeReports (s : State) (p : ℕ) (r : Result) : Type 0 where
   pub which : ℕ
   pub child : Child s p which
   pub reports : Reports s which r
 
--- a child that reports this, and none lower does
+-- Tags 25: a child, and none lower does
 pub record LowestReports (s : State) (p c : ℕ) (r : Result) : Type 0 where
   pub child : Child s p c
   pub reports : Reports s c r
   pub none-lower : (i : ℕ) → Child s p i → Reports s i r → c ≤ i
 
--- below: a chain of parents
+-- Tags 5: a chain of parents leads down to it
 pub data Below (s : State) (p : ℕ) : ℕ → Type 0 where
   next-below : {c : ℕ} → Child s p c → Below s p c
   deeper : {c d : ℕ} → Below s p c → Child s c d → Below s p d
 
--- c is the nearest try-clause above p
+-- Tags 35: a try-clause above, and none between
 pub data Nearest (s : State) : ℕ → ℕ → Type 0 where
   is-parent : {p c : ℕ} → Child s c p → HasTag s c try-clause → Nearest s p c
   above-parent : {p q c : ℕ} → Child s q p → (HasTag s q try-clause → ⊥) → Nearest s q c → Nearest s p c
 
--- p stands below a guard-eval
+-- Tags 35: a guard-eval above, at any depth
 pub record UnderGuard (s : State) (p : ℕ) : Type 0 where
   pub guard : ℕ
   pub below : Below s guard p
@@ -92,7 +95,7 @@ pub record UnderGuard (s : State) (p : ℕ) : Type 0 where
 
 -- ---- the committed body
 
--- the output equations of a head: one per output argument, in argument order, their variables numbered on from v
+-- Tags 41: an equation per output argument
 pub data Outputs : List ℕ → List Term → ℕ → List Literal → Type 0 where
   no-argument : {ts : List Term} {v : ℕ} → Outputs [] ts v []
   no-term : {m : ℕ} {ms : List ℕ} {v : ℕ} → Outputs (m ∷ ms) [] v []
@@ -100,27 +103,29 @@ pub data Outputs : List ℕ → List Term → ℕ → List Literal → Type 0 wh
   an-output : {m : ℕ} {ms : List ℕ} {t : Term} {ts : List Term} {v : ℕ} {es : List Literal} → m ≢ 0 → Outputs ms ts (suc v) es
       → Outputs (m ∷ ms) (t ∷ ts) v (record { rel = 255; args = t ∷ Var v ∷ [] } ∷ es)
 
+-- Tags 41: those of a clause
 abbrev pub OutputsOf : Program → Clause → List Literal → Type 0
 OutputsOf pr c es = Outputs (modesAt pr (c .rel)) (c .head) (c .vars) es
 
--- clbody(clause), with the output equations in front
+-- Tags 41: clbody(clause) with its equations
 pub data Committed (pr : Program) (c : Clause) : Goal → Type 0 where
   as-it-stands : OutputsOf pr c [] → Committed pr c (c .body)
   one-stage : {e : Literal} {es : List Literal} → OutputsOf pr c (e ∷ es) → c .body ≡ [] → Committed pr c ((e ∷ es) ∷ [])
   in-front : {e : Literal} {es st : List Literal} {g : Goal} → OutputsOf pr c (e ∷ es) → c .body ≡ st ∷ g → Committed pr c ((e ∷ es ++ st) ∷ g)
 
--- goal(p): the image's, a clause's guard, or a committed body
+-- goal(p): the image's, a guard, or a committed body
 pub data Works (pr : Program) (z : Spot) : Goal → Type 0 where
   in-goal : z .kind ≡ 0 → Works pr z (pr .goal)
   in-guard : z .kind ≡ 1 → Works pr z (clauseAt pr (z .clause) .guard)
   in-body : {g : Goal} → z .kind ≡ 2 → Committed pr (clauseAt pr (z .clause)) g → Works pr z g
 
--- the stage and the literal that z names there
+-- the stage that z names there
 pub record AtStage (pr : Program) (z : Spot) (st : List Literal) : Type 0 where
   pub goal : Goal
   pub works : Works pr z goal
   pub stage : getD goal (z .stage) [] ≡ st
 
+-- the literal that z names there
 pub record AtLiteral (pr : Program) (z : Spot) (l : Literal) : Type 0 where
   pub goal : List Literal
   pub stage : AtStage pr z goal
@@ -128,13 +133,13 @@ pub record AtLiteral (pr : Program) (z : Spot) (l : Literal) : Type 0 where
 
 -- ---- values and unifiers
 
--- where the bindings lead from a term
+-- Tables 5: a constant and an unbound variable lead to themselves, a bound variable to where its binding leads
 pub data Leads (vs : List Binding) : Term → Term → Type 0 where
   a-constant : {c : ℕ} → Leads vs (Const c) (Const c)
   unbound : {v : ℕ} → bindingOf vs v ≡ Free → Leads vs (Var v) (Var v)
   onward : {v : ℕ} {t u : Term} → bindingOf vs v ≡ Bound t → Leads vs t u → Leads vs (Var v) u
 
--- what unifying two values binds
+-- Tags 40: what two values that agree bind
 pub data Meets : Term → Term → List Change → Type 0 where
   same-constant : {c : ℕ} → Meets (Const c) (Const c) []
   same-variable : {v : ℕ} → Meets (Var v) (Var v) []
@@ -143,23 +148,23 @@ pub data Meets : Term → Term → List Change → Type 0 where
   higher-left : {v w : ℕ} → w < v → Meets (Var v) (Var w) (change v (Var w) ∷ [])
   higher-right : {v w : ℕ} → v < w → Meets (Var v) (Var w) (change w (Var v) ∷ [])
 
--- two different constants
+-- Tags 29: two constants that are not the same
 pub data Clashes : Term → Term → Type 0 where
   different : {a b : ℕ} → a ≢ b → Clashes (Const a) (Const b)
 
--- unify the pairs from left to right, each by value; what is bound, in order
+-- Tags 28: pair by pair from the left, each side by where it leads; what is bound, in order
 pub data Unifies : List Binding → List Pair → List Change → Type 0 where
   all-done : {vs : List Binding} → Unifies vs [] []
   one-done : {vs : List Binding} {e : Pair} {es : List Pair} {a b : Term} {bs cs : List Change}
       → Leads vs (e .left) a → Leads vs (e .right) b → Meets a b bs → Unifies (changed vs bs) es cs → Unifies vs (e ∷ es) (bs ++ cs)
 
--- two different constants meet on the way
+-- Tags 29: some pair on the way clashes
 pub data Fails : List Binding → List Pair → Type 0 where
   fails-here : {vs : List Binding} {e : Pair} {es : List Pair} {a b : Term} → Leads vs (e .left) a → Leads vs (e .right) b → Clashes a b → Fails vs (e ∷ es)
   fails-later : {vs : List Binding} {e : Pair} {es : List Pair} {a b : Term} {bs : List Change}
       → Leads vs (e .left) a → Leads vs (e .right) b → Meets a b bs → Fails (changed vs bs) es → Fails vs (e ∷ es)
 
--- the call's arguments with the head's, output arguments of the head replaced by their new variables
+-- Tags 28: the call's arguments beside the head's
 pub data Matches (base first : ℕ) : List ℕ → List Term → List Term → ℕ → List Pair → Type 0 where
   no-mode : {xs ts : List Term} {out : ℕ} → Matches base first [] xs ts out []
   no-call : {m : ℕ} {ms : List ℕ} {ts : List Term} {out : ℕ} → Matches base first (m ∷ ms) [] ts out []
@@ -169,26 +174,27 @@ pub data Matches (base first : ℕ) : List ℕ → List Term → List Term → �
   output : {m : ℕ} {ms : List ℕ} {a t : Term} {xs ts : List Term} {out : ℕ} {es : List Pair} → m ≢ 0 → Matches base first ms xs ts (out + 1) es
       → Matches base first (m ∷ ms) (a ∷ xs) (t ∷ ts) out (record { left = shift base a; right = Var (first + out) } ∷ es)
 
--- in_var: v is the value of an input argument of the call
+-- Tags 30: in_var: some input argument leads to v
 pub data InputValue (vs : List Binding) (base v : ℕ) : List ℕ → List Term → Type 0 where
   this-one : {m : ℕ} {ms : List ℕ} {a : Term} {xs : List Term} → m ≡ 0 → Leads vs (shift base a) (Var v) → InputValue vs base v (m ∷ ms) (a ∷ xs)
   a-later : {m : ℕ} {ms : List ℕ} {a : Term} {xs : List Term} → InputValue vs base v ms xs → InputValue vs base v (m ∷ ms) (a ∷ xs)
 
--- numbered below the first variable of the nearest enclosing try-clause, for a process below a guard-eval
+-- Tags 35: below the first variable of the nearest try-clause, for a process below a guard-eval
 pub record Older (s : State) (p v : ℕ) : Type 0 where
   pub under : UnderGuard s p
   pub try : ℕ
   pub nearest : Nearest s p try
   pub older : v < me s try .spot .first
 
--- susp_var: of the variables bound, those that must not be, in the order bound
+-- Tags 30: susp_var: of what is bound, what was to be held, as it is bound
 pub data Notes (Held : ℕ → Type 0) : List Change → List ℕ → Type 0 where
   none-left : Notes Held [] []
   a-note : {c : Change} {cs : List Change} {ns : List ℕ} → Held (c .var) → Notes Held cs ns → Notes Held (c ∷ cs) (c .var ∷ ns)
   no-note : {c : Change} {cs : List Change} {ns : List ℕ} → (Held (c .var) → ⊥) → Notes Held cs ns → Notes Held (c ∷ cs) ns
 
--- ---- what a move does to the tables: the mover's new record, who falls asleep, the new processes, the bindings, the new variables
+-- ---- the tables after a move
 
+-- the tables after a move: the mover, who falls asleep, who stays, who is new, what is bound
 pub record After (s : State) (p : ℕ) (self : Process) (Sleeps : ℕ → Type 0) (new : List Process) (cs : List Change) (fresh : ℕ) (s′ : State) : Type 0 where
   pub count : length (s′ .procs) ≡ length (s .procs) + length new
   pub mover : me s′ p ≡ self
@@ -197,9 +203,11 @@ pub record After (s : State) (p : ℕ) (self : Process) (Sleeps : ℕ → Type 0
   pub created : (j : ℕ) → j < length new → me s′ (length (s .procs) + j) ≡ at new j
   pub bindings : s′ .vars ≡ changed (s .vars ++ replicate fresh Free) cs
 
+-- nobody falls asleep
 abbrev pub Nobody : ℕ → Type 0
 Nobody i = ⊥
 
+-- one child falls asleep
 abbrev pub Just : ℕ → ℕ → Type 0
 Just c i = i ≡ c
 
@@ -207,28 +215,29 @@ Just c i = i ≡ c
 abbrev pub Becomes : State → ℕ → Process → State → Type 0
 Becomes s p self s′ = After s p self Nobody [] [] 0 s′
 
--- report from the subtree: reporting with a result, everything below dormant
+-- Tags 5: the mover reports, and everything below it falls asleep
 abbrev pub ReportsWith : State → ℕ → Result → Process → List Change → State → Type 0
 ReportsWith s p r x cs s′ = After s p (withResult r x) (Below s p) [] cs 0 s′
 
+-- Tags 5: a report that binds nothing
 abbrev pub Ends : State → ℕ → Result → State → Type 0
 Ends s p r s′ = ReportsWith s p r (me s p) [] s′
 
--- create one child
+-- one child is made
 abbrev pub Creates : State → ℕ → Process → (ℕ → Type 0) → Process → State → Type 0
 Creates s p self Sleeps y s′ = After s p self Sleeps (y ∷ []) [] 0 s′
 
--- the first process made, else the process itself
+-- Turns 9: the first of those made, else the mover
 pub data FirstMade (s : State) (p : ℕ) : List Process → ℕ → Type 0 where
   itself : FirstMade s p [] p
   a-new-one : {y : Process} {ys : List Process} → FirstMade s p (y ∷ ys) (length (s .procs))
 
--- a child per literal, in order
+-- Tags 10, 12: a ready child for each literal, in order
 pub record PerLiteral (p : ℕ) (z : Spot) (st : List Literal) (new : List Process) : Type 0 where
   pub count : length new ≡ length st
   pub child : (j : ℕ) → j < length st → at new j ≡ newProcess (tagOfLiteral (getD st j noLiteral)) ready p (literalSpot z j)
 
--- a try-clause per clause, in order, each with its new variables numbered on from v; n are made in all
+-- Tags 10, 24: a ready try-clause for each clause, in order, its variables counting on from v; n are made in all
 pub data Trials (pr : Program) (p : ℕ) (z : Spot) : ℕ → List ℕ → List Process → ℕ → Type 0 where
   no-trial : {v : ℕ} → Trials pr p z v [] [] 0
   a-trial : {v k n : ℕ} {ks : List ℕ} {ys : List Process} → Trials pr p z (v + varsOf pr k) ks ys n

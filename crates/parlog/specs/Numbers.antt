@@ -24,6 +24,7 @@ use Rattle.parlog.specs.declared.Valued.the-variants.{Unvalued, Value}
 
 -- ---- the number of a rule
 
+-- Turns 9: the number of a rule
 abbrev pub ruleNumber : Move → ℕ
 ruleNumber (Ready p) = 1
 ruleNumber (Wake p) = 2
@@ -63,19 +64,23 @@ ruleNumber (EquateSuccess p) = 33
 ruleNumber (EquateFailure p) = 34
 ruleNumber (EquateSuspend t) = 35
 
--- ---- what a move touched: a process (0) or a variable (1), and its number
+-- ---- what a move touched
 
+-- Turns 9: a process (0) or a variable (1), and its number
 pub record Touched : Type 0 where
   pub sort : ℕ
   pub number : ℕ
 
+-- a process
 abbrev pub process : ℕ → Touched
 process p = record { sort = 0; number = p }
 
+-- a variable
 abbrev pub variable : Term → Touched
 variable (Const c) = record { sort = 1; number = c }
 variable (Var v) = record { sort = 1; number = v }
 
+-- Turns 9: what a move touched
 abbrev pub touched : Move → Touched
 touched (Ready p) = process p
 touched (Wake p) = process p
@@ -115,35 +120,39 @@ touched (EquateSuccess p) = process p
 touched (EquateFailure p) = process p
 touched (EquateSuspend t) = variable t
 
--- ---- the numbers of an answer: the refusal (0 when accepted), two small values and one large
+-- ---- the numbers of an answer
 
+-- the refusal, 0 where there is none; two small values and a large one
 pub record Numbers : Type 0 where
   pub refused : ℕ
   pub a : ℕ
   pub b : ℕ
   pub c : ℕ
 
+-- Refusals 18: a refusal and its offset
 abbrev pub refusedAs : Refusal → Numbers
 refusedAs r = record { refused = r .number; a = 0; b = 0; c = r .offset }
 
--- as one word: bits 0 to 7, 8 to 15, 16 to 23, and 32 to 63
+-- Turns 10: all in one word: bits 0 to 7, 8 to 15, 16 to 23, and 32 to 63
 unfoldable pub word : Numbers → ℕ
 word n = n .refused + 256 * n .a + 65536 * n .b + 4294967296 * n .c
 
--- a load: relation and clause counts
+-- Refusals 19: of a load: relations and clauses
 abbrev pub loadNumbers : Loaded → Numbers
 loadNumbers (Accepted r c) = record { refused = 0; a = r; b = c; c = 0 }
 loadNumbers (Refused r) = refusedAs r
 
+-- of a start: nothing to tell
 abbrev pub startNumbers : Started → Numbers
 startNumbers Begun = record { refused = 0; a = 0; b = 0; c = 0 }
 startNumbers (Unstarted r) = refusedAs r
 
--- a step or a turn: the rule, and what it touched
+-- Turns 9: of a step or a turn: the rule, and what it touched
 abbrev pub stepNumbers : Stepped → Numbers
 stepNumbers (Moved m) = record { refused = 0; a = ruleNumber m; b = touched m .sort; c = touched m .number }
 stepNumbers (Unmoved r) = refusedAs r
 
+-- Turns 11: the number of an end
 abbrev pub endNumber : End → ℕ
 endNumber Success = 1
 endNumber Failure = 2
@@ -151,26 +160,27 @@ endNumber Waiting = 3
 endNumber Room = 4
 endNumber Budget = 5
 
--- a run: its end, and the moves made
+-- Turns 8: of a run: its end, and the moves made
 abbrev pub runNumbers : Ran → Numbers
 runNumbers (Ended e n) = record { refused = 0; a = endNumber e; b = 0; c = n }
 runNumbers (Unrun r) = refusedAs r
 
--- a supply tells nothing but that it is accepted
+-- of a supply: nothing to tell
 abbrev pub supplyNumbers : Supplied → Numbers
 supplyNumbers (Given v) = record { refused = 0; a = 0; b = 0; c = 0 }
 supplyNumbers (Ungiven r) = refusedAs r
 
--- a value: 1 a constant, 2 a variable, and its number
+-- a constant is 1, a variable 2, and its number
 abbrev pub termNumbers : Term → Numbers
 termNumbers (Const c) = record { refused = 0; a = 1; b = 0; c = c }
 termNumbers (Var v) = record { refused = 0; a = 2; b = 0; c = v }
 
+-- of a look: what was seen
 abbrev pub valueNumbers : Valued → Numbers
 valueNumbers (Value t) = termNumbers t
 valueNumbers (Unvalued r) = refusedAs r
 
--- a watch: 1 and the number where there is one
+-- Turns 5: of a watch: 1 and the number, where there is one
 abbrev pub watchNumbers : Found → Numbers
 watchNumbers (At i) = record { refused = 0; a = 1; b = 0; c = i }
 watchNumbers Nothing = record { refused = 0; a = 0; b = 0; c = 0 }

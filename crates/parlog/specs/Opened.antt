@@ -19,6 +19,7 @@ use Rattle.parlog.specs.Text.{decimal, digits, refusedText, runnerText, 
 use Rattle.parlog.specs.Tree.{allChildren, anyChild, below, childDone, childReports, climb, enclosing, heard, heardFrom, isChild, latest, lowestChild, reports, tryAbove}
 use Rattle.parlog.specs.Unify.{changed, chase, decide, equateOf, follow, headSide, heldIn, inputValue, isVar, joined, matchOf, meet, meetVars, outAfter, pairOf, pairsOf, settle, settled, shift, someBound, unify, unifyFrom, unifyOne, value, valueOf}
 
+-- opens them all
 unfoldable pub opened : ℕ
 unfolding along each total listOf build some every highest lowest tally those tagOf modeOf resultOf kindOf stageEnd goalEnd literalOf stageOf goalOf modesOf clauseOf programOf opens inBlock blockCount blockOf outCount varsOf outputs before committedBody goalBy goalAt stageAt literalAt tagOfLiteral tagOfStage tagOfGoal stageRange goalRange relationBody clauseBody askBody bodyRight termNamedAt relationNamed literalNamed goalNamed clausePlaced clauseInside namesRight long cut kindFault tooMany blockFull progressed verdict records loadOf small noted spotAt notesAt processAt processBytes procsOf bindingBy bindingAt bindingBytes varsIn headBytes tablesIn rowsBytes written putTables newProcess fresh freshTables zeros startedLent follow chase valueOf value meetVars meet changed joined unifyOne unifyFrom unify heldIn settled settle decide shift headSide outAfter pairOf pairsOf isVar inputValue matchOf equateOf someBound isChild latest reports childReports anyChild childDone allChildren lowestChild climb below tryAbove enclosing heardFrom heard withMode withResult fourOf withNotes woken withSpot atStage atBlock withClause literalSpot callSpot blockSpot trySpot guardSpot rowAfter apply wakeRule stopRule memberTag member members andParStart andParWait andSeqStart andSeqWait orParStart bodyChild orParHeard orParWait searching seqSearchStart withFound seqSearchNext seqSearchWait tries triesVars blockAt orSearchStart orSearchWait tryClauseStart tryClauseWait matchAt inputMatchStart guardEvalStart guardEvalWait equateAt equateStart startRule waitRule ruleIn ruleOf fits move canMove turnOf turnFor stepped stepBy stepTables turnTo turnTables supplied supplyValue supplyTables valueTables runStep runTurn runTest runFrom runTables watchOf countsOk known resultOk kinOk clauseIn goalInBy goalIn literalIn callIn equalityIn tryIn placesOk goingOk allBelow notesOk rowOk varOk stateOk tablesOk fullSize cellKnown lentOk word enter startCall stepCall turnCall runCall supplyCall valueCall digits decimal varLine varLines runText refusedText runnerText
 opened = 0

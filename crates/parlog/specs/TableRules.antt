@@ -18,25 +18,27 @@ use Rattle.parlog.specs.declared.Term.the-variants.{Const, Var}
 
 -- ---- counts
 
--- 1 to 512 processes, at most 1,024 variables and no fewer than the goal's
+-- Tables 3: how many processes and variables
 unfoldable pub countsOk : Limits → Program → State → Bool
 countsOk lim pr s =
     leb 1 (length (s .procs))
     && (leb (length (s .procs)) (lim .procs) && (leb (length (s .vars)) (lim .vars) && leb (pr .goalVars) (length (s .vars))))
 
--- ---- known tags, modes and results (none, success, failure), and kinds of goals
+-- ---- known numbers
 
+-- Tables 3: every number in a row stands for something
 unfoldable pub known : Process → Bool
 known x = ltb (x .tag) 9 && (ltb (x .mode) 6 && (ltb (x .result) 3 && ltb (x .spot .kind) 3))
 
 -- ---- results
 
--- a reporting process has success or failure, and so has process 0 when dormant
+-- Tables 3: who reports has something to tell, and so has the goal's process once it sleeps
 unfoldable pub resultOk : ℕ → Process → Bool
 resultOk i x = implies (isMode reporting (x .mode) || (eqb i 0 && isMode dormant (x .mode))) (not (isResult none (x .result)))
 
 -- ---- kin
 
+-- tags that a literal can have
 abbrev pub isLiteralTag : Tag → Bool
 isLiteralTag and-par = false
 isLiteralTag and-seq = false
@@ -48,13 +50,15 @@ isLiteralTag input-match = false
 isLiteralTag guard-eval = false
 isLiteralTag equate = true
 
+-- tags that a stage can have
 abbrev pub isStageTag : Tag → Bool
 isStageTag t = isLiteralTag t || isTag and-par (tagCode t)
 
+-- tags that a goal can have
 abbrev pub isGoalTag : Tag → Bool
 isGoalTag t = isStageTag t || isTag and-seq (tagCode t)
 
--- the tags that a tag's rules make
+-- Tables 3: the tags of the processes that a tag's rules make
 abbrev pub makesTag : Tag → Tag → Bool
 makesTag and-par t = isLiteralTag t
 makesTag and-seq t = isStageTag t
@@ -66,57 +70,60 @@ makesTag input-match t = false
 makesTag guard-eval t = isGoalTag t
 makesTag equate t = false
 
--- process 0 has its goal's tag and no parent (its row holds 0), and names the image's goal;
--- every other has a lower-numbered parent whose rules make its tag
+-- Tables 3: process 0 stands for the image's goal; every other has a parent before it that could have made it
 unfoldable pub kinOk : Program → List Process → ℕ → Process → Bool
 kinOk pr ps zero x = isTag (tagOfGoal (pr .goal)) (x .tag) && (eqb (x .parent) 0 && eqb (x .spot .kind) (kindCode the-goal))
 kinOk pr ps (suc i) x = ltb (x .parent) (suc i) && makesTag (tagOf (at ps (x .parent) .tag)) (tagOf (x .tag))
 
 -- ---- places
 
--- the clause exists and its variable block ends at or below the variable count
+-- Tables 3: a clause that is there, its variables too
 unfoldable pub clauseIn : Program → ℕ → ℕ → ℕ → Bool
 clauseIn pr n k v = ltb k (length (pr .clauses)) && leb (v + varsOf pr k) n
 
--- so for a goal; the variables of the image's goal begin at 0
+-- Tables 3: a goal that is there, its variables too; those of the image's goal come first of all
 unfoldable pub goalInBy : Kind → Program → ℕ → Spot → Bool
 goalInBy the-goal pr n z = eqb (z .base) 0 && leb (pr .goalVars) n
 goalInBy the-guard pr n z = clauseIn pr n (z .clause) (z .base)
 goalInBy the-body pr n z = clauseIn pr n (z .clause) (z .base)
 
+-- the goal that z names
 unfoldable pub goalIn : Program → ℕ → Spot → Bool
 goalIn pr n z = goalInBy (kindOf (z .kind)) pr n z
 
--- the stage exists
+-- the stage that z names is there
 abbrev pub stageIn : Program → Spot → Bool
 stageIn pr z = ltb (z .stage) (length (goalAt pr z))
 
--- the literal exists; it is a call, or it is an equality
+-- the literal that z names is there
 unfoldable pub literalIn : Program → ℕ → Spot → Bool
 literalIn pr n z = goalIn pr n z && ltb (z .literal) (length (stageAt pr z))
 
+-- a literal that is an equality
 abbrev pub isEquality : Literal → Bool
 isEquality l = eqb (l .rel) equality
 
+-- it is a call
 unfoldable pub callIn : Program → ℕ → Spot → Bool
 callIn pr n z = literalIn pr n z && not (isEquality (literalAt pr z))
 
+-- it is an equality
 unfoldable pub equalityIn : Program → ℕ → Spot → Bool
 equalityIn pr n z = literalIn pr n z && isEquality (literalAt pr z)
 
--- a block of the relation called
+-- a block that the relation called has
 abbrev pub blockIn : Program → Spot → Bool
 blockIn pr z = ltb (z .block) (blockCount pr (literalAt pr z .rel))
 
--- the clause found or tried, with its variables
+-- the clause found or tried is there
 abbrev pub foundIn : Program → ℕ → Spot → Bool
 foundIn pr n z = clauseIn pr n (z .found) (z .first)
 
--- a clause of the relation called
+-- it is a clause of the relation called
 unfoldable pub tryIn : Program → ℕ → Spot → Bool
 tryIn pr n z = foundIn pr n z && eqb (clauseAt pr (z .found) .rel) (literalAt pr z .rel)
 
--- each process names the places that its own rules read, of the kind they need
+-- Tables 3: what the rules of a tag read
 unfoldable pub placesOk : Tag → Program → ℕ → Spot → Bool
 placesOk and-par pr n z = goalIn pr n z && stageIn pr z
 placesOk and-seq pr n z = goalIn pr n z && leb (z .stage) (length (goalAt pr z))
@@ -128,11 +135,11 @@ placesOk input-match pr n z = callIn pr n z && tryIn pr n z
 placesOk guard-eval pr n z = foundIn pr n z
 placesOk equate pr n z = equalityIn pr n z
 
+-- it reports success
 abbrev pub succeeds : Process → Bool
 succeeds x = isMode reporting (x .mode) && isResult success (x .result)
 
--- and in some modes those that its own waiting and its parent's rules read: a waiting and-seq has a stage left, a waiting
--- seq-search a block, a search that reports success a clause
+-- Tables 3: what they read besides in some modes: the stage that an and-seq waits for, the block that a search waits for, the clause that a search tells
 unfoldable pub goingOk : Tag → Program → ℕ → Process → Bool
 goingOk and-par pr n x = true
 goingOk and-seq pr n x = implies (isMode waiting (x .mode)) (stageIn pr (x .spot))
@@ -146,16 +153,18 @@ goingOk equate pr n x = true
 
 -- ---- notes
 
+-- each of these is below n
 unfoldable pub allBelow : ℕ → List ℕ → Bool
 allBelow n [] = true
 allBelow n (v ∷ vs) = ltb v n && allBelow n vs
 
--- a suspended process notes at most four variables, all below the count
+-- Tables 3: notes of a suspended process
 unfoldable pub notesOk : ℕ → Process → Bool
 notesOk n x = implies (isMode suspended (x .mode)) (leb (x .count) 4 && allBelow n (noted x))
 
 -- ---- a row, a binding, the tables
 
+-- Tables 3: all of it for process i
 unfoldable pub rowOk : Program → List Process → ℕ → ℕ → Bool
 rowOk pr ps n i =
     known (at ps i)
@@ -165,36 +174,38 @@ rowOk pr ps n i =
     && (goingOk (tagOf (at ps i .tag)) pr n (at ps i)
     && notesOk n (at ps i)))))
 
--- a bound variable holds a constant up to 32,767 or a lower-numbered variable
+-- Tables 3: bindings lead to constants of an image or downward
 abbrev pub bindingOk : ℕ → Binding → Bool
 bindingOk v Free = true
 bindingOk v (Bound (Const c)) = leb c 32767
 bindingOk v (Bound (Var w)) = ltb w v
 
+-- Tables 3: that for variable v
 unfoldable pub varOk : List Binding → ℕ → Bool
 varOk vs v = bindingOk v (bindingOf vs v)
 
+-- Tables 3: counts, processes and variables
 unfoldable pub stateOk : Limits → Program → State → Bool
 stateOk lim pr s =
     countsOk lim pr s
     && (every (rowOk pr (s .procs) (length (s .vars))) (length (s .procs)) && every (varOk (s .vars)) (length (s .vars)))
 
--- and the turn marker is below the process count
+-- Tables 3: and the marker
 unfoldable pub tablesOk : Limits → Program → Tables → Bool
 tablesOk lim pr t = stateOk lim pr (t .state) && ltb (t .last) (length (t .state .procs))
 
 -- ---- over lent bytes
 
--- a lent table is of the full size for its limit
+-- Refusals 21: each lent row has its full size
 unfoldable pub fullSize : Limits → Lent → Bool
 fullSize lim l =
     eqb (length (l .head)) headSize
     && (eqb (length (l .procs)) (lim .procs * rowSize) && eqb (length (l .vars)) (lim .vars * cellSize))
 
--- bytes that no record has: an unknown sort, or an unbound variable with a number
+-- Tables 3: a sort that there is, and no number where nothing is bound
 unfoldable pub cellKnown : List ℕ → ℕ → Bool
 cellKnown l v = ltb (sortAt l v) 3 && implies (eqb (sortAt l v) 0) (eqb (numberAt l v) 0)
 
--- 8 STATE is given exactly when this fails
+-- Refusals 8, 21: what is not 8
 unfoldable pub lentOk : Limits → Program → Lent → Bool
 lentOk lim pr l = fullSize lim l && (every (cellKnown (l .vars)) (varCount (l .head)) && tablesOk lim pr (tablesIn l))

@@ -14,12 +14,12 @@ use Rattle.parlog.specs.declared.Process.{Process}
 use Rattle.parlog.specs.declared.Spot.{Spot}
 use Rattle.parlog.specs.declared.Term.the-variants.{Const, Var}
 
--- the used rows: processes and variables by number
+-- Tables 1: the processes and variables in use, by number
 pub record State : Type 0 where
   pub procs : List Process
   pub vars : List Binding
 
--- and the turn marker: the last process stepped, and the steps taken so far
+-- Turns 4: these with the turn marker
 pub record Tables : Type 0 where
   pub state : State
   pub last : ℕ
@@ -27,35 +27,41 @@ pub record Tables : Type 0 where
 
 -- ---- records by number
 
+-- all places 0
 abbrev pub nowhere : Spot
 nowhere = record { kind = 0; clause = 0; base = 0; stage = 0; literal = 0; block = 0; found = 0; first = 0 }
 
+-- nothing noted
 abbrev pub noNotes : List ℕ
 noNotes = 0 ∷ 0 ∷ 0 ∷ 0 ∷ []
 
--- a row of zeros; it is dormant
+-- a row of zeros: it is dormant
 abbrev pub idle : Process
 idle = record { tag = 0; mode = 0; result = 0; count = 0; parent = 0; spot = nowhere; notes = noNotes }
 
+-- process number i
 abbrev pub at : List Process → ℕ → Process
 at ps i = getD ps i idle
 
+-- variable number v
 abbrev pub bindingOf : List Binding → ℕ → Binding
 bindingOf vs v = getD vs v Free
 
--- the variables that a process has noted
+-- Tables 3: the notes that count
 unfoldable pub noted : Process → List ℕ
 noted x = take (x .count) (x .notes)
 
 -- ---- a process row: 24 bytes, every one of a field
 
--- this and the sizes below stand behind names, since later rows may be longer
+-- the length of a process row; it stands behind a name, since rows may grow
 abbrev pub rowSize : ℕ
 rowSize = 24
 
+-- two bytes of a table, the low one first
 abbrev pub u16At : List ℕ → ℕ → ℕ
 u16At l i = getD l i 0 + getD l (i + 1) 0 * 256
 
+-- the places in row i
 unfoldable pub spotAt : List ℕ → ℕ → Spot
 spotAt l i = record {
   kind = getD l (i * 24 + 6) 0;
@@ -68,9 +74,11 @@ spotAt l i = record {
   first = u16At l (i * 24 + 14);
 }
 
+-- the notes in row i
 unfoldable pub notesAt : List ℕ → ℕ → List ℕ
 notesAt l i = u16At l (i * 24 + 16) ∷ u16At l (i * 24 + 18) ∷ u16At l (i * 24 + 20) ∷ u16At l (i * 24 + 22) ∷ []
 
+-- row i as a process
 unfoldable pub processAt : List ℕ → ℕ → Process
 processAt l i = record {
   tag = getD l (i * 24) 0;
@@ -82,12 +90,15 @@ processAt l i = record {
   notes = notesAt l i;
 }
 
+-- the low byte of a number
 abbrev pub low : ℕ → ℕ
 low v = v % 256
 
+-- the byte above it
 abbrev pub high : ℕ → ℕ
 high v = v / 256
 
+-- a process as a row
 unfoldable pub processBytes : Process → List ℕ
 processBytes x =
     x .tag ∷ x .mode ∷ x .result ∷ x .count
@@ -107,55 +118,69 @@ procsOf l n = build (processAt l) n
 
 -- ---- a variable row: 4 bytes, a sort (0 unbound, 1 constant, 2 variable), then a three-byte number
 
+-- the length of a variable row
 abbrev pub cellSize : ℕ
 cellSize = 4
 
+-- the sort in row v: 0 unbound, 1 a constant, 2 a variable
 abbrev pub sortAt : List ℕ → ℕ → ℕ
 sortAt l v = getD l (v * 4) 0
 
+-- the number in row v, three bytes
 abbrev pub numberAt : List ℕ → ℕ → ℕ
 numberAt l v = getD l (v * 4 + 1) 0 + getD l (v * 4 + 2) 0 * 256 + getD l (v * 4 + 3) 0 * 65536
 
--- an unknown sort, which the table rules refuse, reads as the last case
+-- what sort and number say; an unknown sort, which the table rules refuse, reads as the last case
 unfoldable pub bindingBy : ℕ → ℕ → Binding
 bindingBy sort n = cond (eqb sort 0) Free (cond (eqb sort 1) (Bound (Const n)) (Bound (Var n)))
 
+-- row v as a binding
 unfoldable pub bindingAt : List ℕ → ℕ → Binding
 bindingAt l v = bindingBy (sortAt l v) (numberAt l v)
 
+-- the sort of a binding
 abbrev pub sortCode : Binding → ℕ
 sortCode Free = 0
 sortCode (Bound (Const c)) = 1
 sortCode (Bound (Var v)) = 2
 
+-- the number of a binding
 abbrev pub numberCode : Binding → ℕ
 numberCode Free = 0
 numberCode (Bound (Const c)) = c
 numberCode (Bound (Var v)) = v
 
+-- a binding as a row
 unfoldable pub bindingBytes : Binding → List ℕ
 bindingBytes b = sortCode b ∷ numberCode b % 256 ∷ numberCode b / 256 % 256 ∷ numberCode b / 65536 ∷ []
 
+-- the first n rows
 unfoldable pub varsIn : List ℕ → ℕ → List Binding
 varsIn l n = build (bindingAt l) n
 
 -- ---- the head: the counts (processes 2 bytes, variables 2), then the marker (last process stepped 2, steps 4)
 
+-- the length of the head
 abbrev pub headSize : ℕ
 headSize = 10
 
+-- how many processes are in use
 abbrev pub procCount : List ℕ → ℕ
 procCount h = u16At h 0
 
+-- how many variables are in use
 abbrev pub varCount : List ℕ → ℕ
 varCount h = u16At h 2
 
+-- Turns 4: the process stepped last
 abbrev pub markerLast : List ℕ → ℕ
 markerLast h = u16At h 4
 
+-- Turns 4: the steps so far
 abbrev pub markerSteps : List ℕ → ℕ
 markerSteps h = u16At h 6 + u16At h 8 * 65536
 
+-- counts and marker as a head
 unfoldable pub headBytes : ℕ → ℕ → ℕ → ℕ → List ℕ
 headBytes n m last steps =
     low n ∷ high n ∷ low m ∷ high m ∷ low last ∷ high last
@@ -163,12 +188,13 @@ headBytes n m last steps =
 
 -- ---- what a call is lent
 
+-- the three rows of bytes that a call is lent
 pub record Lent : Type 0 where
   pub head : List ℕ
   pub procs : List ℕ
   pub vars : List ℕ
 
--- the tables that lent bytes hold
+-- the tables that these bytes hold
 unfoldable pub tablesIn : Lent → Tables
 tablesIn l = record {
   state = record { procs = procsOf (l .procs) (procCount (l .head)); vars = varsIn (l .vars) (varCount (l .head)) };
@@ -176,16 +202,16 @@ tablesIn l = record {
   steps = markerSteps (l .head);
 }
 
--- the bytes of rows in order
+-- rows one after the other
 unfoldable pub rowsBytes : {A : Type 0} → (A → List ℕ) → List A → List ℕ
 rowsBytes bytes [] = []
 rowsBytes bytes (x ∷ xs) = bytes x ++ rowsBytes bytes xs
 
--- The refusal numbers, last: the bytes past the used rows stay
+-- Refusals 23: rows at the front, every byte behind them as it was
 unfoldable pub written : List ℕ → List ℕ → List ℕ
 written rows old = rows ++ drop (length rows) old
 
--- lent bytes after they hold these tables
+-- the lent bytes once they hold these tables
 unfoldable pub putTables : Lent → Tables → Lent
 putTables l t = record {
   head = headBytes (length (t .state .procs)) (length (t .state .vars)) (t .last) (t .steps);
@@ -193,27 +219,29 @@ putTables l t = record {
   vars = written (rowsBytes bindingBytes (t .state .vars)) (l .vars);
 }
 
--- ---- A run's tables, 2: the start
+-- ---- the start
 
--- a process for a whole goal; a row holds zeros where its tag names nothing
+-- the places of a process for a whole goal
 abbrev pub goalSpot : Kind → ℕ → ℕ → Spot
 goalSpot kind k base = record { kind = kindCode kind; clause = k; base = base; stage = 0; literal = 0; block = 0; found = 0; first = 0 }
 
+-- a process just made: nothing to tell, nothing noted
 unfoldable pub newProcess : Tag → Mode → ℕ → Spot → Process
 newProcess t m parent z = record { tag = tagCode t; mode = modeCode m; result = resultCode none; count = 0; parent = parent; spot = z; notes = noNotes }
 
--- process 0 gets the goal, mode starting, tag by the rule of goals; the goal's variables are numbers 0 upward, unbound
+-- Tables 2: one process for the goal, about to start, and the goal's variables free
 unfoldable pub fresh : Program → State
 fresh pr = record { procs = newProcess (tagOfGoal (pr .goal)) starting 0 (goalSpot the-goal 0 0) ∷ []; vars = replicate (pr .goalVars) Free }
 
--- the turn marker is 0 with 0 steps
+-- Tables 2: no process has been stepped
 unfoldable pub freshTables : Program → Tables
 freshTables pr = record { state = fresh pr; last = 0; steps = 0 }
 
--- and unused rows hold zeros
+-- Tables 2: unused bytes
 unfoldable pub zeros : ℕ → List ℕ
 zeros n = replicate n 0
 
+-- Tables 2: the bytes after a start
 unfoldable pub startedLent : Limits → Program → Lent
 startedLent lim pr =
     putTables (record { head = zeros headSize; procs = zeros (lim .procs * rowSize); vars = zeros (lim .vars * cellSize) }) (freshTables pr)

@@ -20,7 +20,7 @@ use Rattle.parlog.specs.declared.Term.the-variants.{Const, Var}
 
 -- ---- numbers in decimal
 
--- the digits of n in front of what follows; the fuel is their largest number
+-- the digits of n in front of what follows; the fuel is how many there can be
 unfoldable pub digits : ℕ → ℕ → List ℕ → List ℕ
 digits zero n rest = rest
 digits (suc f) n rest = cond (ltb n 10) ((48 + n) ∷ rest) (digits f (n / 10) ((48 + n % 10) ∷ rest))
@@ -31,6 +31,7 @@ decimal n rest = digits 20 n rest
 
 -- ---- words
 
+-- the end of a line
 abbrev pub newline : List ℕ
 newline = 10 ∷ []
 
@@ -58,7 +59,7 @@ refused-word = 114 ∷ 101 ∷ 102 ∷ 117 ∷ 115 ∷ 101 ∷ 100 ∷ 32 ∷ []
 abbrev pub at-word : List ℕ
 at-word = 32 ∷ 97 ∷ 116 ∷ 32 ∷ []
 
--- "success", "failure", "waiting", "room", "budget"
+-- Turns 11: "success", "failure", "waiting", "room", "budget"
 abbrev pub endWord : End → List ℕ
 endWord Success = 115 ∷ 117 ∷ 99 ∷ 99 ∷ 101 ∷ 115 ∷ 115 ∷ []
 endWord Failure = 102 ∷ 97 ∷ 105 ∷ 108 ∷ 117 ∷ 114 ∷ 101 ∷ []
@@ -68,11 +69,12 @@ endWord Budget = 98 ∷ 117 ∷ 100 ∷ 103 ∷ 101 ∷ 116 ∷ []
 
 -- ---- lines
 
--- a constant C, or _J for an unbound value J
+-- Turns 11: a constant as it is, a variable with a mark in front
 abbrev pub termText : Term → List ℕ
 termText (Const c) = decimal c newline
 termText (Var v) = 95 ∷ decimal v newline
 
+-- Turns 11: the line of goal variable i
 unfoldable pub varLine : List Binding → ℕ → List ℕ
 varLine vs i = var-word ++ decimal i (equals-word ++ termText (value vs (Var i)))
 
@@ -81,17 +83,20 @@ unfoldable pub varLines : List Binding → ℕ → ℕ → List ℕ
 varLines vs i zero = []
 varLines vs i (suc n) = varLine vs i ++ varLines vs (suc i) n
 
+-- Turns 11: what is printed of a run
 unfoldable pub runText : Program → Running → List ℕ
 runText pr r =
     steps-word ++ decimal (r .moves) (newline ++ end-word ++ endWord (r .end) ++ newline ++ varLines (r .tables .state .vars) 0 (pr .goalVars))
 
+-- Turns 12: what is printed of a refusal
 unfoldable pub refusedText : Refusal → List ℕ
 refusedText r = refused-word ++ decimal (r .number) (at-word ++ decimal (r .offset) newline)
 
--- runs with limit 60,000; where the load answers a refusal instead, only that
+-- Turns 11, 12: by the load's answer, with the runner's limit
 abbrev pub textOf : Loaded → Limits → List ℕ → List ℕ
 textOf (Refused r) lim s = refusedText r
 textOf (Accepted r c) lim s = runText (programOf s r c) (runTables 60000 lim (programOf s r c) (freshTables (programOf s r c)))
 
+-- Turns 11: what the runner prints for an image
 unfoldable pub runnerText : Limits → List ℕ → List ℕ
 runnerText lim s = textOf (loadOf s) lim s
