@@ -9,3 +9,9 @@ pub mod Values
 pub mod Unified
 pub mod Decided
 pub mod Good
+pub mod Sane
+pub mod Rows
+pub mod Terms
+pub mod Bindings
+pub mod Made
+pub mod Keeps
