@@ -82,7 +82,7 @@ pub record Safe (pr : Program) (s : State) (p : ℕ) (d : Delta) : Type 0 where
 
 -- ---- kin
 
-kin-parent : (pr : Program) (ps : List Process) (i : ℕ) (x : Process) → kinOk pr ps i x ≡ true → x .parent ≤ i
+pub kin-parent : (pr : Program) (ps : List Process) (i : ℕ) (x : Process) → kinOk pr ps i x ≡ true → x .parent ≤ i
 unfolding kinOk
 kin-parent pr ps zero x e = omega (arith, eqb-true (x .parent) 0 (and-true (eqb (x .parent) 0) _ (and-true (isTag (tagOfGoal (pr .goal)) (x .tag)) _ e .1) .0))
 kin-parent pr ps (suc i) x e = omega (arith, ltb-true (x .parent) (suc i) (and-true (ltb (x .parent) (suc i)) _ e .0))

@@ -15,3 +15,6 @@ pub mod Terms
 pub mod Bindings
 pub mod Made
 pub mod Keeps
+pub mod Moves
+pub mod Kept
+pub mod Assume

@@ -239,7 +239,7 @@ isNewMode reporting = false
 isNewMode suspended = false
 
 module _ (pr : Program) (n p : ℕ) (t : Tag) (z : Spot) where
-  new-row : (m : Mode) → isNewMode m ≡ true → z .kind < 3 → placesOk t pr n z ≡ true → (i : ℕ) → Row pr n i (newProcess t m p z)
+  pub new-row : (m : Mode) → isNewMode m ≡ true → z .kind < 3 → placesOk t pr n z ≡ true → (i : ℕ) → Row pr n i (newProcess t m p z)
   unfolding newProcess
   new-row dormant w k e i = never w
   new-row ready w k e i = record {
