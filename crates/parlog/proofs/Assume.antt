@@ -2,12 +2,14 @@
 use mathlib.Core.Path.{_∙_, _≡_, ap, sym}
 use mathlib.Core.Logic.{_≢_, _⊎_, inl, inr}
 use mathlib.Core.Bool.{_&&_, not, true}
-use mathlib.Core.List.{[]}
-use Prim.Native.Nat.{_+_, _<_, _≤_, ℕ}
+use mathlib.Core.List.{[], _∷_, List}
+use Prim.Native.Nat.{_+_, _<_, _≤_, suc, zero, ℕ}
 use lib.Dec.{eqb, leb, ltb}
-use lib.ListN.{getD, length, List·getD-eq-default}
+use lib.ListN.{getD, length, List·getD-eq-default, take}
+use lib.Seq.{getD-take, length-take-le}
 use borrow.Author.Tests.{eq-eqb, eqb-false, eqb-true, leb-true, ltb-false, ltb-true, not-true}
-use native.Mathlib.Nat.{not-suc-le-zero}
+use native.Mathlib.Omega.{arith}
+use native.Mathlib.Nat.{le-of-suc-le-suc, not-suc-le-zero}
 use Rattle.parlog.proofs.Bindings.{Bindings}
 use Rattle.parlog.proofs.Bools.{and-true, implies-true, split}
 use Rattle.parlog.proofs.Coded.{code-tag, tag-code}
@@ -117,6 +119,12 @@ module _ (pr : Program) (n : ℕ) where
     places-there guard-eval e = clause-there (z .found) (z .first) e
     places-there equate e = equality-there e
 
+below-at : (n : ℕ) (ns : List ℕ) → allBelow n ns ≡ true → (j : ℕ) → j < length ns → getD ns j 0 < n
+unfolding allBelow
+below-at n [] e j h = absurd (not-suc-le-zero h)
+below-at n (v ∷ ns) e zero h = ltb-true v n (and-true (ltb v n) (allBelow n ns) e .0)
+below-at n (v ∷ ns) e (suc j) h = below-at n ns (and-true (ltb v n) (allBelow n ns) e .1) j (le-of-suc-le-suc h)
+
 module _ (lim : Limits) (pr : Program) (s : State) (ok : stateOk lim pr s ≡ true) where
   ruled : Ruled lim pr s
   ruled = state-facts lim pr s ok
@@ -171,8 +179,14 @@ module _ (lim : Limits) (pr : Program) (s : State) (ok : stateOk lim pr s ≡ tr
     unfolding notesOk
     assume-notes m =
         let a = and-true (leb (me s p .count) 4) (allBelow (length (s .vars)) (noted (me s p)))
-                (implies-true (isMode suspended (me s p .mode)) (leb (me s p .count) 4 && allBelow (length (s .vars)) (noted (me s p))) (row .notes) (eq-eqb (me s p .mode) (modeCode suspended) m)) in
+        (implies-true (isMode suspended (me s p .mode)) (leb (me s p .count) 4 && allBelow (length (s .vars)) (noted (me s p))) (row .notes) (eq-eqb (me s p .mode) (modeCode suspended) m)) in
         (leb-true (me s p .count) 4 (a .0), a .1)
+
+    pub assume-note : me s p .mode ≡ modeCode suspended → (j : ℕ) → j < me s p .count → me s p .count ≤ length (me s p .notes) → getD (me s p .notes) j 0 < length (s .vars)
+    unfolding noted
+    assume-note m j h l =
+        let e : length (take (me s p .count) (me s p .notes)) ≡ me s p .count = length-take-le (me s p .count) (me s p .notes) l in
+        rw (getD-take (me s p .count) (me s p .notes) j 0 h) at (below-at (length (s .vars)) (take (me s p .count) (me s p .notes)) (assume-notes m .1) j (omega arith))
 
     -- the child of a seq-search is an or-search, that of an or-search a try-clause
     pub assume-search : me s p .tag ≡ tagCode seq-search → {c : ℕ} → Child s p c → me s c .tag ≡ tagCode or-search

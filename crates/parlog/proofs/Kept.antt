@@ -66,7 +66,8 @@ fresh-ruled lim pr h g =
       fewVars = omega arith;
       each = λ i k. rw (below-one i k) (goal-row pr);
       kin = λ i k. rw (below-one i k) (goal-kin pr (goalProcess pr ∷ []));
-      bindings = bindings-free (pr .goalVars) }
+      bindings = bindings-free (pr .goalVars);
+    }
 
 pub fresh-keeps : (lim : Limits) (pr : Program) → 1 ≤ lim .procs → pr .goalVars ≤ lim .vars → tablesOk lim pr (freshTables pr) ≡ true
 unfolding tablesOk freshTables
@@ -90,6 +91,7 @@ module _ (lim : Limits) (pr : Program) (sane : Sane pr) where
       by hp still q w = cc
       by hp room q w = cc
       by hp (moved c d) q w = let z : stepped t p d ≡ t′ = cc in rw z at (stepped-keeps t p c d hp ok q)
+
       go : (b : Bool) → ltb p (procsIn t) ≡ b → cond b (stepBy (move lim pr (t .state) p) t p) (unmade 9) ≡ made m t′ → tablesOk lim pr t′ ≡ true
       go true h w = by (ltb-true p (procsIn t) h) (move lim pr (t .state) p) refl w
       go false h w = cc
@@ -103,7 +105,7 @@ module _ (lim : Limits) (pr : Program) (sane : Sane pr) where
       go (At p) w = step-keeps t t′ p m ok w
 
   run-step : (t : Tables) → tablesOk lim pr t ≡ true → (p n : ℕ) (go : Tables → Running) → ((t′ : Tables) → tablesOk lim pr t′ ≡ true → tablesOk lim pr (go t′ .tables) ≡ true)
-    → (a : Stepping) → stepTables lim pr t p ≡ a → tablesOk lim pr (runStep a n t go .tables) ≡ true
+      → (a : Stepping) → stepTables lim pr t p ≡ a → tablesOk lim pr (runStep a n t go .tables) ≡ true
   unfolding runStep
   run-step t ok p n go h (unmade k) e = ok
   run-step t ok p n go h (made m t′) e = h t′ (step-keeps t t′ p m ok e)
@@ -143,7 +145,8 @@ supplied-ruled lim pr t w c ru h =
       fewVars = rw l (ru .fewVars);
       each = rw l (ru .each);
       kin = ru .kin;
-      bindings = bindings-changed (suc w) (t .state .vars) cs (ru .bindings) (unfold allOf in rw (lt-ltb w (suc w) (omega arith), h)) }
+      bindings = bindings-changed (suc w) (t .state .vars) cs (ru .bindings) (unfold allOf in rw (lt-ltb w (suc w) (omega arith), h));
+    }
 
 supplied-keeps : (lim : Limits) (pr : Program) (t : Tables) (w c : ℕ) → tablesOk lim pr t ≡ true → leb c 32767 ≡ true → tablesOk lim pr (supplied t w c) ≡ true
 unfolding tablesOk
@@ -158,6 +161,7 @@ supply-keeps lim pr t t′ v c w ok e = go (ltb v (pr .goalVars)) (leb c 32767) 
     by : (u : Term) → leb c 32767 ≡ true → supplyValue u t c ≡ given w t′ → tablesOk lim pr t′ ≡ true
     by (Const k) h q = cc
     by (Var x) h q = let z : supplied t x c ≡ t′ = cc in rw z at (supplied-keeps lim pr t x c ok h)
+
     go : (a b : Bool) → leb c 32767 ≡ b → cond a (cond b (supplyValue (value (t .state .vars) (Var v)) t c) (ungiven 14)) (ungiven 12) ≡ given w t′ → tablesOk lim pr t′ ≡ true
     go false b h q = cc
     go true false h q = cc

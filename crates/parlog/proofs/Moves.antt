@@ -128,7 +128,7 @@ module _ (lim : Limits) (pr : Program) (sane : Sane pr) (s : State) (p : ℕ) (o
   spot-stays k z e = (refl, refl, e)
 
   own : (t : Tag) → tagOf (x .tag) ≡ t → (y : Process) → Stays y → y .mode < 6 → y .result < 3 → resultOk p y ≡ true → placesOk t pr n (y .spot) ≡ true → goingOk t pr n y ≡ true
-    → notesOk n y ≡ true → Row pr n p y
+      → notesOk n y ≡ true → Row pr n p y
   own t et y st md rs re pl go nt =
       let ty : tagOf (y .tag) ≡ t = ap tagOf (st .0) ∙ et in
       record {
@@ -136,7 +136,8 @@ module _ (lim : Limits) (pr : Program) (sane : Sane pr) (s : State) (p : ℕ) (o
         result = re;
         places = rw ty pl;
         going = rw ty go;
-        notes = nt }
+        notes = nt;
+      }
 
   -- ---- shapes of changes
 
@@ -145,7 +146,7 @@ module _ (lim : Limits) (pr : Program) (sane : Sane pr) (s : State) (p : ℕ) (o
 
   -- no new variables
   safe-by : (t : Tag) → tagOf (x .tag) ≡ t → (y : Process) (c : Bool) (f : Found) (new : List Process) (cs : List Change) → Stays y → Row pr n p y → ((k : ℕ) → f ≡ At k → k ≢ 0)
-    → AllNew pr n p t new → changesIn n cs ≡ true → Safe pr s p (record { me = y; cut = c; nap = f; new = new; changes = cs; fresh = 0 })
+      → AllNew pr n p t new → changesIn n cs ≡ true → Safe pr s p (record { me = y; cut = c; nap = f; new = new; changes = cs; fresh = 0 })
   safe-by t et y c f new cs st r nap all e =
       record { tag = st .0; parent = st .1; kind = st .2; own = rw add-zero r; napped = nap; new = rw (add-zero, et) all; changes = rw add-zero e }
 
@@ -153,7 +154,7 @@ module _ (lim : Limits) (pr : Program) (sane : Sane pr) (s : State) (p : ℕ) (o
   safe-only y st r = safe-by (tagOf (x .tag)) refl y false Nothing [] [] st r not-there tt (none-changed n)
 
   safe-report : (r : Result) → isResult none (resultCode r) ≡ false → (t : Tag) → tagOf (x .tag) ≡ t → (y : Process) → Stays y → (cs : List Change) → changesIn n cs ≡ true
-    → placesOk t pr n (y .spot) ≡ true → goingOk t pr n (withResult r y) ≡ true → Safe pr s p (reporting-with r y cs)
+      → placesOk t pr n (y .spot) ≡ true → goingOk t pr n (withResult r y) ≡ true → Safe pr s p (reporting-with r y cs)
   unfolding withResult
   safe-report r told t et y st cs e pl go =
       safe-by t et (withResult r y) true Nothing [] cs st
@@ -171,20 +172,20 @@ module _ (lim : Limits) (pr : Program) (sane : Sane pr) (s : State) (p : ℕ) (o
 
   -- a live mode that reports nothing and suspends nothing, at another spot
   in-spot : (t : Tag) → tagOf (x .tag) ≡ t → (k : Mode) → isMode reporting (modeCode k) ≡ false → isMode dormant (modeCode k) ≡ false → isMode suspended (modeCode k) ≡ false
-    → (z : Spot) → z .kind ≡ x .spot .kind → placesOk t pr n z ≡ true → goingOk t pr n (withSpot k z x) ≡ true → Row pr n p (withSpot k z x)
+      → (z : Spot) → z .kind ≡ x .spot .kind → placesOk t pr n z ≡ true → goingOk t pr n (withSpot k z x) ≡ true → Row pr n p (withSpot k z x)
   unfolding withSpot
   in-spot t et k a b c z e pl go =
       own t et (withSpot k z x) (refl, refl, e) (mode-known k) (row .numbers .result) (result-live p (withSpot k z x) a b) pl go (notes-none n (withSpot k z x) c)
 
   in-mode : (t : Tag) → tagOf (x .tag) ≡ t → (k : Mode) → isMode reporting (modeCode k) ≡ false → isMode dormant (modeCode k) ≡ false → isMode suspended (modeCode k) ≡ false
-    → goingOk t pr n (withMode k x) ≡ true → Row pr n p (withMode k x)
+      → goingOk t pr n (withMode k x) ≡ true → Row pr n p (withMode k x)
   unfolding withMode
   in-mode t et k a b c go =
       own t et (withMode k x) (refl, refl, refl) (mode-known k) (row .numbers .result) (result-live p (withMode k x) a b) (places t et) go (notes-none n (withMode k x) c)
 
   -- processes made, and the mover waits
   okay-wait : (m : Move) (t : Tag) → tagOf (x .tag) ≡ t → (new : List Process) → goingOk t pr n (withMode waiting x) ≡ true → AllNew pr n p t new
-    → Okay pr s p (by-rule m (making (withMode waiting x) Nothing new 0))
+      → Okay pr s p (by-rule m (making (withMode waiting x) Nothing new 0))
   okay-wait m t et new go all = ok-by (safe-by t et (withMode waiting x) false Nothing new [] (mode-stays waiting) (in-mode t et waiting refl refl refl go) not-there all (none-changed n))
 
   -- ---- starting
@@ -210,7 +211,7 @@ module _ (lim : Limits) (pr : Program) (sane : Sane pr) (s : State) (p : ℕ) (o
   okay-or-par et = okay-wait _ or-par et _ refl (new-search pr n p (x .spot) known (places or-par et), tt)
 
   okay-searching : tagOf (x .tag) ≡ seq-search → (m : Move) (b : ℕ) → ltb b (blockCount pr (literalAt pr (x .spot) .rel)) ≡ true → (f : Found) → ((k : ℕ) → f ≡ At k → k ≢ 0)
-    → Okay pr s p (by-rule m (searching b p x f))
+      → Okay pr s p (by-rule m (searching b p x f))
   unfolding searching placesOk
   okay-searching et m b e f nap =
       let c : callIn pr n (x .spot) ≡ true = places seq-search et in
@@ -232,8 +233,8 @@ module _ (lim : Limits) (pr : Program) (sane : Sane pr) (s : State) (p : ℕ) (o
       let ks : List ℕ = blockOf pr (literalAt pr (x .spot) .rel) (x .spot .block) in
       let st = mode-stays waiting in
       let all : AllNew pr (n + triesVars pr ks) p (tagOf (x .tag)) (tries pr p (x .spot) n ks)
-              = rw et (new-tries pr (n + triesVars pr ks) p (x .spot) known (call-more pr n (n + triesVars pr ks) (omega arith) (x .spot) (a .0)) n ks
-                  (block-clauses pr (literalAt pr (x .spot) .rel) (x .spot .block)) (omega arith)) in
+      = rw et (new-tries pr (n + triesVars pr ks) p (x .spot) known (call-more pr n (n + triesVars pr ks) (omega arith) (x .spot) (a .0)) n ks
+      (block-clauses pr (literalAt pr (x .spot) .rel) (x .spot .block)) (omega arith)) in
       ok-by (record {
         tag = st .0;
         parent = st .1;
@@ -241,7 +242,8 @@ module _ (lim : Limits) (pr : Program) (sane : Sane pr) (s : State) (p : ℕ) (o
         own = row-more pr n (n + triesVars pr ks) (omega arith) p (withMode waiting x) (in-mode or-search et waiting refl refl refl (unfold goingOk withMode in refl));
         napped = not-there;
         new = all;
-        changes = none-changed (n + triesVars pr ks) })
+        changes = none-changed (n + triesVars pr ks);
+      })
 
   okay-try-clause : tagOf (x .tag) ≡ try-clause → Okay pr s p (tryClauseStart s p x)
   unfolding tryClauseStart placesOk goingOk tryIn
@@ -266,7 +268,7 @@ module _ (lim : Limits) (pr : Program) (sane : Sane pr) (s : State) (p : ℕ) (o
       (going-quiet (tagOf (x .tag)) pr n (withNotes ns x) refl refl) (unfold notesOk noted in rw (le-leb (length ns) 4 few, four-kept ns few) lo)))
 
   okay-binding : (m : Move) (t : Tag) → tagOf (x .tag) ≡ t → goingOk t pr n (withResult success x) ≡ true → (cs : List Change) → changesIn n cs ≡ true
-    → Okay pr s p (by-rule m (reporting-with success x cs))
+      → Okay pr s p (by-rule m (reporting-with success x cs))
   okay-binding m t et go cs e = ok-by (safe-report success refl t et x self cs e (places t et) go)
 
   okay-matched : tagOf (x .tag) ≡ input-match → (d : Decided) → DecidedIn n 4 d → Okay pr s p (inputMatchStart d p x)
@@ -360,9 +362,11 @@ module _ (lim : Limits) (pr : Program) (sane : Sane pr) (s : State) (p : ℕ) (o
   unfolding orParHeard goingOk
   okay-spawn et c h false e = okay-succeed _ or-par et refl
   okay-spawn et c h true e =
-      ok-by (safe-by or-par et x false (At c) (bodyChild pr p (me s c .spot .found) (me s c .spot .first) ∷ []) [] self row (nap c (h .latest .child))
-      (new-body pr n p (me s c .spot .found) (me s c .spot .first)
-      (child-found c (h .latest .child) (h .reports) (inl (code-tag seq-search (me s c .tag) (eqb-true (me s c .tag) (tagCode seq-search) e)))), tt) (none-changed n))
+      ok-by (safe-by or-par et x false (At c) (bodyChild pr p (me s c .spot .found) (me s c .spot .first) ∷ []) [] self row (nap c (h .latest .child)) (
+        new-body pr n p (me s c .spot .found) (me s c .spot .first)
+            (child-found c (h .latest .child) (h .reports) (inl (code-tag seq-search (me s c .tag) (eqb-true (me s c .tag) (tagCode seq-search) e)))),
+        tt,
+      ) (none-changed n))
 
   okay-call : tagOf (x .tag) ≡ or-par → (h : Heard) → heard (s .procs) p ≡ h → Okay pr s p (orParWait h pr s p x)
   unfolding orParWait
@@ -372,7 +376,7 @@ module _ (lim : Limits) (pr : Program) (sane : Sane pr) (s : State) (p : ℕ) (o
 
   -- a search reports success with the clause of child c
   okay-found : (m : Move) (t : Tag) → tagOf (x .tag) ≡ t → (c : ℕ) → placesOk t pr n (withClause (me s c .spot .found) (me s c .spot .first) (x .spot)) ≡ true
-    → goingOk t pr n (withResult success (withFound s c x)) ≡ true → Okay pr s p (by-rule m (report success (withFound s c x)))
+      → goingOk t pr n (withResult success (withFound s c x)) ≡ true → Okay pr s p (by-rule m (report success (withFound s c x)))
   okay-found m t et c pl go =
       let z : Spot = withClause (me s c .spot .found) (me s c .spot .first) (x .spot) in
       ok-by (safe-report success refl t et (withFound s c x) (unfold withFound in spot-stays reporting z (same-with-clause (x .spot) (me s c .spot .found) (me s c .spot .first) .goal .kind)) [] (none-changed n)
@@ -511,19 +515,21 @@ moved-by lim pr s p m d e = go (ruleOf pr s p) refl e
         let zc : c ≡ m = cc in
         let zb : b ≡ d = cc in
         rw (← zc, ← zb) (record { rule = q; rows = leb-true (length (s .procs) + length (b .new)) (lim .procs) (a .0); vars = leb-true (length (s .vars) + b .fresh) (lim .vars) (a .1) })
+
     test : (c : Move) (b : Delta) (t : Bool) → fits lim s b ≡ t → ruleOf pr s p ≡ by-rule c b → cond t (moved c b) room ≡ moved m d → MovedBy lim pr s p m d
     test c b true f q w = fit c b f q w
     test c b false f q w = absurd (let z : _≡_ {A = ℕ} 0 1 = cc in omega arith)
+
     go : (a : Applied) → ruleOf pr s p ≡ a → withRoom lim s a ≡ moved m d → MovedBy lim pr s p m d
     go no-rule q w = absurd (let z : _≡_ {A = ℕ} 0 1 = cc in omega arith)
     go (by-rule c b) q w = test c b (fits lim s b) refl q w
 
 -- EVERY MOVE KEEPS THE TABLE RULES
 pub move-keeps : (lim : Limits) (pr : Program) → Sane pr → (s : State) (p : ℕ) (m : Move) (d : Delta)
-  → stateOk lim pr s ≡ true → move lim pr s p ≡ moved m d → stateOk lim pr (apply s p d) ≡ true
+    → stateOk lim pr s ≡ true → move lim pr s p ≡ moved m d → stateOk lim pr (apply s p d) ≡ true
 move-keeps lim pr sane s p m d ok e =
     let r = moved-by lim pr s p m d e in
     split (ltb p (length (s .procs)))
     (λ l. let hp : p < length (s .procs) = ltb-true p (length (s .procs)) l in
-        state-test lim pr (apply s p d) (apply-keeps lim pr s p d (state-facts lim pr s ok) hp (safe-rule lim pr sane s p ok hp m d (r .rule)) (r .rows) (r .vars)))
+    state-test lim pr (apply s p d) (apply-keeps lim pr s p d (state-facts lim pr s ok) hp (safe-rule lim pr sane s p ok hp m d (r .rule)) (r .rows) (r .vars)))
     (λ l. absurd (let z : _≡_ {A = ℕ} 0 1 = cc (past-rule pr s p (ltb-false p (length (s .procs)) l), r .rule) in omega arith))

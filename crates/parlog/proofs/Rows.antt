@@ -218,7 +218,7 @@ row-asleep pr n i true x h r = record {
 }
 row-asleep pr n i false x h r = r
 
--- ---- a new row; every number but 0 is a successor
+-- ---- a new row
 
 pub record New (pr : Program) (n p : ℕ) (up : Tag) (y : Process) : Type 0 where
   pub parent : y .parent ≡ p

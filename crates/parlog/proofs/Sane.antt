@@ -1,5 +1,5 @@
 -- What an accepted image gives: its terms are constants or variables of their own clause or goal, and no relation has over four arguments.
-use mathlib.Core.Path.{_≡_, refl}
+use mathlib.Core.Path.{_≡_, ap, refl}
 use mathlib.Core.Bool.{_&&_, Bool, true}
 use mathlib.Core.List.{[], _++_, _∷_, List}
 use Prim.Native.Nat.{_≤_, suc, zero, ℕ}
@@ -7,6 +7,7 @@ use lib.Dec.{leb, ltb}
 use lib.ListN.{getD, length}
 use Rattle.parlog.proofs.Bools.{and-true, true-and}
 use Rattle.parlog.specs.Program.{Clause, clauseAt, Goal, Literal, modesAt, Program}
+use Rattle.parlog.specs.Scan.{each, listOf}
 use Rattle.parlog.specs.declared.Term.{Term}
 use Rattle.parlog.specs.declared.Term.the-variants.{Const, Var}
 
@@ -60,3 +61,9 @@ module _ {A : Type 0} where
   all-of-at f d z [] e i = z
   all-of-at f d z (x ∷ xs) e zero = and-true (f x) (allOf f xs) e .0
   all-of-at f d z (x ∷ xs) e (suc i) = all-of-at f d z xs (and-true (f x) (allOf f xs) e .1) i
+
+  -- over items read in a row
+  pub all-of-listed : (f : A → Bool) (read : ℕ → A) (next : ℕ → ℕ) (n i : ℕ) → allOf f (listOf read next n i) ≡ each (λ j. f (read j)) next n i
+  unfolding allOf listOf each
+  all-of-listed f read next zero i = refl
+  all-of-listed f read next (suc n) i = ap (λ b. f (read i) && b) (all-of-listed f read next n (next i))
