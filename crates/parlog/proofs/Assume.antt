@@ -17,7 +17,7 @@ use Rattle.parlog.proofs.Good.{state-good}
 use Rattle.parlog.proofs.Keeps.{kin-parent, Ruled, state-facts}
 use Rattle.parlog.proofs.Kin.{reports-test}
 use Rattle.parlog.proofs.Moves.{block-makes, names-found, search-makes}
-use Rattle.parlog.proofs.Rows.{Known, Row}
+use Rattle.parlog.proofs.RowRules.{Known, Row}
 use Rattle.parlog.proofs.Terms.{goal-fits, sizeAt}
 use Rattle.parlog.specs.Codes.{and-par, and-seq, equate, guard-eval, input-match, isMode, modeCode, or-par, or-search, seq-search, success, suspended, Tag, tagCode, tagOf, try-clause, waiting}
 use Rattle.parlog.specs.Image.{equality}

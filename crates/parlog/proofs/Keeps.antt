@@ -12,7 +12,7 @@ use native.Mathlib.Nat.{le-of-suc-le-suc, not-suc-le-zero}
 use Rattle.parlog.proofs.Bindings.{Bindings, bindings-changed, bindings-facts, bindings-more, bindings-test, changed-length, changesIn}
 use Rattle.parlog.proofs.Bools.{and-true, never, or-true, split}
 use Rattle.parlog.proofs.Effects.{apply-count, apply-mover, apply-new, apply-other, sleepsIn}
-use Rattle.parlog.proofs.Rows.{AllNew, New, Row, row-asleep, row-facts, row-more, row-test}
+use Rattle.parlog.proofs.RowRules.{AllNew, New, Row, row-asleep, row-facts, row-more, row-test}
 use Rattle.parlog.proofs.Scans.{every-at, every-is}
 use Rattle.parlog.specs.Codes.{isTag, Tag, tagOf}
 use Rattle.parlog.specs.Delta.{apply, asleep, Delta, isAt, withMode}

@@ -13,7 +13,7 @@ use Rattle.parlog.proofs.Effects.{apply-count}
 use Rattle.parlog.proofs.Keeps.{Ruled, state-facts, state-test}
 use Rattle.parlog.proofs.Made.{goal-place}
 use Rattle.parlog.proofs.Moves.{move-keeps}
-use Rattle.parlog.proofs.Rows.{kind-known, new-row, Row}
+use Rattle.parlog.proofs.RowRules.{kind-known, new-row, Row}
 use Rattle.parlog.proofs.Sane.{allOf, Sane}
 use Rattle.parlog.specs.Codes.{kindOf, starting, tagCode, the-goal}
 use Rattle.parlog.specs.Delta.{apply, Delta}

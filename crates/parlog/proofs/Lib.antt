@@ -10,7 +10,7 @@ pub mod Unified
 pub mod Decided
 pub mod Good
 pub mod Sane
-pub mod Rows
+pub mod RowRules
 pub mod Terms
 pub mod Bindings
 pub mod Made

@@ -8,7 +8,7 @@ use lib.ListN.{getD, length}
 use borrow.Author.Tests.{le-leb, lt-ltb}
 use native.Mathlib.Omega.{arith}
 use Rattle.parlog.proofs.Bools.{and-true, true-and}
-use Rattle.parlog.proofs.Rows.{AllNew, kind-known, New, new-process}
+use Rattle.parlog.proofs.RowRules.{AllNew, kind-known, New, new-process}
 use Rattle.parlog.proofs.Sane.{all-of-append, allOf}
 use Rattle.parlog.specs.Codes.{and-par, and-seq, equate, guard-eval, input-match, Kind, kindOf, or-par, or-search, ready, seq-search, starting, Tag, the-body, the-goal, the-guard, try-clause}
 use Rattle.parlog.specs.Delta.{atBlock, atStage, blockSpot, callSpot, guardSpot, literalSpot, trySpot, withClause}
