@@ -14,3 +14,12 @@ pub mod Says
 pub mod Computes
 pub mod Exact
 pub mod Rows
+pub mod Sane
+pub mod RowRules
+pub mod Terms
+pub mod Bindings
+pub mod Made
+pub mod Keeps
+pub mod Moves
+pub mod Kept
+pub mod Assume
