@@ -1,10 +1,10 @@
 -- Unifying keeps the rules of bindings, and binds only variables below the count.
-use mathlib.Core.Path.{_∙_, _≡_, refl}
+use mathlib.Core.Path.{_≡_, refl}
 use mathlib.Core.Bool.{_&&_, Bool, cond, false, true}
 use mathlib.Core.List.{[], _++_, _∷_, List}
 use Prim.Native.Nat.{_+_, _<_, _≤_, suc, zero, ℕ}
 use lib.Dec.{eqb, leb, ltb}
-use lib.ListN.{length, length-append, length-set, List·getD-eq-default, replicate, set}
+use lib.ListN.{length, length-append, List·getD-eq-default, replicate, set}
 use lib.Seq.{getD-set-other, getD-set-same, set-out}
 use borrow.Author.Tests.{eqb-false, eqb-true, lt-leb, lt-ltb, ltb-false, ltb-true}
 use native.Mathlib.Omega.{arith}
@@ -66,11 +66,6 @@ bindings-changed n vs [] h e = h
 bindings-changed n vs (c ∷ cs) h e =
     let a = and-true (changeIn n c) (changesIn n cs) e in
     bindings-changed n (set vs (c .var) (Bound (c .to))) cs (bindings-set vs h (c .var) (Bound (c .to)) (and-true (ltb (c .var) n) _ (a .0) .1)) (a .1)
-
-pub changed-length : (vs : List Binding) (cs : List Change) → length (changed vs cs) ≡ length vs
-unfolding changed
-changed-length vs [] = refl
-changed-length vs (c ∷ cs) = changed-length (set vs (c .var) (Bound (c .to))) cs ∙ length-set vs (c .var) (Bound (c .to))
 
 free-ok : (n v i : ℕ) → bindingOk i (bindingOf (replicate n Free) v) ≡ true
 free-ok zero v i = refl

@@ -2,10 +2,10 @@
 use mathlib.Core.Path.{_∙_, _≡_, ap, refl, sym}
 use mathlib.Core.Logic.{_≢_}
 use mathlib.Core.Bool.{_&&_, _||_, Bool, false, true}
-use mathlib.Core.List.{_++_}
+use mathlib.Core.List.{[], _++_, _∷_, List}
 use Prim.Native.Nat.{_+_, _-_, _<_, _≤_, ℕ}
 use lib.Dec.{eqb, ltb}
-use lib.ListN.{getD, length, length-append, List·getD-append}
+use lib.ListN.{getD, length, length-append, length-replicate, length-set, List·getD-append, replicate, set}
 use lib.Seq.{ext-getD, getD-append-add}
 use borrow.Author.Tests.{eq-eqb, eqb-false, eqb-true, ltb-false, ltb-true, ne-eqb}
 use native.Mathlib.Omega.{arith}
@@ -16,6 +16,10 @@ use Rattle.parlog.specs.Notions.{After, me}
 use Rattle.parlog.specs.Scan.{build}
 use Rattle.parlog.specs.Tables.{at, idle, low, State}
 use Rattle.parlog.specs.Tree.{below}
+use Rattle.parlog.specs.Unify.{changed}
+use Rattle.parlog.specs.declared.Binding.{Binding}
+use Rattle.parlog.specs.declared.Binding.the-variants.{Bound, Free}
+use Rattle.parlog.specs.declared.Change.{Change}
 
 abbrev pub sleepsIn : State → ℕ → Delta → ℕ → Bool
 sleepsIn s p d i = (d .cut && below (s .procs) p i) || isAt (d .nap) i
@@ -25,10 +29,19 @@ pub record Agrees (s : State) (p : ℕ) (d : Delta) (Sleeps : ℕ → Type 0) : 
   pub sleeps : (i : ℕ) → i < length (s .procs) → sleepsIn s p d i ≡ true → Sleeps i
   pub stays : (i : ℕ) → i < length (s .procs) → sleepsIn s p d i ≡ false → Sleeps i → ⊥
 
+pub changed-length : (vs : List Binding) (cs : List Change) → length (changed vs cs) ≡ length vs
+unfolding changed
+changed-length vs [] = refl
+changed-length vs (c ∷ cs) = changed-length (set vs (c .var) (Bound (c .to))) cs ∙ length-set vs (c .var) (Bound (c .to))
+
 module _ (s : State) (p : ℕ) (d : Delta) where
   pub apply-count : length (apply s p d .procs) ≡ length (s .procs) + length (d .new)
   unfolding apply
   apply-count = length-append (build (rowAfter (s .procs) p d) (length (s .procs))) (d .new) ∙ rw (build-length (rowAfter (s .procs) p d) (length (s .procs)))
+
+  pub apply-vars : length (apply s p d .vars) ≡ length (s .vars) + d .fresh
+  unfolding apply
+  apply-vars = changed-length (s .vars ++ replicate (d .fresh) Free) (d .changes) ∙ simp (length-append, length-replicate)
 
   pub apply-row : (i : ℕ) → i < length (s .procs) → me (apply s p d) i ≡ rowAfter (s .procs) p d i
   unfolding apply

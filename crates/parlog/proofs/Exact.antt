@@ -2,15 +2,14 @@
 -- room; at most one applies; STILL exactly when none applies; ROOM exactly when one applies whose rows are not left.
 use mathlib.Core.Path.{_∙_, _≡_, ap, refl, sym}
 use mathlib.Core.Bool.{true}
-use mathlib.Core.List.{[], _++_, _∷_, List}
 use Prim.Native.Nat.{_+_, ℕ}
 use lib.Dec.{leb}
-use lib.ListN.{length, length-append, length-replicate, length-set, replicate, set}
+use lib.ListN.{length}
 use borrow.Author.Tests.{le-leb, leb-true}
 use native.Mathlib.Omega.{arith}
 use Rattle.parlog.proofs.Bools.{and-true, not-so, split, true-and}
 use Rattle.parlog.proofs.Computes.{computes}
-use Rattle.parlog.proofs.Effects.{apply-count}
+use Rattle.parlog.proofs.Effects.{apply-count, apply-vars}
 use Rattle.parlog.proofs.Good.{Good, state-good}
 use Rattle.parlog.proofs.Says.{Says, says, says-rule}
 use Rattle.parlog.specs.Delta.{apply, Delta}
@@ -21,10 +20,6 @@ use Rattle.parlog.specs.Relation.{Fits, Rule}
 use Rattle.parlog.specs.Rules.{Applied, by-rule, fits, move, moved, no-rule, room, ruleOf, still, withRoom}
 use Rattle.parlog.specs.TableRules.{stateOk}
 use Rattle.parlog.specs.Tables.{at, State}
-use Rattle.parlog.specs.Unify.{changed}
-use Rattle.parlog.specs.declared.Binding.{Binding}
-use Rattle.parlog.specs.declared.Binding.the-variants.{Bound, Free}
-use Rattle.parlog.specs.declared.Change.{Change}
 use Rattle.parlog.specs.declared.Move.{Move}
 
 -- the move that a process makes, and the tables after it
@@ -47,15 +42,6 @@ pub record NoRoom (lim : Limits) (pr : Program) (s : State) (p : ℕ) : Type 0 w
   pub full : Fits lim after → ⊥
 
 -- ---- room: what the tables have after a move
-
-changed-length : (vs : List Binding) (cs : List Change) → length (changed vs cs) ≡ length vs
-unfolding changed
-changed-length vs [] = refl
-changed-length vs (c ∷ cs) = changed-length (set vs (c .var) (Bound (c .to))) cs ∙ length-set vs (c .var) (Bound (c .to))
-
-pub apply-vars : (s : State) (p : ℕ) (d : Delta) → length (apply s p d .vars) ≡ length (s .vars) + d .fresh
-unfolding apply
-apply-vars s p d = changed-length (s .vars ++ replicate (d .fresh) Free) (d .changes) ∙ length-append (s .vars) (replicate (d .fresh) Free) ∙ rw (length-replicate (d .fresh) Free)
 
 fits-is : (lim : Limits) (s : State) (p : ℕ) (d : Delta) → fits lim s d ≡ true → Fits lim (apply s p d)
 unfolding fits

@@ -1,17 +1,17 @@
 -- The table rules as facts, and: a change with these side conditions keeps them.
-use mathlib.Core.Path.{_∙_, _≡_, ap, refl}
+use mathlib.Core.Path.{_≡_, ap, refl}
 use mathlib.Core.Logic.{_≢_, ⊎-elim}
 use mathlib.Core.Bool.{_&&_, Bool, false, not, true}
 use mathlib.Core.List.{[], _++_, _∷_, List}
 use Prim.Native.Nat.{_+_, _-_, _<_, _≤_, suc, zero, ℕ}
 use lib.Dec.{eqb, leb, ltb}
-use lib.ListN.{length, length-append, length-replicate, replicate}
+use lib.ListN.{length, replicate}
 use borrow.Author.Tests.{eqb-false, eqb-true, le-leb, leb-true, lt-ltb, ltb-false, ltb-true, not-true}
 use native.Mathlib.Omega.{arith}
 use native.Mathlib.Nat.{le-of-suc-le-suc, not-suc-le-zero}
-use Rattle.parlog.proofs.Bindings.{Bindings, bindings-changed, bindings-facts, bindings-more, bindings-test, changed-length, changesIn}
+use Rattle.parlog.proofs.Bindings.{Bindings, bindings-changed, bindings-facts, bindings-more, bindings-test, changesIn}
 use Rattle.parlog.proofs.Bools.{and-true, never, or-true, split}
-use Rattle.parlog.proofs.Effects.{apply-count, apply-mover, apply-new, apply-other, sleepsIn}
+use Rattle.parlog.proofs.Effects.{apply-count, apply-mover, apply-new, apply-other, apply-vars, sleepsIn}
 use Rattle.parlog.proofs.RowRules.{AllNew, New, Row, row-asleep, row-facts, row-more, row-test}
 use Rattle.parlog.proofs.Scans.{every-at, every-is}
 use Rattle.parlog.specs.Codes.{isTag, Tag, tagOf}
@@ -123,11 +123,6 @@ asleep-same false x = (refl, refl, refl)
 
 -- ---- the tables after a change
 
-module _ (pr : Program) (s : State) (p : ℕ) (d : Delta) where
-  pub apply-vars : length (apply s p d .vars) ≡ length (s .vars) + d .fresh
-  unfolding apply
-  apply-vars = changed-length (s .vars ++ replicate (d .fresh) Free) (d .changes) ∙ simp (length-append, length-replicate)
-
 module _ (lim : Limits) (pr : Program) (s : State) (p : ℕ) (d : Delta) (ru : Ruled lim pr s) (hp : p < length (s .procs)) (sa : Safe pr s p d) where
   abbrev n : ℕ
   n = length (s .vars) + d .fresh
@@ -181,7 +176,7 @@ module _ (lim : Limits) (pr : Program) (s : State) (p : ℕ) (d : Delta) (ru : R
 
   pub apply-keeps : length (s .procs) + length (d .new) ≤ lim .procs → n ≤ lim .vars → Ruled lim pr (apply s p d)
   apply-keeps few fewVars =
-      let v = apply-vars pr s p d in
+      let v = apply-vars s p d in
       let c = apply-count s p d in
       record {
         some = omega (arith, ru .some);

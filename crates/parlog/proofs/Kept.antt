@@ -7,9 +7,9 @@ use lib.Dec.{leb, ltb}
 use lib.ListN.{length, length-replicate, replicate}
 use borrow.Author.Tests.{eq-eqb, le-leb, lt-ltb, ltb-true}
 use native.Mathlib.Omega.{arith}
-use Rattle.parlog.proofs.Bindings.{bindings-changed, bindings-free, changed-length}
+use Rattle.parlog.proofs.Bindings.{bindings-changed, bindings-free}
 use Rattle.parlog.proofs.Bools.{and-true}
-use Rattle.parlog.proofs.Effects.{apply-count}
+use Rattle.parlog.proofs.Effects.{apply-count, changed-length}
 use Rattle.parlog.proofs.Keeps.{Ruled, state-facts, state-test}
 use Rattle.parlog.proofs.Made.{goal-place}
 use Rattle.parlog.proofs.Moves.{move-keeps}

@@ -2,6 +2,7 @@
 pub mod Bools
 pub mod Scans
 pub mod Coded
+pub mod Rows
 pub mod Kin
 pub mod Effects
 pub mod Placed
@@ -9,11 +10,6 @@ pub mod Values
 pub mod Unified
 pub mod Decided
 pub mod Good
-pub mod Held
-pub mod Says
-pub mod Computes
-pub mod Exact
-pub mod Rows
 pub mod Sane
 pub mod RowRules
 pub mod Terms
@@ -23,3 +19,7 @@ pub mod Keeps
 pub mod Moves
 pub mod Kept
 pub mod Assume
+pub mod Held
+pub mod Says
+pub mod Computes
+pub mod Exact
