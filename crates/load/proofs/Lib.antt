@@ -1,2 +1,4 @@
 pub mod Room
 pub mod Turn
+pub mod Accepted
+pub mod Inside
