@@ -11,14 +11,24 @@ pub fn byte_at(s: &[u8], i: usize) -> usize
     if i < s.len() { s[i] as usize } else { 0 }
 }
 
-// Two bytes, little-endian.
+// A byte as a number.
+pub fn wide(x: u8) -> usize
+    ensures { λ r. ⌜ (r ≡ x) × (r ≤ 255) ⌝ }
+{
+    x as usize
+}
+
+// Two bytes, little-endian; the usual case takes one test of the length.
 pub fn word_at(s: &[u8], i: usize) -> usize
     requires { ⌜ i ≤ 4294967296 ⌝ }
     ensures { λ r. ⌜ (r ≡ wordAt (now (s .entry)) i) × (r ≤ 65535) ⌝ }
 {
-    let low = byte_at(s, i);
-    let high = byte_at(s, i + 1);
-    low + 256 * high
+    let next = i + 1;
+    if next < s.len() {
+        wide(s[i]) + 256 * wide(s[next])
+    } else {
+        byte_at(s, i)
+    }
 }
 
 // The term at a place.
