@@ -4,16 +4,18 @@ use mathlib.Core.Bool.{_&&_, _||_, Bool, cond, false, not, true}
 use mathlib.Core.List.{List}
 use Prim.Native.Nat.{_+_, _<_, _≤_, suc, zero, ℕ}
 use lib.Dec.{eqb, leb, ltb}
-use lib.ListN.{length}
+use lib.ListN.{length, set}
+use lib.Seq.{getD-set-other, getD-set-same}
 use borrow.Author.Tests.{eq-eqb, eqb-false, eqb-true, leb-true, ltb-false, ne-eqb, not-false}
 use borrow.Author.Count.{below-more}
 use native.Mathlib.Omega.{arith}
 use Rattle.load.proofs.Room.{few-clauses, few-relations}
 use Rattle.load.proofs.Turn.{either-false, whole}
+use Rattle.load.specs.Reading.{Arities}
 use Rattle.parlog.specs.Body.{askBody, bodyRight, clauseBody, relationBody}
 use Rattle.parlog.specs.Image.{byteAt, kindAt, recordAt, recordEnd, wordAt}
 use Rattle.parlog.specs.Load.{after, blockFull, cut, kindFault, loadEnd, loadOf, long, nothingRead, progressed, records, refusal, refuseIf, tooMany, verdict}
-use Rattle.parlog.specs.Names.{clauseInside, clausePlaced, follows, goalNamed, namesRight, relationNamed}
+use Rattle.parlog.specs.Names.{arityOf, clauseInside, clausePlaced, follows, goalNamed, namesRight, relationNamed}
 use Rattle.parlog.specs.Scan.{along}
 use Rattle.parlog.specs.declared.Loaded.the-variants.{Accepted, Refused}
 use Rattle.parlog.specs.declared.Progress.{Progress}
@@ -58,33 +60,33 @@ pub record Right (s : List ℕ) (r c : ℕ) : Type 0 where
   pub ends : recordAt s (r + c + 1) ≡ length s
 
 -- what the records before `at` have shown
-record Reached (s : List ℕ) (g : Progress) (at : ℕ) : Type 0 where
-  within : at ≤ length s
-  relations : g .relations ≤ 32
-  clauses : g .clauses ≤ 64
-  late : 0 < g .clauses → 2 ≤ g .kind
-  relation : (k : ℕ) → k < g .relations → RelationRight s (recordAt s k)
-  clause : (k : ℕ) → k < g .clauses → ClauseRight s (g .relations) (recordAt s (g .relations + k))
-  order : (k : ℕ) → k < g .clauses → InOrder s (g .relations) k
-  last : (k : ℕ) → suc k ≡ g .clauses → relationOf s (g .relations) k ≡ g .relation
-  here : g .kind < 3 → at ≡ recordAt s (g .relations + g .clauses)
-  goal : g .kind ≡ 3 → GoalRight s (g .relations) (recordAt s (g .relations + g .clauses))
-  done : g .kind ≡ 3 → at ≡ recordAt s (g .relations + g .clauses + 1)
+pub record Reached (s : List ℕ) (g : Progress) (at : ℕ) : Type 0 where
+  pub within : at ≤ length s
+  pub relations : g .relations ≤ 32
+  pub clauses : g .clauses ≤ 64
+  pub late : 0 < g .clauses → 2 ≤ g .kind
+  pub relation : (k : ℕ) → k < g .relations → RelationRight s (recordAt s k)
+  pub clause : (k : ℕ) → k < g .clauses → ClauseRight s (g .relations) (recordAt s (g .relations + k))
+  pub order : (k : ℕ) → k < g .clauses → InOrder s (g .relations) k
+  pub last : (k : ℕ) → suc k ≡ g .clauses → relationOf s (g .relations) k ≡ g .relation
+  pub here : g .kind < 3 → at ≡ recordAt s (g .relations + g .clauses)
+  pub goal : g .kind ≡ 3 → GoalRight s (g .relations) (recordAt s (g .relations + g .clauses))
+  pub done : g .kind ≡ 3 → at ≡ recordAt s (g .relations + g .clauses + 1)
 
 passed : (b : Bool) (n : ℕ) (v : Verdict) (t : Progress) → refuseIf b n v ≡ Goes t → (b ≡ false) × (v ≡ Goes t)
 passed true n v t e = absurd (let z : _≡_ {A = ℕ} 0 1 = cc in omega arith)
 passed false n v t e = (refl, e)
 
 -- what a record that passes has passed
-record Passed (s : List ℕ) (g : Progress) (at : ℕ) (t : Progress) : Type 0 where
-  kind : kindFault g (kindAt s at) ≡ false
-  few : tooMany g (kindAt s at) ≡ false
-  body : bodyRight s at (kindAt s at) ≡ true
-  names : namesRight s g at (kindAt s at) ≡ true
-  inside : recordEnd s at ≤ length s
-  next : progressed s g at (kindAt s at) ≡ t
+pub record Passed (s : List ℕ) (g : Progress) (at : ℕ) (t : Progress) : Type 0 where
+  pub kind : kindFault g (kindAt s at) ≡ false
+  pub few : tooMany g (kindAt s at) ≡ false
+  pub body : bodyRight s at (kindAt s at) ≡ true
+  pub names : namesRight s g at (kindAt s at) ≡ true
+  pub inside : recordEnd s at ≤ length s
+  pub next : progressed s g at (kindAt s at) ≡ t
 
-all-passed : (s : List ℕ) (g t : Progress) (at : ℕ) → verdict s g at ≡ Goes t → Passed s g at t
+pub all-passed : (s : List ℕ) (g t : Progress) (at : ℕ) → verdict s g at ≡ Goes t → Passed s g at t
 unfolding verdict
 all-passed s g t at e =
     let p1 = passed (cut s at) 2 _ t e in
@@ -198,7 +200,7 @@ module _ (s : List ℕ) (g t : Progress) (at : ℕ) (R : Reached s g at) (P : Pa
         done = λ _. snoc s (g .relations + g .clauses) at at-end;
       })
 
-  reached : Reached s t (recordEnd s at)
+  pub reached : Reached s t (recordEnd s at)
   reached =
       subst (λ x. Reached s x (recordEnd s at)) (P .next) (go (kindAt s at) refl (kinds g (kindAt s at) (P .kind) .0) (kinds g (kindAt s at) (P .kind) .1))
     where
@@ -208,6 +210,36 @@ module _ (s : List ℕ) (g t : Progress) (at : ℕ) (R : Reached s g at) (P : Pa
       go (suc (suc zero)) e lo hi = reached-clause e
       go (suc (suc (suc zero))) e lo hi = reached-goal e
       go (suc (suc (suc (suc k)))) e lo hi = absurd (omega arith)
+
+  -- an entry put after the arities known so far keeps the table right, also where the record is no relation
+  module _ (a : List ℕ) (size : length a ≡ 33) (A : Arities s (g .relations) a) where
+    older : (k : ℕ) → k < g .relations → byteAt (set a (g .relations) (byteAt s (at + 4))) k ≡ arityOf s k
+    older k h = getD-set-other a (g .relations) k (byteAt s (at + 4)) 0 (λ e. omega arith) ∙ A .arity k h
+
+    kept-relation : kindAt s at ≡ 1 → Arities s (progressed s g at (kindAt s at) .relations) (set a (g .relations) (byteAt s (at + 4)))
+    unfolding progressed
+    kept-relation k1 =
+        let ks = kinds g (kindAt s at) (P .kind) in
+        let none : g .clauses ≡ 0 = zero-of (g .clauses) (λ h. let o = R .late h in omega arith) in
+        let sum : g .relations + g .clauses ≡ g .relations = omega arith in
+        let at-end : at ≡ recordAt s (g .relations) = R .here (ks .3) ∙ ap (recordAt s) sum in
+        let few = R .relations in
+        let own : byteAt (set a (g .relations) (byteAt s (at + 4))) (g .relations) ≡ arityOf s (g .relations) =
+        getD-set-same a (g .relations) (byteAt s (at + 4)) 0 (omega arith) ∙ ap (λ p. byteAt s (p + 4)) at-end in
+        rw (eq-eqb (kindAt s at) 1 k1)
+        (record { arity = below-more (λ k. byteAt (set a (g .relations) (byteAt s (at + 4))) k ≡ arityOf s k) (g .relations) older own })
+
+    kept-other : (b : Bool) → eqb (kindAt s at) 1 ≡ false → eqb (kindAt s at) 2 ≡ b → Arities s (progressed s g at (kindAt s at) .relations) (set a (g .relations) (byteAt s (at + 4)))
+    unfolding progressed
+    kept-other true n1 k2 = rw (n1, k2) (record { arity = older })
+    kept-other false n1 n2 = rw (n1, n2) (record { arity = older })
+
+    pub kept : Arities s (t .relations) (set a (g .relations) (byteAt s (at + 4)))
+    kept = subst (λ x. Arities s (x .relations) (set a (g .relations) (byteAt s (at + 4)))) (P .next) (go (eqb (kindAt s at) 1) refl)
+      where
+        go : (b : Bool) → eqb (kindAt s at) 1 ≡ b → Arities s (progressed s g at (kindAt s at) .relations) (set a (g .relations) (byteAt s (at + 4)))
+        go true e = kept-relation (eqb-true (kindAt s at) 1 e)
+        go false e = kept-other (eqb (kindAt s at) 2) e refl
 
 -- the answer's counts are those of the progress
 finished : (s : List ℕ) (g : Progress) (r c : ℕ) (b : Bool) → cond b (Accepted (g .relations) (g .clauses)) (Refused (refusal 7 (length s))) ≡ Accepted r c → (b ≡ true) × (g .relations ≡ r) × (g .clauses ≡ c)
@@ -252,24 +284,28 @@ module _ (s : List ℕ) (r c : ℕ) (short : length s ≤ 32768) where
       end true _ rest e' = turn rest (verdict s g at) refl e'
       end false past rest e' = from-end g at R (ltb-false at (length s) past) e'
 
+-- before the first record
+pub nothing-reached : (s : List ℕ) → Reached s nothingRead 0
+unfolding along
+nothing-reached s = record {
+  within = omega arith;
+  relations = omega arith;
+  clauses = omega arith;
+  late = λ h. absurd (omega arith);
+  relation = λ k h. absurd (omega arith);
+  clause = λ k h. absurd (omega arith);
+  order = λ k h. absurd (omega arith);
+  last = λ k h. absurd (omega arith);
+  here = λ _. refl;
+  goal = λ h. absurd (omega arith);
+  done = λ h. absurd (omega arith);
+}
+
 -- THE LAW: an accepted image is right
 pub accepted : (s : List ℕ) (r c : ℕ) → loadOf s ≡ Accepted r c → Right s r c
-unfolding loadOf long along
+unfolding loadOf long
 accepted s r c e = go (ltb 32768 (length s)) refl e
   where
     go : (b : Bool) → ltb 32768 (length s) ≡ b → cond b (Refused (refusal 1 0)) (records s (length s) 0 nothingRead) ≡ Accepted r c → Right s r c
     go true _ e' = absurd (let z : _≡_ {A = ℕ} 0 1 = cc in omega arith)
-    go false le e' = from-records s r c (ltb-false 32768 (length s) le) (length s) 0 nothingRead (omega arith)
-        (record {
-          within = omega arith;
-          relations = omega arith;
-          clauses = omega arith;
-          late = λ h. absurd (omega arith);
-          relation = λ k h. absurd (omega arith);
-          clause = λ k h. absurd (omega arith);
-          order = λ k h. absurd (omega arith);
-          last = λ k h. absurd (omega arith);
-          here = λ _. refl;
-          goal = λ h. absurd (omega arith);
-          done = λ h. absurd (omega arith);
-        }) e'
+    go false le e' = from-records s r c (ltb-false 32768 (length s) le) (length s) 0 nothingRead (omega arith) (nothing-reached s) e'

@@ -21,7 +21,7 @@ literalPlace s at j = literalsEnd s j (at + 1)
 
 -- ---- places grow
 
-along-grows : (next : ℕ → ℕ) → ((x : ℕ) → x ≤ next x) → (n at : ℕ) → at ≤ along next n at
+pub along-grows : (next : ℕ → ℕ) → ((x : ℕ) → x ≤ next x) → (n at : ℕ) → at ≤ along next n at
 unfolding along
 along-grows next up zero at = omega arith
 along-grows next up (suc n) at = let a = up at in let b = along-grows next up n (next at) in omega arith
@@ -33,19 +33,23 @@ along-within next up zero at j h = absurd (omega arith)
 along-within next up (suc n) at zero h = along-grows next up n (next at)
 along-within next up (suc n) at (suc j) h = along-within next up n (next at) j (omega arith)
 
-literal-grows : (s : List ℕ) (at : ℕ) → at ≤ literalEnd s at
+pub literal-grows : (s : List ℕ) (at : ℕ) → at ≤ literalEnd s at
 literal-grows s at = omega arith
 
 pub stage-grows : (s : List ℕ) (at : ℕ) → at + 1 ≤ stageEnd s at
 unfolding stageEnd
 stage-grows s at = along-grows (literalEnd s) (literal-grows s) (byteAt s at) (at + 1)
 
-stage-up : (s : List ℕ) (at : ℕ) → at ≤ stageEnd s at
+pub stage-up : (s : List ℕ) (at : ℕ) → at ≤ stageEnd s at
 stage-up s at = let h = stage-grows s at in omega arith
 
 pub goal-grows : (s : List ℕ) (at : ℕ) → at + 1 ≤ goalEnd s at
 unfolding goalEnd
 goal-grows s at = along-grows (stageEnd s) (stage-up s) (byteAt s at) (at + 1)
+
+-- no goal ends at 0
+pub goal-after : (s : List ℕ) (at : ℕ) → 0 < goalEnd s at
+goal-after s at = let h = goal-grows s at in omega arith
 
 -- a stage ends inside its goal, a literal inside its stage
 pub stage-inside : (s : List ℕ) (at i : ℕ) → i < byteAt s at → stageEnd s (stagePlace s at i) ≤ goalEnd s at

@@ -2,3 +2,4 @@ pub mod Room
 pub mod Turn
 pub mod Accepted
 pub mod Inside
+pub mod Rows

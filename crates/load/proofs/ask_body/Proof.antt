@@ -1,4 +1,8 @@
-use Rattle.parlog.specs.Body.{askBody}
+use Rattle.parlog.specs.Body.{askBody, goalRange}
+use Rattle.parlog.specs.Image.{goalEnd}
+use Rattle.load.proofs.Rows.{one-end}
+use Rattle.load.proofs.Inside.{goal-after}
+use Prim.Native.Nat.{_+_}
 use borrow.Author.Needs.{needs}
 use Rattle.load.proofs.ask_body.Statement.{statement}
 use Rattle.load.proofs.ask_body.Tie as tie
@@ -7,12 +11,13 @@ use Rattle.load.proofs.ask_body.Lts as lts
 use Rattle.load.proofs.and.Reads as and-reads
 use Rattle.load.proofs.goal_range.Reads as goal-range-reads
 use Rattle.place.proofs.byte_at.Reads as byte-at-reads
-use Rattle.place.proofs.goal_end.Reads as goal-end-reads
 use Rattle.place.proofs.word_at.Reads as word-at-reads
 
 returns : tie.Need-returns
 unfolding askBody
-returns c = cc
+returns c = let a = (c .before .before .before .before .before .before .args) in
+    let s = a .s .now in
+    cc (one-end (goalRange s) (goalEnd s) (goal-after s) (a .at + 5) ((c .before .before .goal-range .result)) (a .at + (c .before .before .before .word-at .result)) ((c .before .before .goal-range .ensures .0)))
 
 pub ask-body-spec : {M : Type 1} → statement M
 ask-body-spec =
@@ -20,10 +25,8 @@ ask-body-spec =
     (tie.spec
     (λ c. search needs)
     (λ c κs. search needs)
-    (λ c. search needs)
     (λ c κs. search needs)
     (λ c. search needs)
-    (λ c κs. search needs)
     (λ c κs. search needs)
     (λ c. search needs)
     (λ c κs. search needs)

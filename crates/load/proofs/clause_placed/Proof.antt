@@ -5,9 +5,9 @@ use Rattle.load.proofs.clause_placed.Tie as tie
 use Rattle.load.proofs.clause_placed.Reads as reads
 use Rattle.load.proofs.clause_placed.Lts as lts
 use Rattle.load.proofs.and.Reads as and-reads
+use Rattle.load.proofs.follows.Reads as follows-reads
 use Rattle.load.proofs.or.Reads as or-reads
 use Rattle.load.proofs.relation_named.Reads as relation-named-reads
-use Rattle.load.proofs.follows.Reads as follows-reads
 use Rattle.place.proofs.byte_at.Reads as byte-at-reads
 
 returns : tie.Need-returns
