@@ -1,0 +1,5 @@
+pub mod Room
+pub mod Turn
+pub mod Accepted
+pub mod Inside
+pub mod Rows

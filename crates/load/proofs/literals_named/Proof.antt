@@ -1,0 +1,54 @@
+use Rattle.load.proofs.Rows.{row-none, row-more, row-stop}
+use Rattle.load.specs.Reading.{row}
+use Rattle.parlog.specs.Names.{literalNamed}
+use Rattle.parlog.specs.Image.{literalEnd}
+use borrow.Author.Tests.{not-true, not-false}
+use Prim.Native.Nat.{ℕ, _≤_, _+_, _*_}
+use mathlib.Core.Path.{_≡_, refl, sym, _∙_}
+use native.Mathlib.Omega.{arith}
+use Rattle.load.proofs.literals_named.Statement.{statement}
+use Rattle.load.proofs.literals_named.Tie as tie
+use Rattle.load.proofs.literals_named.Reads as reads
+use Rattle.load.proofs.literals_named.Lts as lts
+use Rattle.load.proofs.literal_named.Reads as literal-named-reads
+use Rattle.place.proofs.byte_at.Reads as byte-at-reads
+
+abbrev Inv-loop : tie.InvT-loop
+Inv-loop s t rels vars n from at₀ left₀ at left = (row (literalNamed s rels vars) (literalEnd s) left at ≡ row (literalNamed s rels vars) (literalEnd s) n from) × (at + 512 * left ≤ from + 512 * n)
+
+abbrev μ-loop : tie.MeasureT-loop
+μ-loop s t rels vars n from at₀ left₀ at left = left
+
+returns : tie.Need-returns Inv-loop μ-loop
+returns c = let p = (c .before .before .before .loop) in
+    let a = (c .before .before .before .before .before .args) in
+    (cc (row-stop (literalNamed (a .s .now) (a .rels) (a .vars)) (literalEnd (a .s .now)) (p .left) (p .at) ((c .before .before .loop-test .taken)) (sym ((c .before .literal-named .ensures)) ∙ not-true _ ((c .if1 .taken)))), omega arith)
+
+loop-again : tie.Need-loop-again Inv-loop μ-loop
+loop-again c = let p = (c .before .before .before .before .loop) in
+    let a = (c .before .before .before .before .before .before .args) in
+    (cc (row-more (literalNamed (a .s .now) (a .rels) (a .vars)) (literalEnd (a .s .now)) (p .left) (p .at) ((c .before .before .before .loop-test .taken)) (sym ((c .before .before .literal-named .ensures)) ∙ not-false _ ((c .before .if1 .left)))), omega arith)
+
+returns-2 : tie.Need-returns-2 Inv-loop μ-loop
+returns-2 c = let a = (c .before .before .before .args) in
+    let e : (c .before .loop .left) ≡ 0 = omega arith in
+    (cc (row-none (literalNamed (a .s .now) (a .rels) (a .vars)) (literalEnd (a .s .now)) ((c .before .loop .left)) ((c .before .loop .at)) e), omega arith)
+
+pub literals-named-spec : {M : Type 1} → statement M
+literals-named-spec =
+    tie.close
+    (tie.spec
+    Inv-loop
+    μ-loop
+    (λ c. (refl, omega arith))
+    (λ c κs. ((c .before .before .before .pre .0), omega arith))
+    returns
+    (λ c. omega arith)
+    (λ c. omega arith)
+    (λ c κs. omega arith)
+    (λ c. omega arith)
+    (λ c. omega arith)
+    (λ c. omega arith)
+    (λ c. omega arith)
+    loop-again
+    returns-2)
