@@ -1,0 +1,3 @@
+pub mod Rows
+pub mod Outs
+pub mod Goals
