@@ -1,3 +1,4 @@
 pub mod Rows
 pub mod Outs
 pub mod Goals
+pub mod Clauses

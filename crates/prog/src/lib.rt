@@ -9,7 +9,7 @@ ghost use Rattle.parlog.specs.declared.Term.the-variants.{Const, Var};
 ghost use Rattle.parlog.specs.Codes.{kindOf};
 ghost use Rattle.parlog.specs.Scan.{listOf};
 ghost use Rattle.parlog.specs.Image.{byteAt, termAt, termEnd, modeEnd, recordEnd, recordAt, guardAt, bodyAt};
-ghost use Rattle.parlog.specs.Program.{noLiteral, equation, outputs, literalOf, goalOf, modesOf, programOf, goalBy, goalAt, stageAt, literalAt};
+ghost use Rattle.parlog.specs.Program.{noLiteral, equation, outputs, literalOf, goalOf, modesOf, programOf, clauseAt, modesAt, outCount, varsOf, goalBy, goalAt, stageAt, literalAt};
 ghost use Rattle.prog.specs.Parts.{shown, outsOf, clauseOuts, stagesWith};
 
 // A literal: its relation, its arity, and the four arguments that it may have.
@@ -378,4 +378,147 @@ pub fn goal_size(s: &[u8], rels: usize, clauses: usize, z: Spot) -> usize
     ensures { λ r. ⌜ (r ≡ length (goalAt (programOf (now (s .entry)) rels clauses) z)) × (r ≤ 256) ⌝ }
 {
     goal_size_by(s, rels, clauses, z.kind as usize, z.clause as usize)
+}
+
+// ---- the fields of clause k
+
+// The relation; 255 past the end.
+pub fn clause_relation(s: &[u8], rels: usize, clauses: usize, k: usize) -> usize
+    requires { ⌜ (rels ≤ 32) × (clauses ≤ 64) ⌝ }
+    ensures { λ r. ⌜ (r ≡ clauseAt (programOf (now (s .entry)) rels clauses) k .rel) × (r ≤ 255) ⌝ }
+{
+    if clauses <= k {
+        return 255;
+    }
+    let at = place::record_at(s, rels + k);
+    place::byte_at(s, at + 4)
+}
+
+// The mark.
+pub fn clause_mark(s: &[u8], rels: usize, clauses: usize, k: usize) -> usize
+    requires { ⌜ (rels ≤ 32) × (clauses ≤ 64) ⌝ }
+    ensures { λ r. ⌜ (r ≡ clauseAt (programOf (now (s .entry)) rels clauses) k .mark) × (r ≤ 255) ⌝ }
+{
+    if clauses <= k {
+        return 0;
+    }
+    let at = place::record_at(s, rels + k);
+    place::byte_at(s, at + 6)
+}
+
+// The number of its own variables.
+pub fn clause_vars(s: &[u8], rels: usize, clauses: usize, k: usize) -> usize
+    requires { ⌜ (rels ≤ 32) × (clauses ≤ 64) ⌝ }
+    ensures { λ r. ⌜ (r ≡ clauseAt (programOf (now (s .entry)) rels clauses) k .vars) × (r ≤ 255) ⌝ }
+{
+    if clauses <= k {
+        return 0;
+    }
+    let at = place::record_at(s, rels + k);
+    place::byte_at(s, at + 7)
+}
+
+// The number of head terms.
+pub fn head_size(s: &[u8], rels: usize, clauses: usize, k: usize) -> usize
+    requires { ⌜ (rels ≤ 32) × (clauses ≤ 64) ⌝ }
+    ensures { λ r. ⌜ (r ≡ length (clauseAt (programOf (now (s .entry)) rels clauses) k .head)) × (r ≤ 255) ⌝ }
+{
+    if clauses <= k {
+        return 0;
+    }
+    let at = place::record_at(s, rels + k);
+    place::byte_at(s, at + 5)
+}
+
+// Head term i.
+pub fn head_term(s: &[u8], rels: usize, clauses: usize, k: usize, i: usize) -> Term
+    requires { ⌜ (rels ≤ 32) × (clauses ≤ 64) ⌝ }
+    ensures { λ r. ⌜ r ≡ getD (clauseAt (programOf (now (s .entry)) rels clauses) k .head) i (Const 0) ⌝ }
+{
+    if clauses <= k {
+        return Term::Const(0);
+    }
+    let at = place::record_at(s, rels + k);
+    let n = place::byte_at(s, at + 5);
+    term_of(s, n, at + 8, i)
+}
+
+// The number of stages of the guard.
+pub fn guard_size(s: &[u8], rels: usize, clauses: usize, k: usize) -> usize
+    requires { ⌜ (rels ≤ 32) × (clauses ≤ 64) ⌝ }
+    ensures { λ r. ⌜ (r ≡ length (clauseAt (programOf (now (s .entry)) rels clauses) k .guard)) × (r ≤ 255) ⌝ }
+{
+    if clauses <= k {
+        return 0;
+    }
+    let at = place::record_at(s, rels + k);
+    let g = guard_place(s, at);
+    place::byte_at(s, g)
+}
+
+// ---- relations
+
+// The number of arguments of relation q.
+pub fn mode_count(s: &[u8], rels: usize, clauses: usize, q: usize) -> usize
+    requires { ⌜ (rels ≤ 32) × (clauses ≤ 64) ⌝ }
+    ensures { λ r. ⌜ (r ≡ length (modesAt (programOf (now (s .entry)) rels clauses) q)) × (r ≤ 255) ⌝ }
+{
+    let ms = modes_of(s, rels, q);
+    ms.n
+}
+
+// The mode of its argument i.
+pub fn mode_of(s: &[u8], rels: usize, clauses: usize, q: usize, i: usize) -> usize
+    requires { ⌜ (rels ≤ 32) × (clauses ≤ 64) ⌝ }
+    ensures { λ r. ⌜ (r ≡ getD (modesAt (programOf (now (s .entry)) rels clauses) q) i 0) × (r ≤ 255) ⌝ }
+{
+    let ms = modes_of(s, rels, q);
+    let n = ms.n;
+    let at = ms.at;
+    if n <= i {
+        return 0;
+    }
+    place::byte_at(s, at + i)
+}
+
+// How many of n modes at a place are outputs.
+fn out_count(s: &[u8], n: usize, mat: usize) -> usize
+    requires { ⌜ (n ≤ 255) × (mat ≤ 16777216) ⌝ }
+    ensures { λ r. ⌜ (r ≡ outCount (listOf (byteAt (now (s .entry))) modeEnd n mat)) × (r ≤ n) ⌝ }
+{
+    let mut count = 0;
+    let mut left = n;
+    let mut a = mat;
+    while 0 < left {
+        let x = place::byte_at(s, a);
+        if x != 0 {
+            count += 1;
+        }
+        left -= 1;
+        a += 1;
+    }
+    count
+}
+
+// The new variables of clause k: its own, and one for each output argument.
+pub fn vars_of(s: &[u8], rels: usize, clauses: usize, k: usize) -> usize
+    requires { ⌜ (rels ≤ 32) × (clauses ≤ 64) ⌝ }
+    ensures { λ r. ⌜ (r ≡ varsOf (programOf (now (s .entry)) rels clauses) k) × (r ≤ 510) ⌝ }
+{
+    let v = clause_vars(s, rels, clauses, k);
+    let q = clause_relation(s, rels, clauses, k);
+    let ms = modes_of(s, rels, q);
+    let n = ms.n;
+    let at = ms.at;
+    let o = out_count(s, n, at);
+    v + o
+}
+
+// The number of the goal's variables.
+pub fn goal_vars(s: &[u8], rels: usize, clauses: usize) -> usize
+    requires { ⌜ (rels ≤ 32) × (clauses ≤ 64) ⌝ }
+    ensures { λ r. ⌜ (r ≡ programOf (now (s .entry)) rels clauses .goalVars) × (r ≤ 255) ⌝ }
+{
+    let at = place::record_at(s, rels + clauses);
+    place::byte_at(s, at + 4)
 }
