@@ -1,9 +1,12 @@
 -- A literal as the reads hand it on, and the output equations at their places.
+use mathlib.Core.Bool.{_&&_, Bool, cond, not}
 use mathlib.Core.List.{[], List}
 use Prim.Native.Nat.{_+_, suc, zero, ℕ}
+use lib.Dec.{eqb}
 use lib.ListN.{getD, length}
-use Rattle.parlog.specs.Image.{byteAt, modeEnd, recordEnd, termAt, termEnd}
-use Rattle.parlog.specs.Program.{Literal, modesOf, outputs}
+use Rattle.parlog.specs.Codes.{equate, or-par, tagCode}
+use Rattle.parlog.specs.Image.{byteAt, equality, modeEnd, recordEnd, termAt, termEnd}
+use Rattle.parlog.specs.Program.{clauseAt, Literal, modesOf, outputs, Program}
 use Rattle.parlog.specs.Scan.{listOf}
 use Rattle.parlog.specs.declared.Term.the-variants.{Const}
 use Rattle.prog.specs.declared.Lit.{Lit}
@@ -32,3 +35,17 @@ unfoldable pub stagesWith : ℕ → ℕ → ℕ
 stagesWith zero zero = 0
 stagesWith zero (suc o) = 1
 stagesWith (suc m) o = suc m
+
+-- whether clause k opens a block of relation q: its relation, the relation before it (where it is not the first), and its mark
+unfoldable pub opensBy : ℕ → ℕ → ℕ → ℕ → ℕ → Bool
+opensBy zero rel last mark q = eqb rel q
+opensBy (suc k) rel last mark q = eqb rel q && not (eqb last q && eqb mark 0)
+
+-- the relation of the clause before clause k
+unfoldable pub relationBefore : Program → ℕ → ℕ
+relationBefore pr zero = equality
+relationBefore pr (suc k) = clauseAt pr k .rel
+
+-- the tag of a literal of relation rel
+unfoldable pub relationTag : ℕ → ℕ
+relationTag rel = cond (eqb rel equality) (tagCode equate) (tagCode or-par)

@@ -4,13 +4,15 @@ use parlog::Term;
 ghost use mathlib.Core.Path.{_≡_};
 ghost use mathlib.Core.List.{[], _∷_};
 ghost use Prim.Native.Nat.{_+_, _*_, _≤_, _<_};
+ghost use mathlib.Core.Bool.{_&&_, cond};
+ghost use lib.Dec.{eqb};
 ghost use lib.ListN.{length, getD};
 ghost use Rattle.parlog.specs.declared.Term.the-variants.{Const, Var};
-ghost use Rattle.parlog.specs.Codes.{kindOf};
+ghost use Rattle.parlog.specs.Codes.{kindOf, tagCode};
 ghost use Rattle.parlog.specs.Scan.{listOf};
 ghost use Rattle.parlog.specs.Image.{byteAt, termAt, termEnd, modeEnd, recordEnd, recordAt, guardAt, bodyAt};
-ghost use Rattle.parlog.specs.Program.{noLiteral, equation, outputs, literalOf, goalOf, modesOf, programOf, clauseAt, modesAt, outCount, varsOf, goalBy, goalAt, stageAt, literalAt};
-ghost use Rattle.prog.specs.Parts.{shown, outsOf, clauseOuts, stagesWith};
+ghost use Rattle.parlog.specs.Program.{noLiteral, equation, outputs, literalOf, goalOf, modesOf, programOf, clauseAt, modesAt, outCount, varsOf, blockCount, blockOf, goalBy, goalAt, stageAt, literalAt, tagOfLiteral, tagOfStage, tagOfGoal};
+ghost use Rattle.prog.specs.Parts.{shown, outsOf, clauseOuts, stagesWith, opensBy, relationTag};
 
 // A literal: its relation, its arity, and the four arguments that it may have.
 pub struct Lit {
@@ -521,4 +523,203 @@ pub fn goal_vars(s: &[u8], rels: usize, clauses: usize) -> usize
 {
     let at = place::record_at(s, rels + clauses);
     place::byte_at(s, at + 4)
+}
+
+// ---- blocks
+
+fn and(a: bool, b: bool) -> bool
+    ensures { λ r. ⌜ r ≡ (a && b) ⌝ }
+{
+    if a { b } else { false }
+}
+
+// One more where the test holds.
+fn more(test: bool, n: usize) -> usize
+    requires { ⌜ n ≤ 255 ⌝ }
+    ensures { λ r. ⌜ (r ≡ cond test (n + 1) n) × (r ≤ n + 1) ⌝ }
+{
+    if test { n + 1 } else { n }
+}
+
+// Whether x is the number after b.
+fn is_next(x: usize, b: usize) -> bool
+    ensures { λ r. ⌜ r ≡ eqb x (b + 1) ⌝ }
+{
+    if x == 0 {
+        return false;
+    }
+    x - 1 == b
+}
+
+// Whether clause k opens a block of relation q: it is of q, and it comes after another relation's clause or has another mark than 0.
+fn opens(k: usize, rel: usize, last: usize, mark: usize, q: usize) -> bool
+    ensures { λ r. ⌜ r ≡ opensBy k rel last mark q ⌝ }
+{
+    if k == 0 {
+        return rel == q;
+    }
+    and(rel == q, !and(last == q, mark == 0))
+}
+
+// Clause k where it is the one looked for, the j-th that is there; else what was found before.
+fn found(there: bool, size: usize, j: usize, k: usize, clause: usize) -> usize
+    requires { ⌜ (k ≤ 255) × (clause ≤ 255) ⌝ }
+    ensures { λ r. ⌜ (r ≡ cond (there && eqb size j) k clause) × (r ≤ 255) ⌝ }
+{
+    if and(there, size == j) { k } else { clause }
+}
+
+// The blocks of a relation: how many, and of one block the number of its clauses and a clause.
+pub struct Blocks {
+    pub count: usize,
+    pub size: usize,
+    pub clause: usize,
+}
+
+// One pass over the clauses, for block b of relation q and its clause j.
+fn block_scan(s: &[u8], rels: usize, clauses: usize, q: usize, b: usize, j: usize) -> Blocks
+    requires { ⌜ (rels ≤ 32) × (clauses ≤ 64) ⌝ }
+    ensures { λ r. ⌜ (r .count ≡ blockCount (programOf (now (s .entry)) rels clauses) q) × (r .size ≡ length (blockOf (programOf (now (s .entry)) rels clauses) q b)) × (r .clause ≡ getD (blockOf (programOf (now (s .entry)) rels clauses) q b) j 255) × (r .count ≤ 64) × (r .size ≤ 64) × (r .clause ≤ 255) ⌝ }
+{
+    let mut at = place::record_at(s, rels);
+    let mut last = 255;
+    let mut count = 0;
+    let mut size = 0;
+    let mut clause = 255;
+    let mut k = 0;
+    while k < clauses {
+        let rel = place::byte_at(s, at + 4);
+        let mark = place::byte_at(s, at + 6);
+        let new = opens(k, rel, last, mark, q);
+        count = more(new, count);
+        let next = is_next(count, b);
+        let there = and(rel == q, next);
+        clause = found(there, size, j, k, clause);
+        size = more(there, size);
+        last = rel;
+        at = at + place::word_at(s, at);
+        k += 1;
+    }
+    Blocks {
+        count,
+        size,
+        clause,
+    }
+}
+
+// The number of blocks of relation q.
+pub fn block_count(s: &[u8], rels: usize, clauses: usize, q: usize) -> usize
+    requires { ⌜ (rels ≤ 32) × (clauses ≤ 64) ⌝ }
+    ensures { λ r. ⌜ (r ≡ blockCount (programOf (now (s .entry)) rels clauses) q) × (r ≤ 64) ⌝ }
+{
+    let x = block_scan(s, rels, clauses, q, 0, 0);
+    x.count
+}
+
+// The number of clauses of block b of relation q.
+pub fn block_size(s: &[u8], rels: usize, clauses: usize, q: usize, b: usize) -> usize
+    requires { ⌜ (rels ≤ 32) × (clauses ≤ 64) ⌝ }
+    ensures { λ r. ⌜ (r ≡ length (blockOf (programOf (now (s .entry)) rels clauses) q b)) × (r ≤ 64) ⌝ }
+{
+    let x = block_scan(s, rels, clauses, q, b, 0);
+    x.size
+}
+
+// Clause j of block b of relation q; 255 past the end.
+pub fn block_clause(s: &[u8], rels: usize, clauses: usize, q: usize, b: usize, j: usize) -> usize
+    requires { ⌜ (rels ≤ 32) × (clauses ≤ 64) ⌝ }
+    ensures { λ r. ⌜ (r ≡ getD (blockOf (programOf (now (s .entry)) rels clauses) q b) j 255) × (r ≤ 255) ⌝ }
+{
+    let x = block_scan(s, rels, clauses, q, b, j);
+    x.clause
+}
+
+// ---- tags
+
+// The tag of a literal of relation rel.
+fn relation_tag(rel: usize) -> u8
+    ensures { λ r. ⌜ (r ≡ relationTag rel) × (r ≤ 8) ⌝ }
+{
+    if rel == 255 { 8 } else { 2 }
+}
+
+// The tag of literal j of stage i of a goal by kind and clause.
+pub fn tag_of_literal_by(
+    s: &[u8],
+    rels: usize,
+    clauses: usize,
+    kind: usize,
+    k: usize,
+    i: usize,
+    j: usize,
+) -> u8
+    requires { ⌜ (rels ≤ 32) × (clauses ≤ 64) ⌝ }
+    ensures { λ r. ⌜ (r ≡ tagCode (tagOfLiteral (getD (getD (goalBy (kindOf kind) (programOf (now (s .entry)) rels clauses) k) i []) j noLiteral))) × (r ≤ 8) ⌝ }
+{
+    let l = literal_by(s, rels, clauses, kind, k, i, j);
+    let rel = l.rel;
+    relation_tag(rel)
+}
+
+// The tag of stage i of that goal.
+pub fn tag_of_stage_by(s: &[u8], rels: usize, clauses: usize, kind: usize, k: usize, i: usize) -> u8
+    requires { ⌜ (rels ≤ 32) × (clauses ≤ 64) ⌝ }
+    ensures { λ r. ⌜ (r ≡ tagCode (tagOfStage (getD (goalBy (kindOf kind) (programOf (now (s .entry)) rels clauses) k) i []))) × (r ≤ 8) ⌝ }
+{
+    let n = stage_size_by(s, rels, clauses, kind, k, i);
+    if n != 1 {
+        return 0;
+    }
+    tag_of_literal_by(s, rels, clauses, kind, k, i, 0)
+}
+
+// The tag of that goal.
+pub fn tag_of_goal_by(s: &[u8], rels: usize, clauses: usize, kind: usize, k: usize) -> u8
+    requires { ⌜ (rels ≤ 32) × (clauses ≤ 64) ⌝ }
+    ensures { λ r. ⌜ (r ≡ tagCode (tagOfGoal (goalBy (kindOf kind) (programOf (now (s .entry)) rels clauses) k))) × (r ≤ 8) ⌝ }
+{
+    let n = goal_size_by(s, rels, clauses, kind, k);
+    if n != 1 {
+        return 1;
+    }
+    tag_of_stage_by(s, rels, clauses, kind, k, 0)
+}
+
+// The tag of the literal that a process names.
+pub fn tag_of_literal(s: &[u8], rels: usize, clauses: usize, z: Spot) -> u8
+    requires { ⌜ (rels ≤ 32) × (clauses ≤ 64) ⌝ }
+    ensures { λ r. ⌜ (r ≡ tagCode (tagOfLiteral (literalAt (programOf (now (s .entry)) rels clauses) z))) × (r ≤ 8) ⌝ }
+{
+    tag_of_literal_by(
+        s,
+        rels,
+        clauses,
+        z.kind as usize,
+        z.clause as usize,
+        z.stage as usize,
+        z.literal as usize,
+    )
+}
+
+// The tag of the stage that a process names.
+pub fn tag_of_stage(s: &[u8], rels: usize, clauses: usize, z: Spot) -> u8
+    requires { ⌜ (rels ≤ 32) × (clauses ≤ 64) ⌝ }
+    ensures { λ r. ⌜ (r ≡ tagCode (tagOfStage (stageAt (programOf (now (s .entry)) rels clauses) z))) × (r ≤ 8) ⌝ }
+{
+    tag_of_stage_by(
+        s,
+        rels,
+        clauses,
+        z.kind as usize,
+        z.clause as usize,
+        z.stage as usize,
+    )
+}
+
+// The tag of the goal that a process names.
+pub fn tag_of_goal(s: &[u8], rels: usize, clauses: usize, z: Spot) -> u8
+    requires { ⌜ (rels ≤ 32) × (clauses ≤ 64) ⌝ }
+    ensures { λ r. ⌜ (r ≡ tagCode (tagOfGoal (goalAt (programOf (now (s .entry)) rels clauses) z))) × (r ≤ 8) ⌝ }
+{
+    tag_of_goal_by(s, rels, clauses, z.kind as usize, z.clause as usize)
 }
