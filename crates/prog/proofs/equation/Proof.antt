@@ -1,0 +1,12 @@
+use mathlib.Core.Path.{refl}
+use borrow.Author.Needs.{needs}
+use Rattle.prog.specs.Parts.{shown}
+use Rattle.prog.proofs.equation.Statement.{statement}
+use Rattle.prog.proofs.equation.Tie as tie
+
+returns : tie.Need-returns
+unfolding shown
+returns c = refl
+
+pub equation-spec : {M : Type 1} → statement M
+equation-spec = tie.close (tie.spec (λ c. search needs) returns)

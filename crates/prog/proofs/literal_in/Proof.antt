@@ -1,0 +1,22 @@
+use mathlib.Core.Path.{_∙_}
+use borrow.Author.Needs.{needs}
+use Rattle.prog.proofs.Rows.{in-here, in-none, in-past}
+use Rattle.prog.proofs.literal_in.Statement.{statement}
+use Rattle.prog.proofs.literal_in.Tie as tie
+
+pub literal-in-spec : {M : Type 1} → statement M
+literal-in-spec =
+    tie.close
+    (tie.spec
+    (λ c κs. search needs)
+    (λ c κs. search needs)
+    (λ c. (c .none .ensures) ∙ in-none (c .before .before .before .before .args .s .now) _ _ (c .before .before .byte-at .ensures .0) _ (c .before .if1 .taken))
+    (λ c. search needs)
+    (λ c κs. search needs)
+    (λ c κs. search needs)
+    (λ c κs. search needs)
+    (λ c. (c .none2 .ensures) ∙ in-past (c .before .before .before .before .before .before .before .args .s .now) _ _ (c .before .before .before .before .before .byte-at .ensures .0) (c .before .before .before .before .if1 .left) (c .before .before .before .stages-end .ensures .0) (c .before .before .byte-at2 .ensures .0) _ (c .before .if2 .taken))
+    (λ c. search needs)
+    (λ c κs. search needs)
+    (λ c κs. search needs)
+    (λ c. (c .literal-here .ensures) ∙ in-here (c .before .before .before .before .before .before .before .before .args .s .now) _ _ (c .before .before .before .before .before .before .byte-at .ensures .0) (c .before .before .before .before .before .if1 .left) (c .before .before .before .before .stages-end .ensures .0) (c .before .before .before .byte-at2 .ensures .0) _ (c .before .before .if2 .left) (c .before .literals-end .ensures .0)))

@@ -1,0 +1,11 @@
+use mathlib.Core.Path.{refl}
+use Rattle.prog.specs.Parts.{shown}
+use Rattle.prog.proofs.none.Statement.{statement}
+use Rattle.prog.proofs.none.Tie as tie
+
+returns : tie.Need-returns
+unfolding shown
+returns c = refl
+
+pub none-spec : {M : Type 1} → statement M
+none-spec = tie.close (tie.spec returns)
