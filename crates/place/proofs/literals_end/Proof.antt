@@ -1,0 +1,43 @@
+use Rattle.place.proofs.Laws.{along-none, along-more}
+use Rattle.parlog.specs.Scan.{along}
+use Rattle.parlog.specs.Image.{literalEnd, literalsEnd}
+use mathlib.Core.Path.{_≡_, refl}
+use Prim.Native.Nat.{_≤_, _+_, _*_}
+use native.Mathlib.Omega.{arith}
+use borrow.Author.Needs.{needs}
+use Rattle.place.proofs.literals_end.Statement.{statement}
+use Rattle.place.proofs.literals_end.Tie as tie
+use Rattle.place.proofs.literals_end.Reads as reads
+use Rattle.place.proofs.literals_end.Lts as lts
+use Rattle.place.proofs.byte_at.Reads as byte-at-reads
+
+abbrev Inv-loop : tie.InvT-loop
+Inv-loop s n from at₀ left₀ at left = (along (literalEnd s) left at ≡ literalsEnd s n from) × (at + 512 * left ≤ from + 512 * n)
+
+abbrev μ-loop : tie.MeasureT-loop
+μ-loop s n from at₀ left₀ at left = left
+
+loop-again : tie.Need-loop-again Inv-loop μ-loop
+loop-again c = let p = c .before .before .loop in
+    (cc (along-more (literalEnd (c .before .before .before .before .args .s .now)) (p .left) (p .at) (c .before .loop-test .taken)), omega arith)
+
+returns : tie.Need-returns Inv-loop μ-loop
+returns c = let e : c .before .loop .left ≡ 0 = omega arith in
+    (cc (along-none (literalEnd (c .before .before .before .args .s .now)) (c .before .loop .at) e), omega arith)
+
+pub literals-end-spec : {M : Type 1} → statement M
+literals-end-spec =
+    tie.close
+    (tie.spec
+    Inv-loop
+    μ-loop
+    (λ c. (refl, omega arith))
+    (λ c. omega arith)
+    (λ c. omega arith)
+    (λ c κs. search needs)
+    (λ c. omega arith)
+    (λ c. omega arith)
+    (λ c. omega arith)
+    (λ c. omega arith)
+    loop-again
+    returns)

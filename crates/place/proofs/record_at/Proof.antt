@@ -1,0 +1,40 @@
+use Rattle.place.proofs.Laws.{along-none, along-more}
+use Rattle.parlog.specs.Scan.{along}
+use Rattle.parlog.specs.Image.{recordEnd, recordAt}
+use mathlib.Core.Path.{_≡_, refl}
+use Prim.Native.Nat.{_≤_, _+_, _*_}
+use native.Mathlib.Omega.{arith}
+use borrow.Author.Needs.{needs}
+use Rattle.place.proofs.record_at.Statement.{statement}
+use Rattle.place.proofs.record_at.Tie as tie
+use Rattle.place.proofs.record_at.Reads as reads
+use Rattle.place.proofs.record_at.Lts as lts
+use Rattle.place.proofs.word_at.Reads as word-at-reads
+
+abbrev Inv-loop : tie.InvT-loop
+Inv-loop s k at₀ left₀ at left = (along (recordEnd s) left at ≡ recordAt s k) × (at + 65535 * left ≤ 65535 * k)
+
+abbrev μ-loop : tie.MeasureT-loop
+μ-loop s k at₀ left₀ at left = left
+
+loop-again : tie.Need-loop-again Inv-loop μ-loop
+loop-again c = let p = c .before .before .loop in
+    (cc (along-more (recordEnd (c .before .before .before .before .args .s .now)) (p .left) (p .at) (c .before .loop-test .taken)), omega arith)
+
+returns : tie.Need-returns Inv-loop μ-loop
+returns c = let e : c .before .loop .left ≡ 0 = omega arith in
+    (cc (along-none (recordEnd (c .before .before .before .args .s .now)) (c .before .loop .at) e), omega arith)
+
+pub record-at-spec : {M : Type 1} → statement M
+record-at-spec =
+    tie.close
+    (tie.spec
+    Inv-loop
+    μ-loop
+    (λ c. (refl, omega arith))
+    (λ c κs. omega arith)
+    (λ c. omega arith)
+    (λ c. omega arith)
+    (λ c. omega arith)
+    loop-again
+    returns)

@@ -1,0 +1,31 @@
+use Rattle.place.proofs.Laws.{along-none, along-more}
+use Rattle.parlog.specs.Scan.{along}
+use Rattle.parlog.specs.Image.{stageEnd, stagesEnd}
+use mathlib.Core.Path.{_≡_, refl}
+use Prim.Native.Nat.{_≤_, _+_, _*_}
+use native.Mathlib.Omega.{arith}
+use borrow.Author.Needs.{needs}
+use Rattle.place.proofs.stages_end.Statement.{statement}
+use Rattle.place.proofs.stages_end.Tie as tie
+use Rattle.place.proofs.stages_end.Reads as reads
+use Rattle.place.proofs.stages_end.Lts as lts
+use Rattle.place.proofs.stage_end.Reads as stage-end-reads
+
+abbrev Inv-loop : tie.InvT-loop
+Inv-loop s n from at₀ left₀ at left = (along (stageEnd s) left at ≡ stagesEnd s n from) × (at + 130561 * left ≤ from + 130561 * n)
+
+abbrev μ-loop : tie.MeasureT-loop
+μ-loop s n from at₀ left₀ at left = left
+
+loop-again : tie.Need-loop-again Inv-loop μ-loop
+loop-again c = let p = c .before .before .loop in
+    (cc (along-more (stageEnd (c .before .before .before .before .args .s .now)) (p .left) (p .at) (c .before .loop-test .taken)), omega arith)
+
+returns : tie.Need-returns Inv-loop μ-loop
+returns c = let e : c .before .loop .left ≡ 0 = omega arith in
+    (cc (along-none (stageEnd (c .before .before .before .args .s .now)) (c .before .loop .at) e), omega arith)
+
+pub stages-end-spec : {M : Type 1} → statement M
+stages-end-spec =
+    tie.close
+    (tie.spec Inv-loop μ-loop (λ c. (refl, omega arith)) (λ c κs. omega arith) (λ c. omega arith) (λ c. omega arith) loop-again returns)

@@ -1,0 +1,95 @@
+// Reads of an image by places, total: a byte past the end is 0, and a place is where the fields lead.
+use parlog::Term;
+ghost use mathlib.Core.Path.{_≡_};
+ghost use Prim.Native.Nat.{_+_, _*_, _≤_};
+ghost use Rattle.parlog.specs.Image.{byteAt, wordAt, recordAt, termAt, literalsEnd, stageEnd, stagesEnd, goalEnd};
+
+// The byte at i, or 0 past the end.
+pub fn byte_at(s: &[u8], i: usize) -> usize
+    ensures { λ r. ⌜ (r ≡ byteAt (now (s .entry)) i) × (r ≤ 255) ⌝ }
+{
+    if i < s.len() { s[i] as usize } else { 0 }
+}
+
+// Two bytes, little-endian.
+pub fn word_at(s: &[u8], i: usize) -> usize
+    requires { ⌜ i ≤ 4294967296 ⌝ }
+    ensures { λ r. ⌜ (r ≡ wordAt (now (s .entry)) i) × (r ≤ 65535) ⌝ }
+{
+    let low = byte_at(s, i);
+    let high = byte_at(s, i + 1);
+    low + 256 * high
+}
+
+// The term at a place.
+pub fn term_at(s: &[u8], at: usize) -> Term
+    requires { ⌜ at ≤ 4294967296 ⌝ }
+    ensures { λ r. ⌜ r ≡ termAt (now (s .entry)) at ⌝ }
+{
+    let w = word_at(s, at);
+    if w < 32768 {
+        Term::Const(w as u32)
+    } else {
+        Term::Var((w - 32768) as u32)
+    }
+}
+
+// Where record k begins.
+pub fn record_at(s: &[u8], k: usize) -> usize
+    requires { ⌜ k ≤ 255 ⌝ }
+    ensures { λ r. ⌜ (r ≡ recordAt (now (s .entry)) k) × (r ≤ 65535 * k) ⌝ }
+{
+    let mut at = 0;
+    let mut left = k;
+    while 0 < left {
+        at = at + word_at(s, at);
+        left -= 1;
+    }
+    at
+}
+
+// The place after n literals.
+pub fn literals_end(s: &[u8], n: usize, from: usize) -> usize
+    requires { ⌜ (n ≤ 255) × (from ≤ 1073741824) ⌝ }
+    ensures { λ r. ⌜ (r ≡ literalsEnd (now (s .entry)) n from) × (r ≤ from + 512 * n) ⌝ }
+{
+    let mut at = from;
+    let mut left = n;
+    while 0 < left {
+        at = at + 2 + 2 * byte_at(s, at + 1);
+        left -= 1;
+    }
+    at
+}
+
+// The place after a stage: at most 130,561 bytes on.
+pub fn stage_end(s: &[u8], at: usize) -> usize
+    requires { ⌜ at ≤ 536870912 ⌝ }
+    ensures { λ r. ⌜ (r ≡ stageEnd (now (s .entry)) at) × (r ≤ at + 130561) ⌝ }
+{
+    let n = byte_at(s, at);
+    literals_end(s, n, at + 1)
+}
+
+// The place after n stages.
+pub fn stages_end(s: &[u8], n: usize, from: usize) -> usize
+    requires { ⌜ (n ≤ 255) × (from ≤ 268435456) ⌝ }
+    ensures { λ r. ⌜ (r ≡ stagesEnd (now (s .entry)) n from) × (r ≤ from + 130561 * n) ⌝ }
+{
+    let mut at = from;
+    let mut left = n;
+    while 0 < left {
+        at = stage_end(s, at);
+        left -= 1;
+    }
+    at
+}
+
+// The place after a goal.
+pub fn goal_end(s: &[u8], at: usize) -> usize
+    requires { ⌜ at ≤ 134217728 ⌝ }
+    ensures { λ r. ⌜ (r ≡ goalEnd (now (s .entry)) at) × (r ≤ at + 33293056) ⌝ }
+{
+    let n = byte_at(s, at);
+    stages_end(s, n, at + 1)
+}
