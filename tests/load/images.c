@@ -3,7 +3,7 @@
 
 enum { ARITY = 4, BLOCK = 8, VARIABLES = 16, LITERALS = 8, STAGES = 8, EQUALITY = 255 };
 
-const struct recipe full_recipe = { 32, 64, ARITY, BLOCK, VARIABLES, LITERALS, STAGES, 16, 0 };
+const struct recipe full_recipe = { 32, 64, ARITY, BLOCK, VARIABLES, LITERALS, STAGES, 16, 0, 0 };
 
 void put_byte(struct image *image, unsigned byte)
 {
@@ -66,7 +66,7 @@ static void put_literal(struct image *image, struct random *random, const struct
     unsigned relation = EQUALITY, arity = 2;
 
     if (recipe->relations > 0 && random_below(random, 16) >= recipe->equality) {
-        relation = random_below(random, recipe->relations);
+        relation = recipe->last ? recipe->relations - 1 : random_below(random, recipe->relations);
         arity = arity_of(image, relation);
     }
     put_byte(image, relation);

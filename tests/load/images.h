@@ -28,6 +28,7 @@ struct recipe {
     unsigned stages;    /* most stages of a goal */
     unsigned tight;     /* how often in 16 a top is taken as it is */
     unsigned equality;  /* how often in 16 a literal is an equality */
+    unsigned last;      /* whether every other literal calls the last relation */
 };
 
 /* The document's limits, with every top taken: the largest image that is accepted. */
