@@ -1,0 +1,54 @@
+/* The calls of the reference machine: plain C over the same byte tables and answers as the proved one. */
+#ifndef REFERENCE_H
+#define REFERENCE_H
+
+#include <stddef.h>
+#include <stdint.h>
+
+/* Full sizes in bytes; a lent table of any other size is refused 8. */
+enum {
+    REFERENCE_PROCESS_ROW = 24,
+    REFERENCE_VARIABLE_ROW = 4,
+    REFERENCE_HEAD_SIZE = 10,
+    REFERENCE_PROCS_SIZE = 512 * REFERENCE_PROCESS_ROW,
+    REFERENCE_VARS_SIZE = 1024 * REFERENCE_VARIABLE_ROW
+};
+
+/* Every answer holds the refusal number in bits 0-7 (0: accepted) and, for 1 to 7, the offset in bits 32-63. */
+/* No pointer may be null, and no two lent rows may overlap. */
+
+/* Accepted: relations in bits 8-15, clauses in bits 16-23. */
+uint64_t reference_load(const uint8_t *image, size_t image_len);
+
+/* Fills all three tables for a fresh run. */
+uint64_t reference_start(const uint8_t *image, size_t image_len, uint8_t *head, size_t head_len,
+                         uint8_t *procs, size_t procs_len, uint8_t *vars, size_t vars_len);
+
+/* Accepted: rule in bits 8-15, touched sort in bits 16-23 (0 process, 1 variable), its number in bits 32-63. */
+uint64_t reference_step(const uint8_t *image, size_t image_len, uint8_t *head, size_t head_len,
+                        uint8_t *procs, size_t procs_len, uint8_t *vars, size_t vars_len,
+                        uint32_t process);
+
+/* As reference_step, for the process whose turn it is. */
+uint64_t reference_turn(const uint8_t *image, size_t image_len, uint8_t *head, size_t head_len,
+                        uint8_t *procs, size_t procs_len, uint8_t *vars, size_t vars_len);
+
+/* Accepted: end in bits 8-15 (1 success, 2 failure, 3 waiting, 4 room, 5 budget), steps made in bits 32-63. */
+uint64_t reference_run(const uint8_t *image, size_t image_len, uint8_t *head, size_t head_len,
+                       uint8_t *procs, size_t procs_len, uint8_t *vars, size_t vars_len,
+                       uint16_t limit);
+
+/* Binds the value of a goal variable to a constant. */
+uint64_t reference_supply(const uint8_t *image, size_t image_len, uint8_t *head, size_t head_len,
+                          uint8_t *procs, size_t procs_len, uint8_t *vars, size_t vars_len,
+                          uint32_t variable, uint32_t value);
+
+/* Accepted: sort in bits 8-15 (1 constant, 2 variable), its number in bits 32-63. */
+uint64_t reference_value(const uint8_t *image, size_t image_len, uint8_t *head, size_t head_len,
+                         uint8_t *procs, size_t procs_len, uint8_t *vars, size_t vars_len,
+                         uint32_t variable);
+
+/* Refuses nothing: 1 in bits 8-15 when some row is suspended, the lowest such number in bits 32-63. */
+uint64_t reference_watch(const uint8_t *procs, size_t procs_len);
+
+#endif

@@ -1,0 +1,192 @@
+/* The calls on a run: step, turn, run, supply, value, watch. */
+#include "machine.h"
+#include "reference.h"
+
+enum end { END_SUCCESS = 1, END_FAILURE = 2, END_WAITING = 3, END_ROOM = 4, END_BUDGET = 5 };
+
+/* Tests image and tables and decodes both; offset 0 goes with a refusal for the tables. */
+static struct verdict open_run(const uint8_t *image, size_t image_len, const struct lent *lent,
+                               struct program *program, struct tables *tables)
+{
+    struct verdict verdict = ref_load(image, image_len, program);
+
+    if (verdict.refusal != ACCEPTED)
+        return verdict;
+    verdict.offset = 0;
+    verdict.refusal = REFUSED_STATE;
+    if (!ref_full_size(lent))
+        return verdict;
+    ref_decode(lent, tables);
+    if (ref_keeps_rules(program, tables))
+        verdict.refusal = ACCEPTED;
+    return verdict;
+}
+
+/* Moves a process and, where that is not refused, sets the turn marker. */
+static struct move step(const struct program *p, struct tables *t, unsigned number)
+{
+    struct move move = ref_move(p, t, number);
+
+    if (move.refusal == ACCEPTED) {
+        t->last = number;
+        if (t->steps < UINT32_MAX)
+            t->steps++;
+    }
+    return move;
+}
+
+/* The first process that can move after the one last stepped, that one being tried last; false if there is none. */
+static bool next_in_turn(const struct program *p, const struct tables *t, unsigned *number)
+{
+    unsigned k;
+
+    for (k = 1; k <= t->process_count; k++) {
+        *number = (t->last + k) % t->process_count;
+        if (ref_rule(p, t, *number) != NO_RULE)
+            return true;
+    }
+    return false;
+}
+
+static uint64_t move_answer(struct move move)
+{
+    if (move.refusal != ACCEPTED)
+        return ref_refused(move.refusal, 0);
+    return ref_accepted(move.rule, move.touches_variable ? 1 : 0, move.touched);
+}
+
+uint64_t reference_step(const uint8_t *image, size_t image_len, uint8_t *head, size_t head_len,
+                        uint8_t *procs, size_t procs_len, uint8_t *vars, size_t vars_len,
+                        uint32_t process)
+{
+    struct lent lent = { head, head_len, procs, procs_len, vars, vars_len };
+    struct program program;
+    struct tables tables;
+    struct verdict verdict = open_run(image, image_len, &lent, &program, &tables);
+    struct move move;
+
+    if (verdict.refusal != ACCEPTED)
+        return ref_refused(verdict.refusal, verdict.offset);
+    if (process >= tables.process_count)
+        return ref_refused(REFUSED_NODE, 0);
+    move = step(&program, &tables, process);
+    if (move.refusal == ACCEPTED)
+        ref_encode(&tables, &lent);
+    return move_answer(move);
+}
+
+uint64_t reference_turn(const uint8_t *image, size_t image_len, uint8_t *head, size_t head_len,
+                        uint8_t *procs, size_t procs_len, uint8_t *vars, size_t vars_len)
+{
+    struct lent lent = { head, head_len, procs, procs_len, vars, vars_len };
+    struct program program;
+    struct tables tables;
+    struct verdict verdict = open_run(image, image_len, &lent, &program, &tables);
+    struct move move;
+    unsigned number;
+
+    if (verdict.refusal != ACCEPTED)
+        return ref_refused(verdict.refusal, verdict.offset);
+    if (!next_in_turn(&program, &tables, &number))
+        return ref_refused(REFUSED_STILL, 0);
+    move = step(&program, &tables, number);
+    if (move.refusal == ACCEPTED)
+        ref_encode(&tables, &lent);
+    return move_answer(move);
+}
+
+/* Turns until an end; made counts the moves. */
+static unsigned run_to_end(const struct program *p, struct tables *t, unsigned limit, unsigned *made)
+{
+    unsigned number;
+
+    for (*made = 0;; ++*made) {
+        const struct process *root = &t->processes[0];
+
+        if (root->mode == DORMANT)
+            return root->result == SUCCESS ? END_SUCCESS : END_FAILURE;
+        if (!next_in_turn(p, t, &number))
+            return END_WAITING;
+        if (*made == limit)
+            return END_BUDGET;
+        if (step(p, t, number).refusal != ACCEPTED)
+            return END_ROOM;
+    }
+}
+
+uint64_t reference_run(const uint8_t *image, size_t image_len, uint8_t *head, size_t head_len,
+                       uint8_t *procs, size_t procs_len, uint8_t *vars, size_t vars_len,
+                       uint16_t limit)
+{
+    struct lent lent = { head, head_len, procs, procs_len, vars, vars_len };
+    struct program program;
+    struct tables tables;
+    struct verdict verdict = open_run(image, image_len, &lent, &program, &tables);
+    unsigned end, made;
+
+    if (verdict.refusal != ACCEPTED)
+        return ref_refused(verdict.refusal, verdict.offset);
+    end = run_to_end(&program, &tables, limit, &made);
+    ref_encode(&tables, &lent);
+    return ref_accepted(end, 0, made);
+}
+
+static struct term variable_value(const struct tables *t, uint32_t variable)
+{
+    struct term term = { VARIABLE, variable };
+
+    return ref_value(t, term);
+}
+
+uint64_t reference_supply(const uint8_t *image, size_t image_len, uint8_t *head, size_t head_len,
+                          uint8_t *procs, size_t procs_len, uint8_t *vars, size_t vars_len,
+                          uint32_t variable, uint32_t value)
+{
+    struct lent lent = { head, head_len, procs, procs_len, vars, vars_len };
+    struct program program;
+    struct tables tables;
+    struct verdict verdict = open_run(image, image_len, &lent, &program, &tables);
+    struct term supplied = { CONSTANT, value }, bound;
+
+    if (verdict.refusal != ACCEPTED)
+        return ref_refused(verdict.refusal, verdict.offset);
+    if (variable >= program.goal_variables)
+        return ref_refused(REFUSED_NOVAR, 0);
+    if (value > CONSTANT_LIMIT)
+        return ref_refused(REFUSED_CONST, 0);
+    bound = variable_value(&tables, variable);
+    if (bound.sort == CONSTANT)
+        return ref_refused(REFUSED_BOUND, 0);
+    tables.variables[bound.number] = supplied;
+    ref_encode(&tables, &lent);
+    return ref_accepted(0, 0, 0);
+}
+
+uint64_t reference_value(const uint8_t *image, size_t image_len, uint8_t *head, size_t head_len,
+                         uint8_t *procs, size_t procs_len, uint8_t *vars, size_t vars_len,
+                         uint32_t variable)
+{
+    struct lent lent = { head, head_len, procs, procs_len, vars, vars_len };
+    struct program program;
+    struct tables tables;
+    struct verdict verdict = open_run(image, image_len, &lent, &program, &tables);
+    struct term value;
+
+    if (verdict.refusal != ACCEPTED)
+        return ref_refused(verdict.refusal, verdict.offset);
+    if (variable >= program.goal_variables)
+        return ref_refused(REFUSED_NOVAR, 0);
+    value = variable_value(&tables, variable);
+    return ref_accepted(value.sort, 0, value.number);
+}
+
+/* Looks at the mode byte alone, since any row will do. */
+uint64_t reference_watch(const uint8_t *procs, size_t procs_len)
+{
+    size_t rows = procs_len / REFERENCE_PROCESS_ROW, k;
+
+    for (k = 0; k < rows; k++)
+        if (procs[k * REFERENCE_PROCESS_ROW + 1] == SUSPENDED)
+            return ref_accepted(1, 0, (uint32_t)k);
+    return ref_accepted(0, 0, 0);
+}
