@@ -1,14 +1,15 @@
 -- A literal as the reads hand it on, and the output equations at their places.
 use mathlib.Core.Bool.{_&&_, Bool, cond, not}
 use mathlib.Core.List.{[], List}
-use Prim.Native.Nat.{_+_, suc, zero, ℕ}
+use Prim.Native.Nat.{_+_, _≤_, suc, zero, ℕ}
 use lib.Dec.{eqb}
 use lib.ListN.{getD, length}
 use Rattle.parlog.specs.Codes.{equate, or-par, tagCode}
 use Rattle.parlog.specs.Image.{byteAt, equality, modeEnd, recordEnd, termAt, termEnd}
 use Rattle.parlog.specs.Program.{clauseAt, Literal, modesOf, outputs, Program}
 use Rattle.parlog.specs.Scan.{listOf}
-use Rattle.parlog.specs.declared.Term.the-variants.{Const}
+use Rattle.parlog.specs.declared.Term.{Term}
+use Rattle.parlog.specs.declared.Term.the-variants.{Const, Var}
 use Rattle.prog.specs.declared.Lit.{Lit}
 
 -- a literal as a struct: relation, arity, and the four arguments that it may have
@@ -21,6 +22,15 @@ shown l = record {
   c = getD (l .args) 2 (Const 0);
   d = getD (l .args) 3 (Const 0);
 }
+
+-- the number in a term
+abbrev pub numberOf : Term → ℕ
+numberOf (Const c) = c
+numberOf (Var v) = v
+
+-- bounds that every literal in an image keeps
+abbrev pub Small : Lit → Type 0
+Small l = (l .rel ≤ 255) × (l .arity ≤ 255) × (numberOf (l .a) ≤ 32767) × (numberOf (l .b) ≤ 32767) × (numberOf (l .c) ≤ 32767) × (numberOf (l .d) ≤ 32767)
 
 -- the output equations of n modes and m head terms at their places
 unfoldable pub outsOf : List ℕ → ℕ → ℕ → ℕ → ℕ → ℕ → List Literal

@@ -12,7 +12,7 @@ ghost use Rattle.parlog.specs.Codes.{kindOf, tagCode};
 ghost use Rattle.parlog.specs.Scan.{listOf};
 ghost use Rattle.parlog.specs.Image.{byteAt, termAt, termEnd, modeEnd, recordEnd, recordAt, guardAt, bodyAt};
 ghost use Rattle.parlog.specs.Program.{noLiteral, equation, outputs, literalOf, goalOf, modesOf, programOf, clauseAt, modesAt, outCount, varsOf, blockCount, blockOf, goalBy, goalAt, stageAt, literalAt, tagOfLiteral, tagOfStage, tagOfGoal};
-ghost use Rattle.prog.specs.Parts.{shown, outsOf, clauseOuts, stagesWith, opensBy, relationTag};
+ghost use Rattle.prog.specs.Parts.{shown, Small, numberOf, outsOf, clauseOuts, stagesWith, opensBy, relationTag};
 
 // A literal: its relation, its arity, and the four arguments that it may have.
 pub struct Lit {
@@ -26,7 +26,7 @@ pub struct Lit {
 
 // What stands past the end.
 fn none() -> Lit
-    ensures { λ r. ⌜ r ≡ shown noLiteral ⌝ }
+    ensures { λ r. ⌜ (r ≡ shown noLiteral) × Small r ⌝ }
 {
     Lit {
         rel: 255,
@@ -38,13 +38,26 @@ fn none() -> Lit
     }
 }
 
+// The term at a place.
+fn term_here(s: &[u8], at: usize) -> Term
+    requires { ⌜ at ≤ 4294967296 ⌝ }
+    ensures { λ r. ⌜ (r ≡ termAt (now (s .entry)) at) × (numberOf r ≤ 32767) ⌝ }
+{
+    let w = place::word_at(s, at);
+    if w < 32768 {
+        Term::Const(w as u32)
+    } else {
+        Term::Var((w - 32768) as u32)
+    }
+}
+
 // Term k of n terms at a place.
 fn term_of(s: &[u8], n: usize, at: usize, k: usize) -> Term
     requires { ⌜ (n ≤ 255) × (at ≤ 268435456) ⌝ }
-    ensures { λ r. ⌜ r ≡ getD (listOf (termAt (now (s .entry))) termEnd n at) k (Const 0) ⌝ }
+    ensures { λ r. ⌜ (r ≡ getD (listOf (termAt (now (s .entry))) termEnd n at) k (Const 0)) × (numberOf r ≤ 32767) ⌝ }
 {
     if k < n {
-        return place::term_at(s, at + 2 * k);
+        return term_here(s, at + 2 * k);
     }
     Term::Const(0)
 }
@@ -52,7 +65,7 @@ fn term_of(s: &[u8], n: usize, at: usize, k: usize) -> Term
 // The literal at a place.
 fn literal_here(s: &[u8], at: usize) -> Lit
     requires { ⌜ at ≤ 268435000 ⌝ }
-    ensures { λ r. ⌜ r ≡ shown (literalOf (now (s .entry)) at) ⌝ }
+    ensures { λ r. ⌜ (r ≡ shown (literalOf (now (s .entry)) at)) × Small r ⌝ }
 {
     let rel = place::byte_at(s, at);
     let n = place::byte_at(s, at + 1);
@@ -73,7 +86,7 @@ fn literal_here(s: &[u8], at: usize) -> Lit
 // Literal j of stage i of the goal at a place.
 fn literal_in(s: &[u8], at: usize, i: usize, j: usize) -> Lit
     requires { ⌜ at ≤ 134217728 ⌝ }
-    ensures { λ r. ⌜ r ≡ shown (getD (getD (goalOf (now (s .entry)) at) i []) j noLiteral) ⌝ }
+    ensures { λ r. ⌜ (r ≡ shown (getD (getD (goalOf (now (s .entry)) at) i []) j noLiteral)) × Small r ⌝ }
 {
     let n = place::byte_at(s, at);
     if n <= i {
@@ -122,8 +135,8 @@ fn modes_of(s: &[u8], rels: usize, q: usize) -> Row
 
 // One output equation.
 fn equation(t: Term, v: usize) -> Lit
-    requires { ⌜ v ≤ 4096 ⌝ }
-    ensures { λ r. ⌜ r ≡ shown (equation t v) ⌝ }
+    requires { ⌜ (v ≤ 4096) × (numberOf t ≤ 32767) ⌝ }
+    ensures { λ r. ⌜ (r ≡ shown (equation t v)) × Small r ⌝ }
 {
     Lit {
         rel: 255,
@@ -164,7 +177,7 @@ fn outs_count(s: &[u8], n: usize, mat: usize, m: usize, tat: usize, v: usize) ->
 // Output equation j of n modes and m head terms, the new variables numbered from v.
 fn outs_at(s: &[u8], n: usize, mat: usize, m: usize, tat: usize, v: usize, j: usize) -> Lit
     requires { ⌜ (n ≤ 255) × (m ≤ 255) × (v ≤ 255) × (mat ≤ 16777216) × (tat ≤ 16777216) ⌝ }
-    ensures { λ r. ⌜ r ≡ shown (getD (outsOf (now (s .entry)) n mat m tat v) j noLiteral) ⌝ }
+    ensures { λ r. ⌜ (r ≡ shown (getD (outsOf (now (s .entry)) n mat m tat v) j noLiteral)) × Small r ⌝ }
 {
     let mut left = n;
     let mut rest = m;
@@ -179,7 +192,7 @@ fn outs_at(s: &[u8], n: usize, mat: usize, m: usize, tat: usize, v: usize, j: us
         let x = place::byte_at(s, a);
         if x != 0 {
             if want == 0 {
-                let term = place::term_at(s, t);
+                let term = term_here(s, t);
                 return equation(term, v + seen);
             }
             want -= 1;
@@ -210,7 +223,7 @@ fn clause_outs(s: &[u8], rels: usize, at: usize) -> usize
 // Output equation j of the clause at a place.
 fn clause_out(s: &[u8], rels: usize, at: usize, j: usize) -> Lit
     requires { ⌜ (rels ≤ 32) × (at ≤ 8388608) ⌝ }
-    ensures { λ r. ⌜ r ≡ shown (getD (clauseOuts (now (s .entry)) rels at) j noLiteral) ⌝ }
+    ensures { λ r. ⌜ (r ≡ shown (getD (clauseOuts (now (s .entry)) rels at) j noLiteral)) × Small r ⌝ }
 {
     let q = place::byte_at(s, at + 4);
     let m = place::byte_at(s, at + 5);
@@ -249,7 +262,7 @@ pub fn literal_by(
     j: usize,
 ) -> Lit
     requires { ⌜ (rels ≤ 32) × (clauses ≤ 64) ⌝ }
-    ensures { λ r. ⌜ r ≡ shown (getD (getD (goalBy (kindOf kind) (programOf (now (s .entry)) rels clauses) k) i []) j noLiteral) ⌝ }
+    ensures { λ r. ⌜ (r ≡ shown (getD (getD (goalBy (kindOf kind) (programOf (now (s .entry)) rels clauses) k) i []) j noLiteral)) × Small r ⌝ }
 {
     if kind == 0 {
         let g = place::record_at(s, rels + clauses);
@@ -346,7 +359,7 @@ pub fn goal_size_by(s: &[u8], rels: usize, clauses: usize, kind: usize, k: usize
 // The literal that a process names.
 pub fn literal(s: &[u8], rels: usize, clauses: usize, z: Spot) -> Lit
     requires { ⌜ (rels ≤ 32) × (clauses ≤ 64) ⌝ }
-    ensures { λ r. ⌜ r ≡ shown (literalAt (programOf (now (s .entry)) rels clauses) z) ⌝ }
+    ensures { λ r. ⌜ (r ≡ shown (literalAt (programOf (now (s .entry)) rels clauses) z)) × Small r ⌝ }
 {
     literal_by(
         s,
@@ -435,7 +448,7 @@ pub fn head_size(s: &[u8], rels: usize, clauses: usize, k: usize) -> usize
 // Head term i.
 pub fn head_term(s: &[u8], rels: usize, clauses: usize, k: usize, i: usize) -> Term
     requires { ⌜ (rels ≤ 32) × (clauses ≤ 64) ⌝ }
-    ensures { λ r. ⌜ r ≡ getD (clauseAt (programOf (now (s .entry)) rels clauses) k .head) i (Const 0) ⌝ }
+    ensures { λ r. ⌜ (r ≡ getD (clauseAt (programOf (now (s .entry)) rels clauses) k .head) i (Const 0)) × (numberOf r ≤ 32767) ⌝ }
 {
     if clauses <= k {
         return Term::Const(0);

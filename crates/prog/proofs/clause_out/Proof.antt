@@ -21,4 +21,4 @@ clause-out-spec =
     (λ c κs. search needs)
     (λ c. search needs)
     (λ c κs. search needs)
-    (λ c. (c .outs-at .ensures) ∙ ap (λ (l : List Literal). shown (getD l (c .before .before .before .before .before .before .args .j) noLiteral)) (outs-of (c .before .before .before .before .before .before .args .s .now) _ _ _ _ (c .before .before .before .before .byte-at .ensures .0) (c .before .before .before .byte-at2 .ensures .0) (c .before .before .byte-at3 .ensures .0) (c .before .modes-of .ensures .0))))
+    (λ c. ((c .outs-at .ensures .0) ∙ ap (λ (l : List Literal). shown (getD l (c .before .before .before .before .before .before .args .j) noLiteral)) (outs-of (c .before .before .before .before .before .before .args .s .now) _ _ _ _ (c .before .before .before .before .byte-at .ensures .0) (c .before .before .before .byte-at2 .ensures .0) (c .before .before .byte-at3 .ensures .0) (c .before .modes-of .ensures .0)), (c .outs-at .ensures .1))))

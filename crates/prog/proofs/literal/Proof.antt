@@ -13,4 +13,4 @@ literal-spec =
     (λ c. search needs)
     (λ c. search needs)
     (λ c κs. search needs)
-    (λ c. (c .literal-by .ensures) ∙ spot-literal _ (c .before .before .before .before .before .before .args .z)))
+    (λ c. ((c .literal-by .ensures .0) ∙ spot-literal _ (c .before .before .before .before .before .before .args .z), (c .literal-by .ensures .1))))

@@ -18,4 +18,4 @@ literal-here-spec =
     (λ c κs. search needs)
     (λ c. search needs)
     (λ c κs. search needs)
-    (λ c. lit-here (c .before .before .before .before .before .before .before .args .s .now) _ (c .before .before .before .before .before .byte-at .ensures .0) (c .before .before .before .before .byte-at2 .ensures .0) (c .before .before .before .term-of .ensures) (c .before .before .term-of2 .ensures) (c .before .term-of3 .ensures) (c .term-of4 .ensures)))
+    (λ c. (lit-here (c .before .before .before .before .before .before .before .args .s .now) _ (c .before .before .before .before .before .byte-at .ensures .0) (c .before .before .before .before .byte-at2 .ensures .0) (c .before .before .before .term-of .ensures .0) (c .before .before .term-of2 .ensures .0) (c .before .term-of3 .ensures .0) (c .term-of4 .ensures .0), ((c .before .before .before .before .before .byte-at .ensures .1), (c .before .before .before .before .byte-at2 .ensures .1), (c .before .before .before .term-of .ensures .1), (c .before .before .term-of2 .ensures .1), (c .before .term-of3 .ensures .1), (c .term-of4 .ensures .1)))))

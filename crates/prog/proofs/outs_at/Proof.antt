@@ -31,12 +31,12 @@ outs-at-spec =
     μ-loop
     (λ c. (omega arith, omega arith, omega arith, omega arith, omega arith, at-start _ _ _ _ _ _ _))
     (λ c κs. search needs)
-    (λ c. (c .none .ensures) ∙ ap shown (sym ((c .before .before .before .loop .inv .5) ∙ rw (outs-short _ _ _ _ _ _ (c .before .if1 .taken)))))
+    (λ c. ((c .none .ensures .0) ∙ ap shown (sym ((c .before .before .before .loop .inv .5) ∙ rw (outs-short _ _ _ _ _ _ (c .before .if1 .taken)))), (c .none .ensures .1)))
     (λ c κs. search needs)
     (λ c κs. search needs)
     (λ c. search needs)
     (λ c κs. search needs)
-    (λ c. (c .equation .ensures) ∙ rw (c .before .term-at .ensures) (ap shown (sym ((c .before .before .before .before .before .before .before .loop .inv .5) ∙ at-this _ _ _ _ _ _ _ _ (omega arith) (c .before .before .before .before .before .if1 .left) (c .before .before .before .before .byte-at .ensures .0) (c .before .before .before .if2 .taken) (c .before .before .if3 .taken)))))
+    (λ c. ((c .equation .ensures .0) ∙ rw (c .before .term-here .ensures .0) (ap shown (sym ((c .before .before .before .before .before .before .before .loop .inv .5) ∙ at-this _ _ _ _ _ _ _ _ (omega arith) (c .before .before .before .before .before .if1 .left) (c .before .before .before .before .byte-at .ensures .0) (c .before .before .before .if2 .taken) (c .before .before .if3 .taken)))), (c .equation .ensures .1)))
     (λ c. search needs)
     (λ c. search needs)
     (λ c. search needs)
@@ -46,4 +46,4 @@ outs-at-spec =
     (λ c. search needs)
     loop-again
     (λ c κs. search needs)
-    (λ c. let z : (c .before .before .loop .left) ≡ 0 = omega arith in (c .none2 .ensures) ∙ ap shown (sym ((c .before .before .loop .inv .5) ∙ rw (outs-end _ _ _ _ _ _ z)))))
+    (λ c. let z : (c .before .before .loop .left) ≡ 0 = omega arith in ((c .none2 .ensures .0) ∙ ap shown (sym ((c .before .before .loop .inv .5) ∙ rw (outs-end _ _ _ _ _ _ z))), (c .none2 .ensures .1))))
