@@ -10,18 +10,24 @@ use borrow.Author.Tests.{eq-eqb, eqb-false, eqb-true, leb-true, ltb-false, ne-eq
 use borrow.Author.Count.{below-more}
 use native.Mathlib.Omega.{arith}
 use Rattle.load.proofs.Room.{few-clauses, few-relations}
-use Rattle.load.proofs.Turn.{either-false, whole}
+use Rattle.load.proofs.Turn.{either-false, ends, whole}
 use Rattle.load.specs.Reading.{Arities}
+use Rattle.parlog.proofs.Along.{along-snoc}
+use Rattle.parlog.proofs.Bools.{and-true}
 use Rattle.parlog.specs.Body.{askBody, bodyRight, clauseBody, relationBody}
+use Rattle.parlog.specs.Cases.{order}
+use Rattle.parlog.specs.Codes.{none}
 use Rattle.parlog.specs.Image.{byteAt, kindAt, recordAt, recordEnd, wordAt}
 use Rattle.parlog.specs.Load.{after, blockFull, cut, kindFault, loadEnd, loadOf, long, nothingRead, progressed, records, refusal, refuseIf, tooMany, verdict}
 use Rattle.parlog.specs.Names.{arityOf, clauseInside, clausePlaced, follows, goalNamed, namesRight, relationNamed}
+use Rattle.parlog.specs.Rules.{room}
 use Rattle.parlog.specs.Scan.{along}
+use Rattle.parlog.specs.TableRules.{known}
+use Rattle.parlog.specs.Tables.{at, high, low}
 use Rattle.parlog.specs.declared.Loaded.the-variants.{Accepted, Refused}
 use Rattle.parlog.specs.declared.Progress.{Progress}
 use Rattle.parlog.specs.declared.Verdict.{Verdict}
 use Rattle.parlog.specs.declared.Verdict.the-variants.{Goes, Refuses}
-use Rattle.place.proofs.Laws.{along-snoc, both-true}
 
 pub record RelationRight (s : List ℕ) (at : ℕ) : Type 0 where
   pub kind : kindAt s at ≡ 1
@@ -151,11 +157,11 @@ module _ (s : List ℕ) (g t : Progress) (at : ℕ) (R : Reached s g at) (P : Pa
       let n1 : eqb (kindAt s at) 1 ≡ false = ne-eqb (kindAt s at) 1 (λ f. omega arith) in
       let b : clauseBody s at ≡ true = rw (n1, eq-eqb (kindAt s at) 2 k2) at (P .body) in
       let n : (clausePlaced s g at && clauseInside s (g .relations) at) ≡ true = rw (n1, eq-eqb (kindAt s at) 2 k2) at (P .names) in
-      let both = both-true (clausePlaced s g at) (clauseInside s (g .relations) at) n in
+      let both = and-true (clausePlaced s g at) (clauseInside s (g .relations) at) n in
       let known = relationNamed s (g .relations) (byteAt s (at + 4)) (byteAt s (at + 5)) in
       let rest = leb (g .relation) (byteAt s (at + 4)) && (follows g (byteAt s (at + 4)) || eqb (byteAt s (at + 6)) 0) in
-      let placed = both-true known rest (both .0) in
-      let up = leb-true (g .relation) (byteAt s (at + 4)) (both-true (leb (g .relation) (byteAt s (at + 4))) (follows g (byteAt s (at + 4)) || eqb (byteAt s (at + 6)) 0) (placed .1) .0) in
+      let placed = and-true known rest (both .0) in
+      let up = leb-true (g .relation) (byteAt s (at + 4)) (and-true (leb (g .relation) (byteAt s (at + 4))) (follows g (byteAt s (at + 4)) || eqb (byteAt s (at + 6)) 0) (placed .1) .0) in
       let own : ClauseRight s (g .relations) at = record { kind = k2; body = b; head = placed .0; names = both .1; inside = P .inside } in
       let at-end : at ≡ recordAt s (g .relations + g .clauses) = R .here (ks .3) in
       let its : relationOf s (g .relations) (g .clauses) ≡ byteAt s (at + 4) = ap (λ p. byteAt s (p + 4)) (sym at-end) in

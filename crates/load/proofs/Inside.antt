@@ -6,11 +6,14 @@ use Prim.Native.Nat.{_+_, _<_, _≤_, suc, zero, ℕ}
 use lib.Dec.{eqb, leb, ltb}
 use borrow.Author.Tests.{eqb-true, leb-true, ltb-true}
 use native.Mathlib.Omega.{arith}
+use Rattle.load.proofs.Turn.{ends}
+use Rattle.parlog.proofs.Along.{each-at, total-at}
+use Rattle.parlog.proofs.Bools.{and-true}
 use Rattle.parlog.specs.Body.{askBody, clauseBody, goalRange, literalCount, literalRange, literalsRange, modeRange, modesRange, relationBody, stageRange, stagesRange}
 use Rattle.parlog.specs.Image.{bodyAt, byteAt, goalEnd, guardAt, literalEnd, literalsEnd, modeEnd, recordEnd, stageEnd, stagesEnd}
 use Rattle.parlog.specs.Names.{arityOf, goalNamed, literalNamed, relationNamed, stageNamed}
-use Rattle.parlog.specs.Scan.{along}
-use Rattle.place.proofs.Laws.{both-true, each-at, total-at}
+use Rattle.parlog.specs.Scan.{along, some}
+use Rattle.parlog.specs.Tables.{at}
 
 -- stage i of the goal at a place, literal j of the stage at a place
 abbrev pub stagePlace : List ℕ → ℕ → ℕ → ℕ
@@ -72,20 +75,20 @@ pub record GoalFields (s : List ℕ) (at : ℕ) : Type 0 where
 module _ (s : List ℕ) (at : ℕ) (e : stageRange s at ≡ true) where
   stage-some : 1 ≤ byteAt s at
   unfolding stageRange
-  stage-some = leb-true 1 (byteAt s at) (both-true (leb 1 (byteAt s at)) (literalsRange s (byteAt s at) (at + 1)) e .0)
+  stage-some = leb-true 1 (byteAt s at) (and-true (leb 1 (byteAt s at)) (literalsRange s (byteAt s at) (at + 1)) e .0)
 
   stage-arity : (j : ℕ) → j < byteAt s at → byteAt s (literalPlace s at j + 1) ≤ 4
   unfolding stageRange
   stage-arity j h =
-      let d = both-true (leb 1 (byteAt s at)) (literalsRange s (byteAt s at) (at + 1)) e .1 in
+      let d = and-true (leb 1 (byteAt s at)) (literalsRange s (byteAt s at) (at + 1)) e .1 in
       leb-true (byteAt s (literalPlace s at j + 1)) 4 (each-at (literalRange s) (literalEnd s) (byteAt s at) (at + 1) j d h)
 
 pub goal-fields : (s : List ℕ) (at : ℕ) → goalRange s at ≡ true → GoalFields s at
 unfolding goalRange
 goal-fields s at e =
     let n = byteAt s at in
-    let a = both-true (leb n 8) (stagesRange s n (at + 1) && leb (literalCount s n (at + 1)) 8) e in
-    let b = both-true (stagesRange s n (at + 1)) (leb (literalCount s n (at + 1)) 8) (a .1) in
+    let a = and-true (leb n 8) (stagesRange s n (at + 1) && leb (literalCount s n (at + 1)) 8) e in
+    let b = and-true (stagesRange s n (at + 1)) (leb (literalCount s n (at + 1)) 8) (a .1) in
     let l = leb-true (literalCount s n (at + 1)) 8 (b .1) in
     record {
       stages = leb-true n 8 (a .0);
@@ -112,8 +115,8 @@ pub relation-fields : (s : List ℕ) (at : ℕ) → relationBody s at ≡ true �
 unfolding relationBody
 relation-fields s at e =
     let n = byteAt s (at + 4) in
-    let a = both-true (leb n 4) (modesRange s n (at + 5) && eqb (at + 5 + n) (recordEnd s at)) e in
-    let b = both-true (modesRange s n (at + 5)) (eqb (at + 5 + n) (recordEnd s at)) (a .1) in
+    let a = and-true (leb n 4) (modesRange s n (at + 5) && eqb (at + 5 + n) (recordEnd s at)) e in
+    let b = and-true (modesRange s n (at + 5)) (eqb (at + 5 + n) (recordEnd s at)) (a .1) in
     record {
       arity = leb-true n 4 (a .0);
       mode = λ i h. leb-true (byteAt s (along modeEnd i (at + 5))) 1 (each-at (modeRange s) modeEnd n (at + 5) i (b .0) h);
@@ -133,11 +136,11 @@ unfolding clauseBody
 clause-fields s at e =
     let the-end = eqb (goalEnd s (bodyAt s at)) (recordEnd s at) in
     let goals = goalRange s (guardAt s at) && (goalRange s (bodyAt s at) && the-end) in
-    let a = both-true (leb (byteAt s (at + 5)) 4) (leb (byteAt s (at + 6)) 1 && (leb (byteAt s (at + 7)) 16 && goals)) e in
-    let b = both-true (leb (byteAt s (at + 6)) 1) (leb (byteAt s (at + 7)) 16 && goals) (a .1) in
-    let d = both-true (leb (byteAt s (at + 7)) 16) goals (b .1) in
-    let f = both-true (goalRange s (guardAt s at)) (goalRange s (bodyAt s at) && the-end) (d .1) in
-    let h = both-true (goalRange s (bodyAt s at)) the-end (f .1) in
+    let a = and-true (leb (byteAt s (at + 5)) 4) (leb (byteAt s (at + 6)) 1 && (leb (byteAt s (at + 7)) 16 && goals)) e in
+    let b = and-true (leb (byteAt s (at + 6)) 1) (leb (byteAt s (at + 7)) 16 && goals) (a .1) in
+    let d = and-true (leb (byteAt s (at + 7)) 16) goals (b .1) in
+    let f = and-true (goalRange s (guardAt s at)) (goalRange s (bodyAt s at) && the-end) (d .1) in
+    let h = and-true (goalRange s (bodyAt s at)) the-end (f .1) in
     record {
       arity = leb-true (byteAt s (at + 5)) 4 (a .0);
       mark = leb-true (byteAt s (at + 6)) 1 (b .0);
@@ -155,13 +158,13 @@ pub record AskFields (s : List ℕ) (at : ℕ) : Type 0 where
 pub ask-fields : (s : List ℕ) (at : ℕ) → askBody s at ≡ true → AskFields s at
 unfolding askBody
 ask-fields s at e =
-    let a = both-true (leb (byteAt s (at + 4)) 16) (goalRange s (at + 5) && eqb (goalEnd s (at + 5)) (recordEnd s at)) e in
-    let b = both-true (goalRange s (at + 5)) (eqb (goalEnd s (at + 5)) (recordEnd s at)) (a .1) in
+    let a = and-true (leb (byteAt s (at + 4)) 16) (goalRange s (at + 5) && eqb (goalEnd s (at + 5)) (recordEnd s at)) e in
+    let b = and-true (goalRange s (at + 5)) (eqb (goalEnd s (at + 5)) (recordEnd s at)) (a .1) in
     record { vars = leb-true (byteAt s (at + 4)) 16 (a .0); goal = b .0; ends = eqb-true (goalEnd s (at + 5)) (recordEnd s at) (b .1) }
 
 -- a relation that is named is one of the image's, with its arity
 pub relation-named : (s : List ℕ) (rels r a : ℕ) → relationNamed s rels r a ≡ true → (r < rels) × (a ≡ arityOf s r)
 unfolding relationNamed
 relation-named s rels r a e =
-    let b = both-true (ltb r rels) (eqb a (arityOf s r)) e in
+    let b = and-true (ltb r rels) (eqb a (arityOf s r)) e in
     (ltb-true r rels (b .0), eqb-true a (arityOf s r) (b .1))

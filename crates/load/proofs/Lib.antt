@@ -3,3 +3,4 @@ pub mod Turn
 pub mod Accepted
 pub mod Inside
 pub mod Rows
+pub mod Sanity

@@ -7,12 +7,13 @@ use lib.Dec.{eqb, leb, ltb}
 use borrow.Author.Tests.{le-leb, le-ltb, lt-leb, lt-ltb, ltb-false}
 use native.Mathlib.Omega.{arith}
 use Rattle.load.specs.Reading.{Arities, row, stagesRow}
+use Rattle.parlog.proofs.Along.{less-one}
 use Rattle.parlog.specs.Body.{goalRange, literalCount, literalsRange, stageRange, stagesRange}
 use Rattle.parlog.specs.Image.{byteAt, goalEnd, literalsEnd, stageEnd, stagesEnd, wordAt}
 use Rattle.parlog.specs.Names.{literalsNamed, relationNamed, stageNamed, termNamed, termNamedAt}
 use Rattle.parlog.specs.Scan.{along, each, total}
+use Rattle.parlog.specs.Tables.{at}
 use Rattle.parlog.specs.declared.Term.the-variants.{Const, Var}
-use Rattle.place.proofs.Laws.{less-one}
 
 -- ---- any row
 

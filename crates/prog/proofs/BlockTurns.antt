@@ -9,12 +9,12 @@ use lib.Seq.{getD-append-seam}
 use borrow.Author.Tests.{eq-eqb, eqb-false, eqb-true, ltb-false, ltb-true, ne-eqb}
 use native.Mathlib.Omega.{arith}
 use native.Mathlib.Numerals.{add-one}
+use Rattle.parlog.proofs.Along.{along-snoc, list-length}
+use Rattle.parlog.proofs.Says.{there}
 use Rattle.parlog.specs.Image.{byteAt, recordAt, recordEnd, wordAt}
 use Rattle.parlog.specs.Program.{blockCount, blockOf, clauseAt, clauseOf, inBlock, opens, Program, programOf}
 use Rattle.parlog.specs.Scan.{tally, those}
-use Rattle.place.proofs.Laws.{along-snoc}
 use Rattle.prog.proofs.Clauses.{mark-some, relation-some}
-use Rattle.prog.proofs.Rows.{list-length}
 use Rattle.prog.specs.Parts.{opensBy, relationBefore}
 
 -- ---- one number more

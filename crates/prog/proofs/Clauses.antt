@@ -5,13 +5,14 @@ use Prim.Native.Nat.{_+_, _-_, _<_, _≤_, ℕ}
 use lib.ListN.{getD, length}
 use borrow.Author.Tests.{eq-eqb, ne-eqb}
 use native.Mathlib.Omega.{arith}
+use Rattle.parlog.proofs.Along.{along-modes, list-at, list-length, list-more, list-none, list-past}
 use Rattle.parlog.specs.Image.{byteAt, guardAt, modeEnd, recordAt, recordEnd, termAt, termEnd}
 use Rattle.parlog.specs.Program.{Clause, clauseAt, clauseOf, modesAt, modesOf, noClause, outCount, programOf, varsOf}
 use Rattle.parlog.specs.Scan.{listOf}
 use Rattle.parlog.specs.declared.Term.{Term}
 use Rattle.parlog.specs.declared.Term.the-variants.{Const}
 use Rattle.prog.proofs.Goals.{clause-none, clause-some}
-use Rattle.prog.proofs.Rows.{along-modes, goal-length, list-at, list-length, list-more, list-none, list-past}
+use Rattle.prog.proofs.Rows.{goal-length}
 
 module _ (s : List ℕ) (r c k : ℕ) where
   -- past the end

@@ -1,16 +1,17 @@
 -- The goals of a program by kind and clause: one law for each way through `literal_by`, `stage_size_by` and `goal_size_by`.
 use mathlib.Core.Path.{_∙_, _≡_, ap, refl, sym}
-use mathlib.Core.List.{[], _++_, _∷_, List, append-nil}
+use mathlib.Core.List.{[], _++_, _∷_, List}
 use Prim.Native.Nat.{_+_, _-_, _<_, _≤_, suc, zero, ℕ}
 use lib.ListN.{getD, length, length-append, List·getD-append}
 use lib.Seq.{getD-append-add}
 use native.Mathlib.Omega.{arith}
+use Rattle.parlog.proofs.Along.{along-add, list-at, list-past}
 use Rattle.parlog.specs.Codes.{kindOf}
 use Rattle.parlog.specs.Image.{bodyAt, byteAt, guardAt, recordAt, recordEnd}
 use Rattle.parlog.specs.Program.{before, Clause, clauseAt, clauseOf, committedBody, Goal, goalAt, goalBy, goalOf, Literal, literalAt, noClause, noLiteral, Program, programOf, stageAt}
 use Rattle.parlog.specs.declared.Spot.{Spot}
 use Rattle.prog.proofs.Outs.{no-terms}
-use Rattle.prog.proofs.Rows.{along-add, goal-length, list-at, list-past}
+use Rattle.prog.proofs.Rows.{goal-length}
 use Rattle.prog.specs.Parts.{clauseOuts, shown, stagesWith}
 
 -- the committed body: its first stage, the others, and their number

@@ -6,11 +6,10 @@ use lib.ListN.{getD, length}
 use borrow.Author.Tests.{eq-eqb, ne-eqb}
 use native.Mathlib.Omega.{arith}
 use native.Mathlib.Numerals.{add-one}
+use Rattle.parlog.proofs.Along.{less-one, list-at, list-more, list-none, list-past}
 use Rattle.parlog.specs.Image.{byteAt, modeEnd, recordAt, recordEnd, termAt, termEnd}
 use Rattle.parlog.specs.Program.{equation, Literal, modesOf, noLiteral, outputs}
 use Rattle.parlog.specs.Scan.{listOf}
-use Rattle.place.proofs.Laws.{less-one}
-use Rattle.prog.proofs.Rows.{list-at, list-more, list-none, list-past}
 use Rattle.prog.specs.Parts.{clauseOuts, outsOf}
 
 pub no-terms : (ms : List ℕ) (v : ℕ) → outputs ms [] v ≡ []

@@ -1,54 +1,16 @@
 -- Rows of items at their places: length, item by number, and the ways through the reads of a goal in the image.
-use mathlib.Core.Path.{_∙_, _≡_, ap, refl, sym}
-use mathlib.Core.List.{[], _∷_, List}
-use Prim.Native.Nat.{_*_, _+_, _-_, _<_, _≤_, suc, zero, ℕ}
-use lib.ListN.{getD, length, List·getD-eq-default}
+use mathlib.Core.Path.{_∙_, _≡_, ap, sym}
+use mathlib.Core.List.{[], List}
+use Prim.Native.Nat.{_*_, _+_, _<_, _≤_, ℕ}
+use lib.ListN.{getD, length}
 use native.Mathlib.Omega.{arith}
-use Rattle.parlog.specs.Image.{byteAt, literalEnd, modeEnd, stageEnd, termAt, termEnd}
+use Rattle.parlog.proofs.Along.{along-terms, list-at, list-length, list-past}
+use Rattle.parlog.specs.Image.{byteAt, literalEnd, stageEnd, termAt, termEnd}
 use Rattle.parlog.specs.Program.{goalOf, literalOf, noLiteral, stageOf}
 use Rattle.parlog.specs.Scan.{along, listOf}
 use Rattle.parlog.specs.declared.Term.{Term}
 use Rattle.parlog.specs.declared.Term.the-variants.{Const}
-use Rattle.place.proofs.Laws.{less-one}
 use Rattle.prog.specs.Parts.{shown}
-
-pub list-length : {A : Type 0} (read : ℕ → A) (next : ℕ → ℕ) (n from : ℕ) → length (listOf read next n from) ≡ n
-unfolding listOf
-list-length read next zero from = refl
-list-length read next (suc n) from = ap suc (list-length read next n (next from))
-
-pub list-at : {A : Type 0} (read : ℕ → A) (next : ℕ → ℕ) (n from i : ℕ) (d : A) → i < n → getD (listOf read next n from) i d ≡ read (along next i from)
-unfolding listOf along
-list-at read next zero from i d h = absurd (omega arith)
-list-at read next (suc n) from zero d h = refl
-list-at read next (suc n) from (suc i) d h = list-at read next n (next from) i d (omega arith)
-
-pub list-past : {A : Type 0} (read : ℕ → A) (next : ℕ → ℕ) (n from i : ℕ) (d : A) → n ≤ i → getD (listOf read next n from) i d ≡ d
-list-past read next n from i d h = List·getD-eq-default (listOf read next n from) d (omega (arith, list-length read next n from))
-
-pub list-none : {A : Type 0} (read : ℕ → A) (next : ℕ → ℕ) (n from : ℕ) → n ≡ 0 → listOf read next n from ≡ []
-unfolding listOf
-list-none read next n from z = rw z
-
-pub list-more : {A : Type 0} (read : ℕ → A) (next : ℕ → ℕ) (n from : ℕ) → 0 < n → listOf read next n from ≡ read from ∷ listOf read next (n - 1) (next from)
-unfolding listOf
-list-more read next zero from h = absurd (omega arith)
-list-more read next (suc n) from h = rw less-one
-
-pub along-add : (next : ℕ → ℕ) (m n from : ℕ) → along next m (along next n from) ≡ along next (n + m) from
-unfolding along
-along-add next m zero from = let e : 0 + m ≡ m = omega arith in rw e
-along-add next m (suc n) from = let e : suc n + m ≡ suc (n + m) = omega arith in rw e (along-add next m n (next from))
-
-pub along-terms : (k from : ℕ) → along termEnd k from ≡ from + 2 * k
-unfolding along
-along-terms zero from = omega arith
-along-terms (suc k) from = along-terms k (termEnd from) ∙ omega arith
-
-pub along-modes : (k from : ℕ) → along modeEnd k from ≡ from + k
-unfolding along
-along-modes zero from = omega arith
-along-modes (suc k) from = along-modes k (modeEnd from) ∙ omega arith
 
 module _ (s : List ℕ) (from : ℕ) where
   pub goal-length : length (goalOf s from) ≡ byteAt s from

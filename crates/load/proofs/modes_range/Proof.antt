@@ -1,6 +1,6 @@
 use Rattle.parlog.specs.Image.{byteAt}
 use Rattle.parlog.specs.Body.{modeRange, modesRange}
-use Rattle.place.proofs.Laws.{each-none, each-more, each-stop}
+use Rattle.parlog.proofs.Along.{each-none, each-more, each-stop}
 use Rattle.parlog.specs.Image.{modeEnd}
 use mathlib.Core.Path.{_≡_, refl}
 use Prim.Native.Nat.{ℕ, _≤_, _+_, _*_}

@@ -1,4 +1,4 @@
-use Rattle.place.proofs.Laws.{each-none, each-more, each-stop}
+use Rattle.parlog.proofs.Along.{each-none, each-more, each-stop}
 use Rattle.load.proofs.Rows.{term-right, term-fault}
 use Rattle.parlog.specs.Names.{termNamedAt, termsNamed}
 use Rattle.parlog.specs.Image.{termEnd}
