@@ -11,7 +11,8 @@ ghost use lib.Dec.{eqb};
 ghost use Rattle.parlog.specs.Image.{byteAt, recordEnd, equality, literalEnd, literalsEnd, stageEnd, stagesEnd, goalEnd, bodyAt};
 ghost use Rattle.parlog.specs.Body.{modesRange, literalsRange, stageRange, goalRange, relationBody, clauseBody, askBody, bodyRight};
 ghost use Rattle.parlog.specs.Names.{termsNamed, relationNamed, literalNamed, literalsNamed, stagesNamed, goalNamed, follows, clausePlaced, clauseInside, namesRight};
-ghost use Rattle.parlog.specs.Load.{cut, kindFault, tooMany, blockWith, blockFull, progressed, verdict, records, nothingRead, loadOf};
+ghost use Rattle.parlog.specs.Load.{cut, kindFault, tooMany, blockWith, blockFull, progressed, verdict, records, nothingRead, refusal, loadOf};
+ghost use Rattle.parlog.specs.declared.Loaded.the-variants.{Refused};
 ghost use Rattle.load.specs.Bounds.{Small, Next, Bounded};
 ghost use Rattle.load.specs.Reading.{Arities, stagesRow};
 ghost use Rattle.load.specs.Fields.{fieldsVerdict, refusalOf};
@@ -478,6 +479,16 @@ fn test_record(s: &[u8], t: &[u8; 33], g: Progress, at: usize) -> Verdict
     test_fields(s, t, g, at, kind)
 }
 
+// A refusal with its number and offset.
+fn refused(number: u8, offset: usize) -> Loaded
+    ensures { λ r. ⌜ r ≡ Refused (refusal number offset) ⌝ }
+{
+    Loaded::Refused(Refusal {
+        number: number,
+        offset: offset,
+    })
+}
+
 // Records in file order.
 fn records(s: &[u8]) -> Loaded
     requires { ⌜ length (now s) ≤ 32768 ⌝ }
@@ -501,10 +512,7 @@ fn records(s: &[u8]) -> Loaded
         arities[k] = place::byte_at(s, at + 4) as u8;
         match v {
             Verdict::Refuses(number) => {
-                return Loaded::Refused(Refusal {
-                    number: number,
-                    offset: at,
-                });
+                return refused(number, at);
             }
             Verdict::Goes(next) => {
                 g = next;
@@ -515,10 +523,7 @@ fn records(s: &[u8]) -> Loaded
     if g.kind == 3 {
         Loaded::Accepted(g.relations, g.clauses)
     } else {
-        Loaded::Refused(Refusal {
-            number: 7,
-            offset: n,
-        })
+        refused(7, n)
     }
 }
 
@@ -528,10 +533,7 @@ pub fn load(image: &[u8]) -> Loaded
     ensures { λ r. ⌜ Bounded (length (now (image .entry))) r ⌝ }
 {
     if 32768 < image.len() {
-        return Loaded::Refused(Refusal {
-            number: 1,
-            offset: 0,
-        });
+        return refused(1, 0);
     }
     records(image)
 }
