@@ -1,17 +1,17 @@
 -- What the tests say of single fields: their ranges, and that each stands inside its record.
 use mathlib.Core.Path.{_≡_}
-use mathlib.Core.Bool.{_&&_, true}
+use mathlib.Core.Bool.{_&&_, cond, true}
 use mathlib.Core.List.{List}
 use Prim.Native.Nat.{_+_, _<_, _≤_, suc, zero, ℕ}
 use lib.Dec.{eqb, leb, ltb}
-use borrow.Author.Tests.{eqb-true, leb-true, ltb-true}
+use borrow.Author.Tests.{eq-eqb, eqb-true, leb-true, ltb-true, ne-eqb}
 use native.Mathlib.Omega.{arith}
 use Rattle.load.proofs.Turn.{ends}
 use Rattle.parlog.proofs.Along.{each-at, total-at}
 use Rattle.parlog.proofs.Bools.{and-true}
 use Rattle.parlog.specs.Body.{askBody, clauseBody, goalRange, literalCount, literalRange, literalsRange, modeRange, modesRange, relationBody, stageRange, stagesRange}
-use Rattle.parlog.specs.Image.{bodyAt, byteAt, goalEnd, guardAt, literalEnd, literalsEnd, modeEnd, recordEnd, stageEnd, stagesEnd}
-use Rattle.parlog.specs.Names.{arityOf, goalNamed, literalNamed, relationNamed, stageNamed}
+use Rattle.parlog.specs.Image.{bodyAt, byteAt, equality, goalEnd, guardAt, literalEnd, literalsEnd, modeEnd, recordEnd, stageEnd, stagesEnd}
+use Rattle.parlog.specs.Names.{arityOf, goalNamed, literalNamed, relationNamed, stageNamed, termsNamed}
 use Rattle.parlog.specs.Scan.{along, some}
 use Rattle.parlog.specs.Tables.{at}
 
@@ -168,3 +168,18 @@ unfolding relationNamed
 relation-named s rels r a e =
     let b = and-true (ltb r rels) (eqb a (arityOf s r)) e in
     (ltb-true r rels (b .0), eqb-true a (arityOf s r) (b .1))
+
+-- a literal that is named right: its terms, and equality with arity 2 or one of the relations
+module _ (s : List ℕ) (rels vars at : ℕ) (e : literalNamed s rels vars at ≡ true) where
+  called : (cond (eqb (byteAt s at) equality) (eqb (byteAt s (at + 1)) 2) (relationNamed s rels (byteAt s at) (byteAt s (at + 1))) ≡ true) × (termsNamed s vars (byteAt s (at + 1)) (at + 2) ≡ true)
+  unfolding literalNamed
+  called = and-true (cond (eqb (byteAt s at) equality) (eqb (byteAt s (at + 1)) 2) (relationNamed s rels (byteAt s at) (byteAt s (at + 1)))) (termsNamed s vars (byteAt s (at + 1)) (at + 2)) e
+
+  pub literal-terms : termsNamed s vars (byteAt s (at + 1)) (at + 2) ≡ true
+  literal-terms = called .1
+
+  pub literal-equality : byteAt s at ≡ 255 → byteAt s (at + 1) ≡ 2
+  literal-equality h = eqb-true (byteAt s (at + 1)) 2 (rw (eq-eqb (byteAt s at) equality h) at (called .0))
+
+  pub literal-relation : (byteAt s at ≡ 255 → ⊥) → relationNamed s rels (byteAt s at) (byteAt s (at + 1)) ≡ true
+  literal-relation h = rw (ne-eqb (byteAt s at) equality h) at (called .0)

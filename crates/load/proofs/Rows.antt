@@ -1,16 +1,20 @@
 -- One turn of a row that is read to its end, and what the end says of the tests.
 use mathlib.Core.Path.{_≡_, refl}
-use mathlib.Core.Bool.{_&&_, Bool, cond, false, true}
+use mathlib.Core.Bool.{_&&_, _||_, Bool, cond, false, true}
 use mathlib.Core.List.{List}
-use Prim.Native.Nat.{_+_, _-_, _<_, _≤_, suc, zero, ℕ}
+use Prim.Native.Nat.{_*_, _+_, _-_, _<_, _≤_, suc, zero, ℕ}
 use lib.Dec.{eqb, leb, ltb}
-use borrow.Author.Tests.{le-leb, le-ltb, lt-leb, lt-ltb, ltb-false}
+use lib.ListN.{length}
+use borrow.Author.Tests.{eq-eqb, le-leb, le-ltb, lt-leb, lt-ltb, ltb-false, ne-eqb}
 use native.Mathlib.Omega.{arith}
+use Rattle.load.proofs.Inside.{along-grows, ask-fields, clause-fields, goal-grows}
+use Rattle.load.proofs.Turn.{either-false}
 use Rattle.load.specs.Reading.{Arities, row, stagesRow}
-use Rattle.parlog.proofs.Along.{less-one}
-use Rattle.parlog.specs.Body.{goalRange, literalCount, literalsRange, stageRange, stagesRange}
-use Rattle.parlog.specs.Image.{byteAt, goalEnd, literalsEnd, stageEnd, stagesEnd, wordAt}
-use Rattle.parlog.specs.Names.{literalsNamed, relationNamed, stageNamed, termNamed, termNamedAt}
+use Rattle.parlog.proofs.Along.{along-more, less-one}
+use Rattle.parlog.specs.Body.{bodyRight, goalRange, literalCount, literalsRange, stageRange, stagesRange}
+use Rattle.parlog.specs.Image.{bodyAt, byteAt, equality, goalEnd, guardAt, literalsEnd, recordEnd, stageEnd, stagesEnd, wordAt}
+use Rattle.parlog.specs.Load.{cut}
+use Rattle.parlog.specs.Names.{clauseInside, goalNamed, literalNamed, literalsNamed, relationNamed, stageNamed, termNamed, termNamedAt, termsNamed}
 use Rattle.parlog.specs.Scan.{along, each, total}
 use Rattle.parlog.specs.Tables.{at}
 use Rattle.parlog.specs.declared.Term.the-variants.{Const, Var}
@@ -92,13 +96,6 @@ module _ (x : ℕ → Bool) (f : ℕ → ℕ) (up : (y : ℕ) → 0 < f y) where
       go true = lt-ltb 0 (f g) (up g)
       go false = refl
 
-  pub two-right : (g b e : ℕ) → b ≡ cond (x g) (f g) 0 → e ≡ cond (x b) (f b) 0 → (ltb 0 b && ltb 0 e) ≡ (x g && x (f g))
-  two-right g b e p q = go (x g) refl
-    where
-      go : (y : Bool) → x g ≡ y → (ltb 0 b && ltb 0 e) ≡ (y && x (f g))
-      go true h = let l : b ≡ f g = rw h at p in rw (one-right b e q, one-right g b p, h, ← l)
-      go false h = rw (one-right g b p, h)
-
   pub one-end : (g e to : ℕ) → e ≡ cond (x g) (f g) 0 → (ltb 0 e && eqb e to) ≡ (x g && eqb (f g) to)
   one-end g e to q = go (x g) refl
     where
@@ -151,3 +148,71 @@ relation-known s t rels r a h l = rw (lt-ltb r rels l, h .arity r l)
 pub relation-unknown : (s : List ℕ) (rels r a : ℕ) → rels ≤ r → false ≡ relationNamed s rels r a
 unfolding relationNamed
 relation-unknown s rels r a h = rw (le-ltb r rels h)
+
+-- ---- items inside the image, which the names are read from with no test of the length
+
+module _ (next : ℕ → ℕ) (up : (x : ℕ) → x ≤ next x) where
+  -- the first item of a row that ends inside ends inside, and so does the rest
+  pub first-in : (n at to : ℕ) → 0 < n → along next n at ≤ to → next at ≤ to
+  first-in n at to h l = let e = along-more next n at h in let g = along-grows next up (n - 1) (next at) in omega arith
+
+  pub rest-in : (n at to : ℕ) → 0 < n → along next n at ≤ to → along next (n - 1) (next at) ≤ to
+  rest-in n at to h l = let e = along-more next n at h in omega arith
+
+pub stage-in : (s : List ℕ) (at k to : ℕ) → k ≡ byteAt s at → stageEnd s at ≤ to → literalsEnd s k (at + 1) ≤ to
+unfolding stageEnd
+stage-in s at k to e h = rw e h
+
+pub goal-in : (s : List ℕ) (at k to : ℕ) → k ≡ byteAt s at → goalEnd s at ≤ to → stagesEnd s k (at + 1) ≤ to
+unfolding goalEnd
+goal-in s at k to e h = rw e h
+
+-- ---- literals and clauses by their parts
+
+module _ (s : List ℕ) (rels vars at r a : ℕ) (er : r ≡ byteAt s at) (ea : a ≡ byteAt s (at + 1)) where
+  pub literal-fault : cond (eqb r equality) (eqb a 2) (relationNamed s rels r a) ≡ false → false ≡ literalNamed s rels vars at
+  unfolding literalNamed
+  literal-fault h = rw (← er, ← ea, h)
+
+  pub literal-right : cond (eqb r equality) (eqb a 2) (relationNamed s rels r a) ≡ true → termsNamed s vars a (at + 2) ≡ literalNamed s rels vars at
+  unfolding literalNamed
+  literal-right h = rw (← er, ← ea, h)
+
+module _ (s : List ℕ) (rels at : ℕ) where
+  pub inside-fault : goalNamed s rels (byteAt s (at + 7)) (guardAt s at) ≡ false → false ≡ clauseInside s rels at
+  unfolding clauseInside
+  inside-fault h = rw h (neither (termsNamed s (byteAt s (at + 7)) (byteAt s (at + 5)) (at + 8)))
+    where
+      neither : (b : Bool) → false ≡ (b && false)
+      neither true = refl
+      neither false = refl
+
+  pub inside-right : goalNamed s rels (byteAt s (at + 7)) (guardAt s at) ≡ true → (termsNamed s (byteAt s (at + 7)) (byteAt s (at + 5)) (at + 8) && goalNamed s rels (byteAt s (at + 7)) (bodyAt s at)) ≡ clauseInside s rels at
+  unfolding clauseInside
+  inside-right h = rw h
+
+-- ---- a record whose fields are right ends with its goals
+
+pub clause-ends : (s : List ℕ) (at kind : ℕ) → kind ≡ 2 → bodyRight s at kind ≡ true → goalEnd s (bodyAt s at) ≡ recordEnd s at
+unfolding bodyRight
+clause-ends s at kind e b =
+    let n1 : eqb kind 1 ≡ false = ne-eqb kind 1 (λ f. omega arith) in
+    clause-fields s at (rw (n1, eq-eqb kind 2 e) at b) .ends
+
+pub ask-ends : (s : List ℕ) (at kind : ℕ) → (kind ≡ 1 → ⊥) → (kind ≡ 2 → ⊥) → bodyRight s at kind ≡ true → goalEnd s (at + 5) ≡ recordEnd s at
+unfolding bodyRight
+ask-ends s at kind n1 n2 b = ask-fields s at (rw (ne-eqb kind 1 n1, ne-eqb kind 2 n2) at b) .ends
+
+pub not-cut : (s : List ℕ) (at : ℕ) → cut s at ≡ false → recordEnd s at ≤ length s
+unfolding cut
+not-cut s at e =
+    let d = either-false (ltb (length s) (at + 4)) (ltb (wordAt s at) 4 || ltb (length s) (recordEnd s at)) e .1 in
+    ltb-false (length s) (recordEnd s at) (either-false (ltb (wordAt s at) 4) (ltb (length s) (recordEnd s at)) d .1)
+
+-- the guard and the body of a clause that ends inside
+module _ (s : List ℕ) (at a to : ℕ) (e : a ≡ byteAt s (at + 5)) (h : goalEnd s (bodyAt s at) ≤ to) where
+  pub guard-in : (goalEnd s (at + 8 + 2 * a) ≤ to) × (at + 8 + 2 * a ≤ to)
+  guard-in = rw e (let g = goal-grows s (guardAt s at) in let b = goal-grows s (bodyAt s at) in (omega arith, omega arith))
+
+  pub body-in : (b : ℕ) → b ≡ goalEnd s (at + 8 + 2 * a) → goalEnd s b ≤ to
+  body-in b q = rw (q, e) h

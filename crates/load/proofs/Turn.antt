@@ -9,6 +9,7 @@ use borrow.Author.Tests.{le-ltb, lt-ltb, ltb-false}
 use native.Mathlib.Omega.{arith}
 use Rattle.parlog.specs.Image.{recordEnd, wordAt}
 use Rattle.parlog.specs.Load.{cut, loadEnd, records, refusal, refuseIf, verdict}
+use Rattle.parlog.specs.Tables.{at}
 use Rattle.parlog.specs.declared.Loaded.{Loaded}
 use Rattle.parlog.specs.declared.Loaded.the-variants.{Refused}
 use Rattle.parlog.specs.declared.Progress.{Progress}

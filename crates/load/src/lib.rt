@@ -4,13 +4,15 @@ use parlog::Progress;
 use parlog::Refusal;
 use parlog::Verdict;
 ghost use mathlib.Core.Path.{_≡_};
-ghost use mathlib.Core.Bool.{_&&_, _||_, cond, false};
+ghost use mathlib.Core.Bool.{_&&_, _||_, cond, false, true};
 ghost use Prim.Native.Nat.{_+_, _*_, _≤_};
 ghost use lib.ListN.{length};
-ghost use Rattle.parlog.specs.Image.{byteAt, literalsEnd, stageEnd, stagesEnd, goalEnd};
+ghost use lib.Dec.{eqb};
+ghost use Rattle.parlog.specs.Image.{byteAt, recordEnd, equality, literalEnd, literalsEnd, stageEnd, stagesEnd, goalEnd, bodyAt};
 ghost use Rattle.parlog.specs.Body.{modesRange, literalsRange, stageRange, goalRange, relationBody, clauseBody, askBody, bodyRight};
 ghost use Rattle.parlog.specs.Names.{termsNamed, relationNamed, literalNamed, literalsNamed, stagesNamed, goalNamed, follows, clausePlaced, clauseInside, namesRight};
-ghost use Rattle.parlog.specs.Load.{cut, kindFault, tooMany, blockWith, blockFull, progressed, verdict, records, nothingRead, loadOf};
+ghost use Rattle.parlog.specs.Load.{cut, kindFault, tooMany, blockWith, blockFull, progressed, verdict, records, nothingRead, refusal, loadOf};
+ghost use Rattle.parlog.specs.declared.Loaded.the-variants.{Refused};
 ghost use Rattle.load.specs.Bounds.{Small, Next, Bounded};
 ghost use Rattle.load.specs.Reading.{Arities, stagesRow};
 ghost use Rattle.load.specs.Fields.{fieldsVerdict, refusalOf};
@@ -172,14 +174,14 @@ fn body_right(s: &[u8], at: usize, kind: usize) -> bool
 
 // NAME: each of n terms that is a variable is below the count.
 fn terms_named(s: &[u8], vars: usize, n: usize, from: usize) -> bool
-    requires { ⌜ (n ≤ 255) × (from ≤ 1073741824) × (vars ≤ 255) ⌝ }
+    requires { ⌜ (n ≤ 255) × (from ≤ 1073741824) × (vars ≤ 255) × (from + 2 * n ≤ length (now s)) ⌝ }
     ensures { λ r. ⌜ r ≡ termsNamed (now (s .entry)) vars n from ⌝ }
 {
     let bar = 32768 + vars;
     let mut at = from;
     let mut left = n;
     while 0 < left {
-        let w = place::word_at(s, at);
+        let w = place::word_in(s, at);
         if bar <= w {
             return false;
         }
@@ -202,22 +204,35 @@ fn relation_named(s: &[u8], t: &[u8; 33], rels: usize, r: usize, a: usize) -> bo
 }
 
 // NAME, literals: relation 255 with arity 2 is equality.
+fn relation_called(s: &[u8], t: &[u8; 33], rels: usize, r: usize, a: usize) -> bool
+    requires { ⌜ Arities (now s) rels (now t) ⌝ }
+    requires { ⌜ rels ≤ 32 ⌝ }
+    ensures { λ x. ⌜ x ≡ cond (eqb r equality) (eqb a 2) (relationNamed (now (s .entry)) rels r a) ⌝ }
+{
+    if r == 255 {
+        return a == 2;
+    }
+    relation_named(s, t, rels, r, a)
+}
+
+// NAME, literals: the relation, then the terms.
 fn literal_named(s: &[u8], t: &[u8; 33], rels: usize, vars: usize, at: usize) -> bool
     requires { ⌜ Arities (now s) rels (now t) ⌝ }
-    requires { ⌜ (rels ≤ 32) × (vars ≤ 255) × (at ≤ 536870912) ⌝ }
+    requires { ⌜ (rels ≤ 32) × (vars ≤ 255) × (at ≤ 536870912) × (literalEnd (now s) at ≤ length (now s)) ⌝ }
     ensures { λ r. ⌜ r ≡ literalNamed (now (s .entry)) rels vars at ⌝ }
 {
-    let r = place::byte_at(s, at);
-    let a = place::byte_at(s, at + 1);
-    let known = relation_named(s, t, rels, r, a);
-    let terms = terms_named(s, vars, a, at + 2);
-    and(choose(r == 255, a == 2, known), terms)
+    let r = place::byte_in(s, at);
+    let a = place::byte_in(s, at + 1);
+    if !relation_called(s, t, rels, r, a) {
+        return false;
+    }
+    terms_named(s, vars, a, at + 2)
 }
 
 // NAME, literals: the place after n literals, else 0.
 fn literals_named(s: &[u8], t: &[u8; 33], rels: usize, vars: usize, n: usize, from: usize) -> usize
     requires { ⌜ Arities (now s) rels (now t) ⌝ }
-    requires { ⌜ (rels ≤ 32) × (vars ≤ 255) × (n ≤ 255) × (from ≤ 402653184) ⌝ }
+    requires { ⌜ (rels ≤ 32) × (vars ≤ 255) × (n ≤ 255) × (from ≤ 402653184) × (literalsEnd (now s) n from ≤ length (now s)) ⌝ }
     ensures { λ r. ⌜ (r ≡ cond (literalsNamed (now (s .entry)) rels vars n from) (literalsEnd (now (s .entry)) n from) 0) × (r ≤ from + 512 * n) ⌝ }
 {
     let mut at = from;
@@ -227,7 +242,7 @@ fn literals_named(s: &[u8], t: &[u8; 33], rels: usize, vars: usize, n: usize, fr
         if !ok {
             return 0;
         }
-        at = at + 2 + 2 * place::byte_at(s, at + 1);
+        at = at + 2 + 2 * place::byte_in(s, at + 1);
         left -= 1;
     }
     at
@@ -236,13 +251,13 @@ fn literals_named(s: &[u8], t: &[u8; 33], rels: usize, vars: usize, n: usize, fr
 // NAME, goals: the place after n stages, else 0.
 fn stages_named(s: &[u8], t: &[u8; 33], rels: usize, vars: usize, n: usize, from: usize) -> usize
     requires { ⌜ Arities (now s) rels (now t) ⌝ }
-    requires { ⌜ (rels ≤ 32) × (vars ≤ 255) × (n ≤ 255) × (from ≤ 268435456) ⌝ }
+    requires { ⌜ (rels ≤ 32) × (vars ≤ 255) × (n ≤ 255) × (from ≤ 268435456) × (stagesEnd (now s) n from ≤ length (now s)) ⌝ }
     ensures { λ r. ⌜ (r ≡ cond (stagesNamed (now (s .entry)) rels vars n from) (stagesEnd (now (s .entry)) n from) 0) × (r ≤ from + 130561 * n) ⌝ }
 {
     let mut at = from;
     let mut left = n;
     while 0 < left {
-        let k = place::byte_at(s, at);
+        let k = place::byte_in(s, at);
         let end = literals_named(s, t, rels, vars, k, at + 1);
         if end == 0 {
             return 0;
@@ -256,10 +271,10 @@ fn stages_named(s: &[u8], t: &[u8; 33], rels: usize, vars: usize, n: usize, from
 // NAME, goals: the place after a goal, else 0.
 fn goal_named(s: &[u8], t: &[u8; 33], rels: usize, vars: usize, at: usize) -> usize
     requires { ⌜ Arities (now s) rels (now t) ⌝ }
-    requires { ⌜ (rels ≤ 32) × (vars ≤ 255) × (at ≤ 134217728) ⌝ }
+    requires { ⌜ (rels ≤ 32) × (vars ≤ 255) × (at ≤ 134217728) × (goalEnd (now s) at ≤ length (now s)) ⌝ }
     ensures { λ r. ⌜ (r ≡ cond (goalNamed (now (s .entry)) rels vars at) (goalEnd (now (s .entry)) at) 0) × (r ≤ at + 33293056) ⌝ }
 {
-    let n = place::byte_at(s, at);
+    let n = place::byte_in(s, at);
     stages_named(s, t, rels, vars, n, at + 1)
 }
 
@@ -288,22 +303,24 @@ fn clause_placed(s: &[u8], t: &[u8; 33], g: Progress, at: usize) -> bool
 // NAME, kind 2: the names in its head, guard and body.
 fn clause_inside(s: &[u8], t: &[u8; 33], rels: usize, at: usize) -> bool
     requires { ⌜ Arities (now s) rels (now t) ⌝ }
-    requires { ⌜ (rels ≤ 32) × (at ≤ 32768) ⌝ }
+    requires { ⌜ (rels ≤ 32) × (at ≤ 32768) × (goalEnd (now s) (bodyAt (now s) at) ≤ length (now s)) ⌝ }
     ensures { λ r. ⌜ r ≡ clauseInside (now (s .entry)) rels at ⌝ }
 {
     let a = place::byte_at(s, at + 5);
     let v = place::byte_at(s, at + 7);
     let head = terms_named(s, v, a, at + 8);
     let b = goal_named(s, t, rels, v, at + 8 + 2 * a);
+    if b == 0 {
+        return false;
+    }
     let e = goal_named(s, t, rels, v, b);
-    let goals = and(0 < b, 0 < e);
-    and(head, goals)
+    and(head, 0 < e)
 }
 
 // NAME, kind 3: the names in its goal.
 fn ask_named(s: &[u8], t: &[u8; 33], rels: usize, at: usize) -> bool
     requires { ⌜ Arities (now s) rels (now t) ⌝ }
-    requires { ⌜ (rels ≤ 32) × (at ≤ 32768) ⌝ }
+    requires { ⌜ (rels ≤ 32) × (at ≤ 32768) × (goalEnd (now s) (at + 5) ≤ length (now s)) ⌝ }
     ensures { λ r. ⌜ r ≡ goalNamed (now (s .entry)) rels (byteAt (now (s .entry)) (at + 4)) (at + 5) ⌝ }
 {
     let v = place::byte_at(s, at + 4);
@@ -314,7 +331,8 @@ fn ask_named(s: &[u8], t: &[u8; 33], rels: usize, at: usize) -> bool
 // 5, NAME.
 fn names_right(s: &[u8], t: &[u8; 33], g: Progress, at: usize, kind: usize) -> bool
     requires { ⌜ Arities (now s) (g .relations) (now t) ⌝ }
-    requires { ⌜ (g .relations ≤ 32) × (at ≤ 32768) ⌝ }
+    requires { ⌜ (g .relations ≤ 32) × (at ≤ 32768) × (recordEnd (now s) at ≤ length (now s)) ⌝ }
+    requires { ⌜ bodyRight (now s) at kind ≡ true ⌝ }
     ensures { λ r. ⌜ r ≡ namesRight (now (s .entry)) g at kind ⌝ }
 {
     if kind == 1 {
@@ -423,7 +441,7 @@ fn progressed(s: &[u8], g: Progress, at: usize, kind: usize) -> Progress
 fn test_fields(s: &[u8], t: &[u8; 33], g: Progress, at: usize, kind: usize) -> Verdict
     requires { ⌜ Arities (now s) (g .relations) (now t) ⌝ }
     requires { ⌜ Small g ⌝ }
-    requires { ⌜ at ≤ 32768 ⌝ }
+    requires { ⌜ (at ≤ 32768) × (recordEnd (now s) at ≤ length (now s)) ⌝ }
     requires { ⌜ tooMany g kind ≡ false ⌝ }
     ensures { λ r. ⌜ r ≡ fieldsVerdict (now (s .entry)) g at kind ⌝ }
     ensures { λ r. ⌜ Next r ⌝ }
@@ -461,6 +479,16 @@ fn test_record(s: &[u8], t: &[u8; 33], g: Progress, at: usize) -> Verdict
     test_fields(s, t, g, at, kind)
 }
 
+// A refusal with its number and offset.
+fn refused(number: u8, offset: usize) -> Loaded
+    ensures { λ r. ⌜ r ≡ Refused (refusal number offset) ⌝ }
+{
+    Loaded::Refused(Refusal {
+        number: number,
+        offset: offset,
+    })
+}
+
 // Records in file order.
 fn records(s: &[u8]) -> Loaded
     requires { ⌜ length (now s) ≤ 32768 ⌝ }
@@ -484,10 +512,7 @@ fn records(s: &[u8]) -> Loaded
         arities[k] = place::byte_at(s, at + 4) as u8;
         match v {
             Verdict::Refuses(number) => {
-                return Loaded::Refused(Refusal {
-                    number: number,
-                    offset: at,
-                });
+                return refused(number, at);
             }
             Verdict::Goes(next) => {
                 g = next;
@@ -498,10 +523,7 @@ fn records(s: &[u8]) -> Loaded
     if g.kind == 3 {
         Loaded::Accepted(g.relations, g.clauses)
     } else {
-        Loaded::Refused(Refusal {
-            number: 7,
-            offset: n,
-        })
+        refused(7, n)
     }
 }
 
@@ -511,10 +533,7 @@ pub fn load(image: &[u8]) -> Loaded
     ensures { λ r. ⌜ Bounded (length (now (image .entry))) r ⌝ }
 {
     if 32768 < image.len() {
-        return Loaded::Refused(Refusal {
-            number: 1,
-            offset: 0,
-        });
+        return refused(1, 0);
     }
     records(image)
 }

@@ -1,7 +1,8 @@
 // Reads of an image by places, total: a byte past the end is 0, and a place is where the fields lead.
 use parlog::Term;
 ghost use mathlib.Core.Path.{_≡_};
-ghost use Prim.Native.Nat.{_+_, _*_, _≤_};
+ghost use Prim.Native.Nat.{_+_, _*_, _≤_, _<_};
+ghost use lib.ListN.{length};
 ghost use Rattle.parlog.specs.Image.{byteAt, wordAt, recordAt, termAt, literalsEnd, stageEnd, stagesEnd, goalEnd};
 
 // The byte at i, or 0 past the end.
@@ -29,6 +30,21 @@ pub fn word_at(s: &[u8], i: usize) -> usize
     } else {
         byte_at(s, i)
     }
+}
+
+// The same, of bytes that are there: no test.
+pub fn byte_in(s: &[u8], i: usize) -> usize
+    requires { ⌜ i < length (now s) ⌝ }
+    ensures { λ r. ⌜ (r ≡ byteAt (now (s .entry)) i) × (r ≤ 255) ⌝ }
+{
+    wide(s[i])
+}
+
+pub fn word_in(s: &[u8], i: usize) -> usize
+    requires { ⌜ (i ≤ 4294967296) × (i + 1 < length (now s)) ⌝ }
+    ensures { λ r. ⌜ (r ≡ wordAt (now (s .entry)) i) × (r ≤ 65535) ⌝ }
+{
+    wide(s[i]) + 256 * wide(s[i + 1])
 }
 
 // The term at a place.

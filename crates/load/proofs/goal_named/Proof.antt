@@ -1,5 +1,8 @@
 use Rattle.parlog.specs.Names.{goalNamed}
 use Rattle.parlog.specs.Image.{goalEnd}
+use lib.ListN.{length}
+use Rattle.load.proofs.Rows.{goal-in}
+use Rattle.load.proofs.Inside.{goal-grows}
 use native.Mathlib.Omega.{arith}
 use borrow.Author.Needs.{needs}
 use Rattle.load.proofs.goal_named.Statement.{statement}
@@ -7,7 +10,7 @@ use Rattle.load.proofs.goal_named.Tie as tie
 use Rattle.load.proofs.goal_named.Reads as reads
 use Rattle.load.proofs.goal_named.Lts as lts
 use Rattle.load.proofs.stages_named.Reads as stages-named-reads
-use Rattle.place.proofs.byte_at.Reads as byte-at-reads
+use Rattle.place.proofs.byte_in.Reads as byte-in-reads
 
 returns : tie.Need-returns
 unfolding goalNamed goalEnd
@@ -15,4 +18,8 @@ returns c = (cc, omega arith)
 
 pub goal-named-spec : {M : Type 1} → statement M
 goal-named-spec =
-    tie.close (tie.spec (λ c κs. search needs) (λ c. search needs) (λ c κs. search needs) returns)
+    tie.close (tie.spec
+    (λ c κs. let a = (c .before .args) in let g = goal-grows (a .s .now) (a .at) in omega arith)
+    (λ c. search needs)
+    (λ c κs. let a = (c .before .before .args) in let g = goal-in (a .s .now) (a .at) (c .byte-in .result) (length (a .s .now)) (c .byte-in .ensures .0) ((c .before .before .pre .1 .3)) in ((c .before .before .pre .0), omega arith))
+    returns)

@@ -1,33 +1,49 @@
-use Rattle.load.proofs.Rows.{row-none, row-more, row-stop}
+use Rattle.load.proofs.Rows.{row-none, row-more, row-stop, first-in, rest-in}
+use Rattle.load.proofs.Inside.{literal-grows}
 use Rattle.load.specs.Reading.{row}
 use Rattle.parlog.specs.Names.{literalNamed}
-use Rattle.parlog.specs.Image.{literalEnd}
+use Rattle.parlog.specs.Image.{literalEnd, literalsEnd}
 use borrow.Author.Tests.{not-true, not-false}
 use Prim.Native.Nat.{ℕ, _≤_, _+_, _*_}
 use mathlib.Core.Path.{_≡_, refl, sym, _∙_}
+use lib.ListN.{length}
 use native.Mathlib.Omega.{arith}
 use Rattle.load.proofs.literals_named.Statement.{statement}
 use Rattle.load.proofs.literals_named.Tie as tie
 use Rattle.load.proofs.literals_named.Reads as reads
 use Rattle.load.proofs.literals_named.Lts as lts
 use Rattle.load.proofs.literal_named.Reads as literal-named-reads
-use Rattle.place.proofs.byte_at.Reads as byte-at-reads
+use Rattle.place.proofs.byte_in.Reads as byte-in-reads
 
 abbrev Inv-loop : tie.InvT-loop
-Inv-loop s t rels vars n from at₀ left₀ at left = (row (literalNamed s rels vars) (literalEnd s) left at ≡ row (literalNamed s rels vars) (literalEnd s) n from) × (at + 512 * left ≤ from + 512 * n)
+Inv-loop s t rels vars n from at₀ left₀ at left = (row (literalNamed s rels vars) (literalEnd s) left at ≡ row (literalNamed s rels vars) (literalEnd s) n from) × (at + 512 * left ≤ from + 512 * n) × (literalsEnd s left at ≤ length s)
 
 abbrev μ-loop : tie.MeasureT-loop
 μ-loop s t rels vars n from at₀ left₀ at left = left
+
+literal-named-requires : tie.Need-literal-named-requires Inv-loop μ-loop
+literal-named-requires c κs = let p = (c .before .loop) in
+    let s = (c .before .before .before .args .s .now) in
+    let i = first-in (literalEnd s) (literal-grows s) (p .left) (p .at) (length s) (c .loop-test .taken) (p .inv .2) in
+    ((c .before .before .before .pre .0), omega arith)
 
 returns : tie.Need-returns Inv-loop μ-loop
 returns c = let p = (c .before .before .before .loop) in
     let a = (c .before .before .before .before .before .args) in
     (cc (row-stop (literalNamed (a .s .now) (a .rels) (a .vars)) (literalEnd (a .s .now)) (p .left) (p .at) ((c .before .before .loop-test .taken)) (sym ((c .before .literal-named .ensures)) ∙ not-true _ ((c .if1 .taken)))), omega arith)
 
+byte-in-requires : tie.Need-byte-in-requires Inv-loop μ-loop
+byte-in-requires c κs = let p = (c .before .before .before .loop) in
+    let s = (c .before .before .before .before .before .args .s .now) in
+    let i = first-in (literalEnd s) (literal-grows s) (p .left) (p .at) (length s) (c .before .before .loop-test .taken) (p .inv .2) in
+    omega arith
+
 loop-again : tie.Need-loop-again Inv-loop μ-loop
 loop-again c = let p = (c .before .before .before .before .loop) in
     let a = (c .before .before .before .before .before .before .args) in
-    (cc (row-more (literalNamed (a .s .now) (a .rels) (a .vars)) (literalEnd (a .s .now)) (p .left) (p .at) ((c .before .before .before .loop-test .taken)) (sym ((c .before .before .literal-named .ensures)) ∙ not-false _ ((c .before .if1 .left)))), omega arith)
+    let s = a .s .now in
+    let r = rest-in (literalEnd s) (literal-grows s) (p .left) (p .at) (length s) (c .before .before .before .loop-test .taken) (p .inv .2) in
+    (cc (row-more (literalNamed s (a .rels) (a .vars)) (literalEnd s) (p .left) (p .at) ((c .before .before .before .loop-test .taken)) (sym ((c .before .before .literal-named .ensures)) ∙ not-false _ ((c .before .if1 .left)))), omega arith, rw (c .byte-in .ensures .0) r)
 
 returns-2 : tie.Need-returns-2 Inv-loop μ-loop
 returns-2 c = let a = (c .before .before .before .args) in
@@ -40,12 +56,12 @@ literals-named-spec =
     (tie.spec
     Inv-loop
     μ-loop
-    (λ c. (refl, omega arith))
-    (λ c κs. ((c .before .before .before .pre .0), omega arith))
+    (λ c. (refl, omega arith, omega arith))
+    literal-named-requires
     returns
     (λ c. omega arith)
     (λ c. omega arith)
-    (λ c κs. omega arith)
+    byte-in-requires
     (λ c. omega arith)
     (λ c. omega arith)
     (λ c. omega arith)

@@ -7,14 +7,15 @@ use Rattle.load.proofs.load.Tie as tie
 use Rattle.load.proofs.load.Reads as reads
 use Rattle.load.proofs.load.Lts as lts
 use Rattle.load.proofs.records.Reads as records-reads
+use Rattle.load.proofs.refused.Reads as refused-reads
 
 returns : tie.Need-returns
 unfolding loadOf long
-returns c = (rw (lt-ltb _ _ (c .if1 .taken)), omega arith)
+returns c = (rw (lt-ltb _ _ (c .before .if1 .taken)) (c .refused .ensures), rw (c .refused .ensures) (omega arith))
 
 returns-2 : tie.Need-returns-2
 unfolding loadOf long
 returns-2 c = (rw (le-ltb _ _ (c .before .if1 .left)) (c .records .ensures .0), c .records .ensures .1)
 
 pub load-spec : {M : Type 1} → statement M
-load-spec = tie.close (tie.spec returns (λ c κs. search needs) returns-2)
+load-spec = tie.close (tie.spec (λ c κs. search needs) returns (λ c κs. search needs) returns-2)

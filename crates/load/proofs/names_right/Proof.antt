@@ -1,5 +1,7 @@
 use Rattle.parlog.specs.Names.{namesRight}
 use borrow.Author.Tests.{eq-eqb, ne-eqb}
+use native.Mathlib.Omega.{arith}
+use Rattle.load.proofs.Rows.{clause-ends, ask-ends}
 use borrow.Author.Needs.{needs}
 use Rattle.load.proofs.names_right.Statement.{statement}
 use Rattle.load.proofs.names_right.Tie as tie
@@ -28,8 +30,8 @@ names-right-spec =
     (tie.spec
     returns
     (λ c κs. search needs)
-    (λ c κs. search needs)
+    (λ c κs. let a = (c .before .before .before .before .args) in let e = clause-ends (a .s .now) (a .at) (a .kind) (c .before .if2 .taken) ((c .before .before .before .before .pre .1 .1)) in ((c .before .before .before .before .pre .0), omega arith))
     (λ c κs. search needs)
     returns-2
-    (λ c κs. search needs)
+    (λ c κs. let a = (c .before .before .before .args) in let e = ask-ends (a .s .now) (a .at) (a .kind) (c .before .if1 .left) (c .if2 .left) ((c .before .before .before .pre .1 .1)) in ((c .before .before .before .pre .0), omega arith))
     returns-3)

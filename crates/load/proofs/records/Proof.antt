@@ -13,6 +13,7 @@ use Rattle.load.proofs.records.Statement.{statement}
 use Rattle.load.proofs.records.Tie as tie
 use Rattle.load.proofs.records.Reads as reads
 use Rattle.load.proofs.records.Lts as lts
+use Rattle.load.proofs.refused.Reads as refused-reads
 use Rattle.load.proofs.test_record.Reads as test-record-reads
 use Rattle.place.proofs.byte_at.Reads as byte-at-reads
 use Rattle.place.proofs.word_at.Reads as word-at-reads
@@ -33,11 +34,12 @@ test-record-requires c κs = let i = (c .before .before .before .loop .inv) in
     (i .3, (i .1, omega arith))
 
 returns : tie.Need-returns Inv-loop μ-loop
-returns c = let l = (c .before .before .before .before .before .before .before .before .loop) in
-    let s = (c .before .before .before .before .before .before .before .before .before .before .args .s .now) in
+returns c = let l = (c .before .before .before .before .before .before .before .before .before .loop) in
+    let s = (c .before .before .before .before .before .before .before .before .before .before .before .args .s .now) in
     let w = l .inv .2 .within in
-    let z = rw ((c .before .v .given .1)) at ((c .before .before .before .before .test-record .ensures .1)) in
-    (stops s (l .g) (l .at) _ _ ((c .before .before .before .before .before .before .before .loop-test .taken)) (sym ((c .before .before .before .before .test-record .ensures .0)) ∙ (c .before .v .given .1)) (l .inv .0), (z .0, z .1, omega arith))
+    let z = rw (c .before .before .v .given .1) at (c .before .before .before .before .before .test-record .ensures .1) in
+    let e = stops s (l .g) (l .at) _ _ (c .before .before .before .before .before .before .before .before .loop-test .taken) (sym (c .before .before .before .before .before .test-record .ensures .0) ∙ (c .before .before .v .given .1)) (l .inv .0) in
+    ((c .refused .ensures) ∙ e, rw (c .refused .ensures) (z .0, z .1, omega arith))
 
 loop-less : tie.Need-loop-less Inv-loop μ-loop
 loop-less c = let l = (c .before .before .before .before .before .before .before .before .loop) in
@@ -62,8 +64,9 @@ returns-2 c = let l = (c .before .before .before .loop) in
     (rw (eq-eqb _ _ ((c .if1 .taken))) at (ends ((c .before .before .before .before .before .args .s .now)) (l .g) (l .at) _ ((c .before .before .loop-test .left)) (l .inv .0)), (l .inv .1 .relations, l .inv .1 .clauses, omega arith))
 
 returns-3 : tie.Need-returns-3 Inv-loop μ-loop
-returns-3 c = let l = (c .before .before .before .loop) in
-    (rw (ne-eqb _ _ ((c .if1 .left))) at (ends ((c .before .before .before .before .before .args .s .now)) (l .g) (l .at) _ ((c .before .before .loop-test .left)) (l .inv .0)), omega arith)
+returns-3 c = let l = (c .before .before .before .before .loop) in
+    let e = rw (ne-eqb _ _ (c .before .if1 .left)) at (ends (c .before .before .before .before .before .before .args .s .now) (l .g) (l .at) _ (c .before .before .before .loop-test .left) (l .inv .0)) in
+    ((c .refused2 .ensures) ∙ e, rw (c .refused2 .ensures) (omega arith))
 
 pub records-spec : {M : Type 1} → statement M
 records-spec =
@@ -80,9 +83,11 @@ records-spec =
     (λ c. search needs)
     (λ c. let w = (c .before .before .before .before .before .loop .inv .1 .relations) in omega arith)
     (λ c. search needs)
+    (λ c κs. search needs)
     returns
     (λ c. search needs)
     loop-less
     loop-again
+    (λ c κs. search needs)
     returns-2
     returns-3)

@@ -9,7 +9,7 @@ use Rattle.load.proofs.terms_named.Statement.{statement}
 use Rattle.load.proofs.terms_named.Tie as tie
 use Rattle.load.proofs.terms_named.Reads as reads
 use Rattle.load.proofs.terms_named.Lts as lts
-use Rattle.place.proofs.word_at.Reads as word-at-reads
+use Rattle.place.proofs.word_in.Reads as word-in-reads
 
 abbrev Inv-loop : tie.InvT-loop
 Inv-loop s vars n from bar at₀ left₀ at left = (termsNamed s vars left at ≡ termsNamed s vars n from) × (at + 2 * left ≤ from + 2 * n)

@@ -1,6 +1,7 @@
 use Rattle.parlog.specs.Load.{verdict}
 use native.Mathlib.Omega.{arith}
 use mathlib.Core.Path.{sym, _∙_}
+use Rattle.load.proofs.Rows.{not-cut}
 use borrow.Author.Needs.{needs}
 use Rattle.load.proofs.test_record.Statement.{statement}
 use Rattle.load.proofs.test_record.Tie as tie
@@ -40,5 +41,5 @@ test-record-spec =
     returns-2
     (λ c κs. search needs)
     returns-3
-    (λ c κs. let h = (c .before .before .before .before .before .before .before .before .pre) in (h .0, (h .1 .0, (h .1 .1, sym (c .before .too-many .ensures) ∙ (c .if3 .left)))))
+    (λ c κs. let h = (c .before .before .before .before .before .before .before .before .pre) in (h .0, (h .1 .0, ((h .1 .1, not-cut (c .before .before .before .before .before .before .before .before .args .s .now) (c .before .before .before .before .before .before .before .before .args .at) (sym (c .before .before .before .before .before .before .cut .ensures) ∙ (c .before .before .before .before .before .if1 .left))), sym (c .before .too-many .ensures) ∙ (c .if3 .left)))))
     returns-4)
