@@ -14,3 +14,4 @@ pub mod Says
 pub mod Computes
 pub mod Exact
 pub mod Rows
+pub mod Able

@@ -21,3 +21,4 @@ pub mod Opened
 pub mod Cases
 pub mod Notions
 pub mod Relation
+pub mod Demands
