@@ -15,3 +15,7 @@ pub mod Computes
 pub mod Exact
 pub mod Rows
 pub mod Able
+pub mod Stays
+pub mod Shape
+pub mod Fine
+pub mod Stable
