@@ -19,3 +19,5 @@ pub mod Stays
 pub mod Shape
 pub mod Fine
 pub mod Stable
+pub mod Steps
+pub mod Fair
