@@ -21,3 +21,4 @@ pub mod Fine
 pub mod Stable
 pub mod Steps
 pub mod Fair
+pub mod Forest
