@@ -22,3 +22,4 @@ pub mod Stable
 pub mod Steps
 pub mod Fair
 pub mod Forest
+pub mod Stuck
