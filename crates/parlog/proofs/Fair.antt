@@ -70,27 +70,33 @@ module _ (f : ℕ → Bool) (size limit last p : ℕ) (most : size ≤ limit) (m
   turned-in (At q) b ea eb =
       let r = lowest-at later size q ea in
       let u = and-true (ltb last q) (f q) (r .passes) in
-      let lq : last < q = ltb-true last q (u .0) in
-      (q, refl, record {
-        passes = u .1;
-        inside = r .there;
-        nearer = λ n. split (ltb last p)
-            (λ e. let g : last < p = ltb-true last p e in
-            let le : q ≤ p = r .least p hp (p-later g) in
-            let lt : q < p = omega arith in omega (arith, dist-lt limit last p g, dist-lt limit q p lt))
-            (λ e. let g : p ≤ last = ltb-false last p e in
-            let hq : q < size = r .there in
-            omega (arith, dist-ge limit last p g, dist-ge limit q p (omega arith)));
-      })
+      let lq : last < q = ltb-true last q (u .0) in (
+        q,
+        refl,
+        record {
+          passes = u .1;
+          inside = r .there;
+          nearer = λ n. split (ltb last p)
+              (λ e. let g : last < p = ltb-true last p e in
+              let le : q ≤ p = r .least p hp (p-later g) in
+              let lt : q < p = omega arith in omega (arith, dist-lt limit last p g, dist-lt limit q p lt))
+              (λ e. let g : p ≤ last = ltb-false last p e in
+              let hq : q < size = r .there in
+              omega (arith, dist-ge limit last p g, dist-ge limit q p (omega arith)));
+        },
+      )
   turned-in Nothing (At q) ea eb =
       let r = lowest-at f size q eb in
-      let g : p ≤ last = not-after ea in
-      (q, refl, record {
-        passes = r .passes;
-        inside = r .there;
-        nearer = λ n. let le : q ≤ p = r .least p hp c in
-            let lt : q < p = omega arith in omega (arith, dist-ge limit last p g, dist-lt limit q p lt);
-      })
+      let g : p ≤ last = not-after ea in (
+        q,
+        refl,
+        record {
+          passes = r .passes;
+          inside = r .there;
+          nearer = λ n. let le : q ≤ p = r .least p hp c in
+              let lt : q < p = omega arith in omega (arith, dist-ge limit last p g, dist-lt limit q p lt);
+        },
+      )
   turned-in Nothing Nothing ea eb = never (sym (lowest-none f size p eb hp) ∙ c)
 
   turned : (q : ℕ) × (turnOf f size last ≡ At q) × Turned f size limit last p q

@@ -23,3 +23,5 @@ pub mod Steps
 pub mod Fair
 pub mod Forest
 pub mod Stuck
+pub mod OneValue
+pub mod Repeated

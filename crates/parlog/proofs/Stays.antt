@@ -10,6 +10,7 @@ use Rattle.parlog.proofs.Bools.{never, or-right}
 use Rattle.parlog.proofs.Decided.{decide-binds, Tells}
 use Rattle.parlog.proofs.Unified.{changed-append, meets-falling, unify-falling}
 use Rattle.parlog.proofs.Values.{Falling, leads-is, value-free}
+use Rattle.parlog.specs.Demands.{Stays}
 use Rattle.parlog.specs.Notions.{all-done, higher-left, higher-right, Leads, Meets, one-done, same-constant, same-variable, to-left, to-right, Unifies}
 use Rattle.parlog.specs.Tables.{at, bindingOf}
 use Rattle.parlog.specs.Unify.{binds, change, changed, decide, isBound, someBound}
@@ -19,9 +20,6 @@ use Rattle.parlog.specs.declared.Change.{Change}
 use Rattle.parlog.specs.declared.Pair.{Pair}
 use Rattle.parlog.specs.declared.Term.{Term}
 use Rattle.parlog.specs.declared.Term.the-variants.{Const, Var}
-
-abbrev pub Stays : List Binding → List Binding → Type 0
-Stays vs ws = (v : ℕ) (t : Term) → bindingOf vs v ≡ Bound t → bindingOf ws v ≡ Bound t
 
 -- what bindings may become: they still fall, and what was bound is bound to the same
 pub record Grows (vs ws : List Binding) : Type 0 where

@@ -1,5 +1,5 @@
--- Demand 3 in its own words: the tables that a run reaches, when a process is served in turn order, and when a run is stuck; and a run as
--- the moves that it makes.
+-- Values, the tables that a run reaches, and demand 3 in its own words: when a process is served in turn order, and when a run is stuck;
+-- and a run as the moves that it makes.
 use mathlib.Core.Path.{_≡_}
 use mathlib.Core.Bool.{false, true}
 use mathlib.Core.List.{[], _∷_, List}
@@ -7,17 +7,37 @@ use Prim.Native.Nat.{_<_, _≤_, suc, ℕ}
 use lib.ListN.{getD, length}
 use Rattle.parlog.specs.Codes.{dormant, reporting, suspended, waiting}
 use Rattle.parlog.specs.Limits.{Limits}
-use Rattle.parlog.specs.Notions.{Child, HasMode, me}
+use Rattle.parlog.specs.Notions.{Child, HasMode, Leads, me}
 use Rattle.parlog.specs.Program.{Program}
 use Rattle.parlog.specs.Run.{given, goalEnded, goalResult, made, Running, stepTables, supplyTables, turnFor, turnTables, ungiven, unmade}
 use Rattle.parlog.specs.Tables.{bindingOf, freshTables, noted, State, Tables}
 use Rattle.parlog.specs.Unify.{bound}
-use Rattle.parlog.specs.declared.Binding.the-variants.{Bound}
+use Rattle.parlog.specs.declared.Binding.{Binding}
+use Rattle.parlog.specs.declared.Binding.the-variants.{Bound, Free}
 use Rattle.parlog.specs.declared.End.{End}
 use Rattle.parlog.specs.declared.End.the-variants.{Budget, Room, Waiting}
 use Rattle.parlog.specs.declared.Found.the-variants.{At, Nothing}
 use Rattle.parlog.specs.declared.Move.{Move}
 use Rattle.parlog.specs.declared.Term.{Term}
+use Rattle.parlog.specs.declared.Term.the-variants.{Const, Var}
+
+-- ---- values
+
+-- a constant, or a variable that is unbound
+pub data Ended-at (vs : List Binding) : Term → Type 0 where
+  at-constant : {c : ℕ} → Ended-at vs (Const c)
+  at-unbound : {v : ℕ} → bindingOf vs v ≡ Free → Ended-at vs (Var v)
+
+-- a term has a value: the bindings lead to it, it is a constant or unbound, and they lead to no other
+pub record HasValue (vs : List Binding) (t : Term) : Type 0 where
+  pub to : Term
+  pub leads : Leads vs t to
+  pub ends : Ended-at vs to
+  pub alone : (u : Term) → Leads vs t u → u ≡ to
+
+-- what was bound is bound to the same
+abbrev pub Stays : List Binding → List Binding → Type 0
+Stays vs ws = (v : ℕ) (t : Term) → bindingOf vs v ≡ Bound t → bindingOf ws v ≡ Bound t
 
 -- ---- the tables that a run can have
 
