@@ -10,7 +10,7 @@ use native.Mathlib.Omega.{arith}
 use Rattle.parlog.proofs.Bools.{and-true, never, split, true-and}
 use Rattle.parlog.proofs.Scans.{lowest-at, lowest-none}
 use Rattle.parlog.proofs.Stable.{can-here, stable, stable-supply, supply-grows}
-use Rattle.parlog.proofs.Steps.{few, few-by, it-has-no-room, it-steps, Steady, steady, steady-by, steady-supply, Tried, tried, turn-is}
+use Rattle.parlog.proofs.Steps.{few, few-by, it-has-no-room, it-steps, Steady, steady, steady-by, steady-kept, steady-supply, Tried, tried, turn-is}
 use Rattle.parlog.specs.Codes.{dormant}
 use Rattle.parlog.specs.Delta.{apply}
 use Rattle.parlog.specs.Demands.{a-supply, a-turn, aborted, another-moves, Event, events-over, has-no-room, is-not-supplied, is-supplied, moves-itself, Reached, Served}
@@ -19,6 +19,7 @@ use Rattle.parlog.specs.Notions.{HasMode}
 use Rattle.parlog.specs.Program.{Program}
 use Rattle.parlog.specs.Run.{canMove, given, procsIn, stepped, stepTables, supplied, Supplying, supplyTables, turnFor, turnOf, turnTables, ungiven}
 use Rattle.parlog.specs.Scan.{lowest, orElse, some}
+use Rattle.parlog.specs.TableRules.{tablesOk}
 use Rattle.parlog.specs.Tables.{Tables}
 use Rattle.parlog.specs.declared.Found.{Found}
 use Rattle.parlog.specs.declared.Found.the-variants.{At, Nothing}
@@ -162,11 +163,18 @@ module _ (lim : Limits) (pr : Program) (p : ℕ) where
   fair (a-supply v c ∷ es) zero t a = fair-supply es v c 0 t a (λ j t′ b. fair es j t′ b)
   fair (a-supply v c ∷ es) (suc k) t a = fair-supply es v c (suc k) t a (λ j t′ b. fair es j t′ b)
 
+served-from : (lim : Limits) (pr : Program) (t : Tables) → Steady t → procsIn t ≤ lim .procs → (p : ℕ) → canMove pr (t .state) p ≡ true
+    → (es : List Event) → Served lim pr p (lim .procs) t es
+served-from lim pr t st most p c es =
+    let h = can-here pr (t .state) p c in
+    fair lim pr p es (lim .procs) t (record { calm = st; most = most; able = c; near = dist-le (lim .procs) (t .last) p (omega arith) (omega (arith, st .mark)) })
+
 -- demand 3, the bound: in turn order a process that can move has moved within the next lim.procs turn steps made, unless it becomes dormant first
 pub served : (lim : Limits) (pr : Program) → 0 < lim .procs → {t : Tables} → Reached lim pr t → (p : ℕ) → canMove pr (t .state) p ≡ true
     → (es : List Event) → Served lim pr p (lim .procs) t es
-served lim pr some {t} r p c es =
-    let st = steady lim pr r in
-    let most = few lim pr some r in
-    let h = can-here pr (t .state) p c in
-    fair lim pr p es (lim .procs) t (record { calm = st; most = most; able = c; near = dist-le (lim .procs) (t .last) p (omega arith) (omega (arith, st .mark)) })
+served lim pr some {t} r p c es = served-from lim pr t (steady lim pr r) (few lim pr some r) p c es
+
+-- and from any tables that keep the table rules
+pub served-kept : (lim : Limits) (pr : Program) (t : Tables) → tablesOk lim pr t ≡ true → (p : ℕ) → canMove pr (t .state) p ≡ true
+    → (es : List Event) → Served lim pr p (lim .procs) t es
+served-kept lim pr t ok p c es = let a = steady-kept lim pr t ok in served-from lim pr t (a .0) (a .1) p c es

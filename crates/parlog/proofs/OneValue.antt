@@ -1,8 +1,9 @@
 -- A term's value exists, is one, and is a constant or an unbound variable; what is bound stays bound, to the same, by every move and supply.
-use mathlib.Core.Path.{_≡_, sym}
+use mathlib.Core.Path.{_≡_, refl, sym}
 use mathlib.Core.Bool.{true}
 use mathlib.Core.List.{List}
-use Prim.Native.Nat.{ℕ}
+use Prim.Native.Nat.{_≤_, ℕ}
+use native.Mathlib.Omega.{arith}
 use Rattle.parlog.proofs.Fine.{fine}
 use Rattle.parlog.proofs.Good.{state-good}
 use Rattle.parlog.proofs.Shape.{shape}
@@ -12,7 +13,7 @@ use Rattle.parlog.proofs.Values.{Falling, leads-is, leads-value, value-
 use Rattle.parlog.specs.Delta.{apply, Delta}
 use Rattle.parlog.specs.Demands.{at-constant, at-unbound, Ended-at, HasValue, Reached, Stays}
 use Rattle.parlog.specs.Limits.{Limits}
-use Rattle.parlog.specs.Notions.{a-constant, Leads, onward}
+use Rattle.parlog.specs.Notions.{a-constant, Leads, onward, unbound}
 use Rattle.parlog.specs.Program.{Program}
 use Rattle.parlog.specs.Rules.{by-rule, ruleOf}
 use Rattle.parlog.specs.Run.{given, made, stepped, stepTables, supplyTables}
@@ -42,6 +43,15 @@ value-kept lim pr s ok t = has-value (s .vars) (state-good lim pr s ok .falls) t
 
 pub value-reached : (lim : Limits) (pr : Program) {t : Tables} → Reached lim pr t → (x : Term) → HasValue (t .state .vars) x
 value-reached lim pr {t} r x = has-value (t .state .vars) (steady lim pr r .falls) x
+
+const-ends : {vs : List Binding} {c : ℕ} {u : Term} → Leads vs (Const c) u → u ≡ Const c
+const-ends a-constant = refl
+
+-- a variable's value is a constant or no higher a variable: a goal variable's is a constant or a goal variable
+pub goal-value : (vs : List Binding) → Falling vs → {v w : ℕ} → Leads vs (Var v) (Var w) → w ≤ v
+goal-value vs fall (unbound e) = omega arith
+goal-value vs fall {v} {w} (onward {t = Const c} e l) = let q : Var w ≡ Const c = const-ends l in let z : _≡_ {A = ℕ} 0 1 = cc in absurd (omega arith)
+goal-value vs fall (onward {v = v} {t = Var u} e l) = omega (arith, fall v u e, goal-value vs fall l)
 
 -- ---- by every move and supply
 

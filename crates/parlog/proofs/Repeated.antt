@@ -4,15 +4,18 @@ use mathlib.Core.Bool.{_&&_, Bool, false, true}
 use Prim.Native.Nat.{_+_, _<_, _≤_, suc, zero, ℕ}
 use lib.Dec.{ltb}
 use native.Mathlib.Omega.{arith}
-use Rattle.parlog.proofs.Bools.{and-true}
-use Rattle.parlog.proofs.Scans.{lowest-at}
+use Rattle.parlog.proofs.Bools.{and-true, never}
+use Rattle.parlog.proofs.Scans.{lowest-at, lowest-none}
 use Rattle.parlog.proofs.Steps.{it-has-no-room, it-steps, Tried, tried, turn-is, turn-made}
-use Rattle.parlog.specs.Demands.{all-still, by-turn, goal-ended, limit-used, no-more, once-more, Reached, Repeats, room-used, Runs, Stops}
+use Rattle.parlog.proofs.Stuck.{deadlock}
+use Rattle.parlog.specs.Codes.{dormant, failure, none, Result, resultOf, success}
+use Rattle.parlog.specs.Demands.{all-still, by-turn, Deadlock, goal-ended, limit-used, no-more, once-more, Reached, Repeats, room-used, Runs, Stops}
 use Rattle.parlog.specs.Limits.{Limits}
+use Rattle.parlog.specs.Notions.{HasMode, me}
 use Rattle.parlog.specs.Program.{Program}
-use Rattle.parlog.specs.Run.{canMove, goalEnded, goalResult, halt, procsIn, runFrom, Running, runStep, runTables, runTest, runTurn, stepped, stepTables, turnFor, turnOf, turnTables, turnTo, unmade}
+use Rattle.parlog.specs.Run.{canMove, endOf, goalEnded, goalResult, halt, procsIn, runFrom, Running, runStep, runTables, runTest, runTurn, stepped, stepTables, turnFor, turnOf, turnTables, turnTo, unmade}
 use Rattle.parlog.specs.Scan.{lowest, orElse}
-use Rattle.parlog.specs.Tables.{Tables}
+use Rattle.parlog.specs.Tables.{at, Tables}
 use Rattle.parlog.specs.declared.End.{End}
 use Rattle.parlog.specs.declared.End.the-variants.{Budget, Room, Waiting}
 use Rattle.parlog.specs.declared.Found.{Found}
@@ -148,3 +151,37 @@ module _ (lim : Limits) (pr : Program) where
 
   pub run-reached : (limit : ℕ) {t : Tables} → Reached lim pr t → Reached lim pr (runTables limit lim pr t .tables)
   run-reached limit {t} r = repeats-reached r (runs limit t .moves)
+
+  -- ---- and deadlock: a turn refused as STILL, and a run that ends waiting
+
+  nobody : (t : Tables) → turnFor pr t ≡ Nothing → (p : ℕ) → p < procsIn t → canMove pr (t .state) p ≡ false
+  unfolding turnFor turnOf
+  nobody t e p h = go (lowest (λ i. ltb (t .last) i && canMove pr (t .state) i) (procsIn t)) (lowest (λ i. canMove pr (t .state) i) (procsIn t)) refl e
+    where
+      go : (a b : Found) → lowest (λ i. canMove pr (t .state) i) (procsIn t) ≡ b → orElse a b ≡ Nothing → canMove pr (t .state) p ≡ false
+      go (At q) b eb z = let w : _≡_ {A = ℕ} 0 1 = cc in absurd (omega arith)
+      go Nothing (At q) eb z = let w : _≡_ {A = ℕ} 0 1 = cc in absurd (omega arith)
+      go Nothing Nothing eb z = lowest-none (λ i. canMove pr (t .state) i) (procsIn t) p eb h
+
+  pub deadlock-still : {t : Tables} → Reached lim pr t → turnFor pr t ≡ Nothing → (HasMode (t .state) 0 dormant → ⊥) → Deadlock (t .state)
+  deadlock-still {t} r e l = deadlock lim pr r (nobody t e) l
+
+  live-root : (t : Tables) → goalEnded t ≡ false → HasMode (t .state) 0 dormant → ⊥
+  live-root t g e = never (sym g ∙ rw e)
+
+  pub deadlock-waiting : (limit : ℕ) {t : Tables} → Reached lim pr t → runTables limit lim pr t .end ≡ Waiting → Deadlock (runTables limit lim pr t .tables .state)
+  deadlock-waiting limit {t} r e = go (rw e at (runs limit t .stops)) refl
+    where
+      u : Tables
+      u = runTables limit lim pr t .tables
+
+      not-waiting : (x : Result) → endOf x ≡ Waiting → ⊥
+      not-waiting none z = let w : _≡_ {A = ℕ} 0 1 = cc in omega arith
+      not-waiting success z = let w : _≡_ {A = ℕ} 0 1 = cc in omega arith
+      not-waiting failure z = let w : _≡_ {A = ℕ} 0 1 = cc in omega arith
+
+      go : {n : ℕ} {x : End} → Stops lim pr limit n u x → x ≡ Waiting → Deadlock (u .state)
+      go (goal-ended g) z = absurd (not-waiting (resultOf (me (u .state) 0 .result)) z)
+      go (all-still g q) z = deadlock-still (run-reached limit r) q (live-root u g)
+      go (limit-used g q k) z = let w : _≡_ {A = ℕ} 0 1 = cc in absurd (omega arith)
+      go (room-used g h k) z = let w : _≡_ {A = ℕ} 0 1 = cc in absurd (omega arith)

@@ -5,18 +5,19 @@ use mathlib.Core.Bool.{Bool, cond, false, true}
 use Prim.Native.Nat.{_+_, _<_, _≤_, ℕ}
 use lib.Dec.{leb, ltb}
 use lib.ListN.{length}
-use borrow.Author.Tests.{leb-true, lt-ltb}
+use borrow.Author.Tests.{leb-true, lt-ltb, ltb-true}
 use native.Mathlib.Omega.{arith}
 use Rattle.parlog.proofs.Bools.{and-true, never, split}
 use Rattle.parlog.proofs.Effects.{apply-count}
 use Rattle.parlog.proofs.Fine.{fine, kin-after}
+use Rattle.parlog.proofs.Good.{state-good}
 use Rattle.parlog.proofs.Kin.{Kin}
 use Rattle.parlog.proofs.Shape.{shape}
 use Rattle.parlog.proofs.Stable.{can-here, rule-can, stable, supply-grows}
 use Rattle.parlog.proofs.Stays.{falling-free}
 use Rattle.parlog.proofs.Values.{Falling}
 use Rattle.parlog.specs.Codes.{dormant}
-use Rattle.parlog.specs.Delta.{Delta}
+use Rattle.parlog.specs.Delta.{apply, Delta}
 use Rattle.parlog.specs.Demands.{at-start, by-number, by-supply, by-turn, Reached}
 use Rattle.parlog.specs.Limits.{Limits}
 use Rattle.parlog.specs.Load.{after}
@@ -24,7 +25,8 @@ use Rattle.parlog.specs.Notions.{HasMode}
 use Rattle.parlog.specs.Program.{Program}
 use Rattle.parlog.specs.Rules.{Applied, by-rule, fits, move, moved, no-rule, room, ruleOf, withRoom}
 use Rattle.parlog.specs.Run.{canMove, given, isRule, made, procsIn, stepBy, stepped, stepTables, supplied, supplyTables, turnFor, turnTables, turnTo, unmade}
-use Rattle.parlog.specs.Tables.{fresh, freshTables, Tables}
+use Rattle.parlog.specs.TableRules.{countsOk, stateOk, tablesOk}
+use Rattle.parlog.specs.Tables.{fresh, freshTables, State, Tables}
 use Rattle.parlog.specs.declared.Found.{Found}
 use Rattle.parlog.specs.declared.Found.the-variants.{At, Nothing}
 use Rattle.parlog.specs.declared.Move.{Move}
@@ -167,3 +169,18 @@ stable-step lim pr {t} {t′} {m} r q e p n c =
     let st = steady lim pr r in
     let a = step-made lim pr t q m t′ e in
     rw (a .after) (stable pr (t .state) (st .kin) (st .falls) q m (a .delta) (a .rule) p n c)
+
+-- and in tables that keep the table rules, however they came
+pub stable-kept : (lim : Limits) (pr : Program) (s : State) → stateOk lim pr s ≡ true → (q : ℕ) (m : Move) (d : Delta) → ruleOf pr s q ≡ by-rule m d → (p : ℕ) → p ≢ q
+    → canMove pr s p ≡ true → (canMove pr (apply s q d) p ≡ true) ⊎ HasMode (apply s q d) p dormant
+stable-kept lim pr s ok q m d e p n c = let g = state-good lim pr s ok in stable pr s (g .kin) (g .falls) q m d e p n c
+
+pub steady-kept : (lim : Limits) (pr : Program) (t : Tables) → tablesOk lim pr t ≡ true → Steady t × (procsIn t ≤ lim .procs)
+unfolding tablesOk stateOk countsOk
+steady-kept lim pr t ok =
+    let a = and-true (stateOk lim pr (t .state)) (ltb (t .last) (procsIn t)) ok in
+    let g = state-good lim pr (t .state) (a .0) in
+    let b = and-true (countsOk lim pr (t .state)) _ (a .0) .0 in
+    let c = and-true (leb 1 (procsIn t)) _ b .1 in
+    let most = and-true (leb (procsIn t) (lim .procs)) _ c .0 in
+    (record { kin = g .kin; falls = g .falls; mark = ltb-true (t .last) (procsIn t) (a .1) }, leb-true (procsIn t) (lim .procs) most)

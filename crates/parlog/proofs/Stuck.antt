@@ -1,7 +1,7 @@
 -- When nothing can move and the goal has not ended, some process is suspended and every live one is accounted for.
 use mathlib.Core.Path.{_∙_, _≡_, ap, refl, sym}
 use mathlib.Core.Logic.{_≢_, ⊎-elim}
-use mathlib.Core.Bool.{_||_, Bool, false, true}
+use mathlib.Core.Bool.{_&&_, _||_, Bool, false, true}
 use Prim.Native.Nat.{_+_, _<_, _≤_, suc, zero, ℕ}
 use lib.Dec.{eqb, ltb}
 use lib.ListN.{length, List·getD-eq-default}
@@ -371,3 +371,38 @@ deadlock lim pr {t} r stuck l =
     let st = steady lim pr r in
     let gr = grown lim pr r in
     deadlocked pr (t .state) (st .kin) (gr .forest) (gr .firm) stuck (omega (arith, st .mark)) l
+
+-- ---- the goal's end
+
+-- when process 0 is dormant every process is
+asleep-below : (s : State) → Kin s → Grown s → HasMode s 0 dormant → (f i : ℕ) → i ≤ f → i < length (s .procs) → isAwake (modeAt s i) ≡ false
+asleep-below s kin gr e zero i l h = rw (let z : i ≡ 0 = omega arith in z) (ap isAwake (code-mode dormant (me s 0 .mode) e))
+asleep-below s kin gr e (suc f) i l h = split (eqb i 0)
+    (λ z. rw (eqb-true i 0 z) (ap isAwake (code-mode dormant (me s 0 .mode) e)))
+    (λ z. let o : i ≢ 0 = eqb-false i 0 z in
+    let j : ℕ = me s i .parent in
+    let ch : Child s j i = record { there = h; other = o; parent = refl } in
+    let lt : j < i = kin .lower i h o in
+    gr .forest .live j ch ∙ not-counted (modeAt s j) (isWide (tagAt s j) || isAt (latest (s .procs) j) i) (asleep-below s kin gr e f j (omega arith) (omega arith)))
+  where
+    not-counted : (m : Mode) (b : Bool) → isAwake m ≡ false → (isWaiting m && b) ≡ false
+    not-counted dormant b q = refl
+    not-counted ready b q = refl
+    not-counted starting b q = refl
+    not-counted waiting b q = never (sym q)
+    not-counted reporting b q = refl
+    not-counted suspended b q = refl
+
+pub ended-all : (lim : Limits) (pr : Program) {t : Tables} → Reached lim pr t → HasMode (t .state) 0 dormant → (i : ℕ) → i < procsIn t → HasMode (t .state) i dormant
+ended-all lim pr {t} r e i h =
+    let gr = grown lim pr r in
+    let a = asleep-below (t .state) (steady lim pr r .kin) gr e i i (omega arith) h in
+    sym (mode-code (me (t .state) i .mode) (gr .firm .known i)) ∙ ap modeCode (sleeps (modeAt (t .state) i) a)
+  where
+    sleeps : (m : Mode) → isAwake m ≡ false → m ≡ dormant
+    sleeps dormant q = refl
+    sleeps ready q = never (sym q)
+    sleeps starting q = never (sym q)
+    sleeps waiting q = never (sym q)
+    sleeps reporting q = never (sym q)
+    sleeps suspended q = never (sym q)

@@ -64,9 +64,9 @@ pub data Event : Type 0 where
   a-turn : Event
   a-supply : ℕ → ℕ → Event
 
--- Served lim pr p k t es: when the events es come from the tables t on, p moves within the next k turn steps made, or becomes dormant first.
--- A call that is refused, for room too, makes no step and changes nothing, so none is left out here; nor is the goal's end, at which
--- every process is dormant. Where the events are over while steps are left, nothing more is asked.
+-- Served lim pr p k t es: as the events es come, from the tables t on, p moves within the next k turn steps made, or becomes dormant first.
+-- The other exceptions that demand 3 grants are not used: a turn refused for room makes no step and changes nothing, so that it does not
+-- count; and when the goal has ended every process is dormant. Events that are over while steps are left ask for nothing more.
 pub data Served (lim : Limits) (pr : Program) (p : ℕ) : ℕ → Tables → List Event → Type 0 where
   aborted : {k : ℕ} {t : Tables} {es : List Event} → HasMode (t .state) p dormant → Served lim pr p k t es
   moves-itself : {k : ℕ} {t t′ : Tables} {m : Move} {es : List Event} → turnTables lim pr t ≡ made m t′ → t′ .last ≡ p → Served lim pr p (suc k) t (a-turn ∷ es)
