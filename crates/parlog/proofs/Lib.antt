@@ -24,3 +24,15 @@ pub mod Held
 pub mod Says
 pub mod Computes
 pub mod Exact
+pub mod Rows
+pub mod Able
+pub mod Stays
+pub mod Shape
+pub mod Fine
+pub mod Stable
+pub mod Steps
+pub mod Fair
+pub mod Forest
+pub mod Stuck
+pub mod OneValue
+pub mod Repeated

@@ -22,3 +22,4 @@ pub mod Opened
 pub mod Cases
 pub mod Notions
 pub mod Relation
+pub mod Demands
