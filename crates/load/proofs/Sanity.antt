@@ -61,7 +61,8 @@ clause-in s r from h =
     record {
       head = terms-in s (byteAt s (from + 7)) (byteAt s (from + 5)) (from + 8) (a .0);
       guard = goal-in s r (byteAt s (from + 7)) (guardAt s from) (b .0);
-      body = goal-in s r (byteAt s (from + 7)) (bodyAt s from) (b .1) }
+      body = goal-in s r (byteAt s (from + 7)) (bodyAt s from) (b .1);
+    }
 
 none-in : ClauseSane noClause
 unfolding allOf
@@ -82,7 +83,7 @@ module _ (s : List ℕ) (r c : ℕ) (ok : Right s r c) where
   unfolding programOf modesOf
   modes-few q = split (ltb q r)
       (λ h. let l = ltb-true q r h in
-          rw (list-at (modesOf s) (recordEnd s) r 0 q [] l, list-length (byteAt s) modeEnd (byteAt s (recordAt s q + 4)) (recordAt s q + 5)) (arity-small s (recordAt s q) (ok .relation q l .body)))
+      rw (list-at (modesOf s) (recordEnd s) r 0 q [] l, list-length (byteAt s) modeEnd (byteAt s (recordAt s q + 4)) (recordAt s q + 5)) (arity-small s (recordAt s q) (ok .relation q l .body)))
       (λ h. rw (list-past (modesOf s) (recordEnd s) r 0 q [] (ltb-false q r h)) (omega arith))
 
   goal-sane : goalTerms (programOf s r c .goalVars) (programOf s r c .goal) ≡ true

@@ -24,7 +24,6 @@ pub mod Held
 pub mod Says
 pub mod Computes
 pub mod Exact
-pub mod Rows
 pub mod Able
 pub mod Stays
 pub mod Shape
