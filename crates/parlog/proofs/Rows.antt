@@ -12,7 +12,7 @@ use native.Mathlib.Nat.{add-comm, le-of-suc-le-suc, not-suc-le-zero, suc-mul, ze
 use Rattle.parlog.proofs.Bools.{split}
 use Rattle.parlog.proofs.Scans.{build-at, build-length}
 use Rattle.parlog.specs.Scan.{build}
-use Rattle.parlog.specs.Tables.{at, rowsBytes, written}
+use Rattle.parlog.specs.Tables.{rowsBytes, written}
 
 -- ---- what is built
 

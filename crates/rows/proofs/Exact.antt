@@ -12,7 +12,7 @@ use Rattle.parlog.proofs.Bools.{split}
 use Rattle.parlog.proofs.Rows.{high-half, low-half, rows-byte, rows-length, written-is}
 use Rattle.parlog.proofs.Scans.{build-at}
 use Rattle.parlog.specs.Scan.{build}
-use Rattle.parlog.specs.Tables.{at, idle, notesAt, processAt, processBytes, procsOf, rowsBytes, spotAt, u16At, written}
+use Rattle.parlog.specs.Tables.{idle, notesAt, processAt, processBytes, procsOf, rowsBytes, spotAt, u16At, written}
 use Rattle.parlog.specs.declared.Process.{Process}
 use Rattle.rows.proofs.Laws.{row-length}
 use Rattle.rows.proofs.Tables.{table-at, table-same}

@@ -1,0 +1,85 @@
+-- What a table's bindings are, with its rest, fixes every byte, where no bytes stand that no record has.
+use mathlib.Core.Path.{_∙_, _≡_, ap, sym}
+use mathlib.Core.Logic.{_≢_}
+use mathlib.Core.Bool.{_&&_, true}
+use mathlib.Core.List.{List}
+use Prim.Native.Nat.{_%_, _*_, _+_, _/_, _<_, _≤_, suc, zero, ℕ}
+use lib.Dec.{eqb, ltb}
+use lib.ListN.{getD, length}
+use borrow.Author.Tests.{eqb-false, eqb-true, ltb-true}
+use native.Mathlib.Omega.{arith}
+use native.Mathlib.Nat.{add-zero}
+use Rattle.parlog.proofs.Bools.{and-true, implies-true, split}
+use Rattle.parlog.proofs.Rows.{rows-byte, rows-length, written-is}
+use Rattle.parlog.proofs.Scans.{every-at}
+use Rattle.parlog.specs.Scan.{every, implies}
+use Rattle.parlog.specs.TableRules.{cellKnown}
+use Rattle.parlog.specs.Tables.{bindingAt, bindingBy, bindingBytes, numberAt, numberCode, rowsBytes, sortAt, sortCode, written}
+use Rattle.parlog.specs.declared.Binding.{Binding}
+use Rattle.parlog.specs.declared.Binding.the-variants.{Free}
+use Rattle.rows.specs.Rows.{Bytes}
+use Rattle.vars.proofs.Laws.{cell-length}
+use Rattle.vars.proofs.Tables.{cells-at}
+use Rattle.vars.specs.Cells.{Cells}
+
+low-third : (a b c : ℕ) → a < 256 → b < 256 → (a + b * 256 + c * 65536) % 256 ≡ a
+low-third a b c h g = omega arith
+
+mid-third : (a b c : ℕ) → a < 256 → b < 256 → (a + b * 256 + c * 65536) / 256 % 256 ≡ b
+mid-third a b c h g = omega arith
+
+top-third : (a b c : ℕ) → a < 256 → b < 256 → (a + b * 256 + c * 65536) / 65536 ≡ c
+top-third a b c h g = omega arith
+
+-- a known sort and number are those of their binding
+sort-back : (s m : ℕ) → (ltb s 3 && implies (eqb s 0) (eqb m 0)) ≡ true → sortCode (bindingBy s m) ≡ s
+unfolding bindingBy
+sort-back s m e = split (eqb s 0)
+    (λ a. rw a (sym (eqb-true s 0 a)))
+    (λ a. split (eqb s 1)
+    (λ b. rw (a, b) (sym (eqb-true s 1 b)))
+    (λ b. let x : s ≢ 0 = eqb-false s 0 a in
+    let y : s ≢ 1 = eqb-false s 1 b in
+    let z : s < 3 = ltb-true s 3 (and-true (ltb s 3) (implies (eqb s 0) (eqb m 0)) e .0) in
+    rw (a, b) (omega (arith, x, y))))
+
+number-back : (s m : ℕ) → (ltb s 3 && implies (eqb s 0) (eqb m 0)) ≡ true → numberCode (bindingBy s m) ≡ m
+unfolding bindingBy
+number-back s m e = split (eqb s 0)
+    (λ a. rw a (sym (eqb-true m 0 (implies-true (eqb s 0) (eqb m 0) (and-true (ltb s 3) (implies (eqb s 0) (eqb m 0)) e .1) a))))
+    (λ a. split (eqb s 1) (λ b. rw (a, b)) (λ b. rw (a, b)))
+
+module _ (l : List ℕ) (v : ℕ) (are : Bytes l) (known : cellKnown l v ≡ true) where
+  sort-is : sortCode (bindingAt l v) ≡ sortAt l v
+  unfolding bindingAt cellKnown
+  sort-is = sort-back (sortAt l v) (numberAt l v) known
+
+  number-is : numberCode (bindingAt l v) ≡ numberAt l v
+  unfolding bindingAt cellKnown
+  number-is = number-back (sortAt l v) (numberAt l v) known
+
+  -- the bytes of a row from its binding
+  pub cell-byte : (k : ℕ) → k < 4 → getD l (v * 4 + k) 0 ≡ getD (bindingBytes (bindingAt l v)) k 0
+  unfolding bindingBytes
+  cell-byte zero h = simp add-zero (sym sort-is)
+  cell-byte (suc zero) h = sym (rw number-is (low-third (getD l (v * 4 + 1) 0) (getD l (v * 4 + 2) 0) (getD l (v * 4 + 3) 0) (are (v * 4 + 1)) (are (v * 4 + 2))))
+  cell-byte (suc (suc zero)) h = sym (rw number-is (mid-third (getD l (v * 4 + 1) 0) (getD l (v * 4 + 2) 0) (getD l (v * 4 + 3) 0) (are (v * 4 + 1)) (are (v * 4 + 2))))
+  cell-byte (suc (suc (suc zero))) h = sym (rw number-is (top-third (getD l (v * 4 + 1) 0) (getD l (v * 4 + 2) 0) (getD l (v * 4 + 3) 0) (are (v * 4 + 1)) (are (v * 4 + 2))))
+  cell-byte (suc (suc (suc (suc k)))) h = absurd (omega arith)
+
+-- the bytes of a table are its bindings' bytes, and past them what was there
+pub cells-bytes : {n : ℕ} {l₀ l : List ℕ} {vs : List Binding} → Cells n l₀ l vs → every (cellKnown l₀) n ≡ true → Bytes l → length vs * 4 ≤ length l₀ → l ≡ written (rowsBytes bindingBytes vs) l₀
+cells-bytes {n} {l₀} {l} {vs} t known are enough =
+    let m : length (rowsBytes bindingBytes vs) ≡ length vs * 4 = rows-length bindingBytes 4 cell-length vs in
+    written-is (rowsBytes bindingBytes vs) l l₀ (t .size) (omega arith) (λ j h. inside j (omega arith)) (λ j h. t .rest j (omega arith))
+  where
+    inside : (j : ℕ) → j < length vs * 4 → getD l j 0 ≡ getD (rowsBytes bindingBytes vs) j 0
+    inside j h =
+        let v = j / 4 in
+        let k = j % 4 in
+        let e : v * 4 + k ≡ j = omega arith in
+        let g : getD l (v * 4 + k) 0 ≡ getD (rowsBytes bindingBytes vs) (v * 4 + k) 0 =
+        cell-byte l v are (every-at (cellKnown l) (length vs) v (t .known known) (omega arith)) k (omega arith)
+        ∙ ap (λ (x : Binding). getD (bindingBytes x) k 0) (cells-at v t (omega arith))
+        ∙ sym (rows-byte bindingBytes 4 cell-length vs Free v k (omega arith) (omega arith)) in
+        rw e at g
