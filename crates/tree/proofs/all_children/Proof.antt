@@ -1,15 +1,11 @@
-use borrow.Author.Needs.{needs}
-use Rattle.tree.proofs.Family.{AllFrom}
-use native.Mathlib.Omega.{arith}
+use mathlib.Core.Path.{_∙_, sym}
 use Prim.Native.Nat.{_≤_}
-use mathlib.Core.Path.{_≡_, sym, _∙_}
-use borrow.Author.Tests.{not-true, not-false}
-use Rattle.parlog.specs.Tree.{childDone, allChildren}
+use borrow.Author.Needs.{needs}
+use borrow.Author.Tests.{not-false, not-true}
+use native.Mathlib.Omega.{arith}
 use Rattle.parlog.specs.Tables.{procsOf}
-use Rattle.parlog.specs.Codes.{Result}
-use Rattle.parlog.specs.Scan.{every}
-use Rattle.tree.proofs.Turns.{every-on, every-stop, every-end}
-use Rattle.tree.proofs.Family.{all-starts}
+use Rattle.tree.proofs.Family.{AllFrom, all-starts}
+use Rattle.tree.proofs.Turns.{every-end, every-on, every-stop}
 use Rattle.tree.proofs.all_children.Statement.{statement}
 use Rattle.tree.proofs.all_children.Tie as tie
 

@@ -1,6 +1,6 @@
 use mathlib.Core.Path.{refl}
-use Rattle.parlog.specs.Codes.{failure}
 use borrow.Author.Needs.{needs}
+use Rattle.parlog.specs.Codes.{failure}
 use Rattle.tree.proofs.all_failed.Statement.{statement}
 use Rattle.tree.proofs.all_failed.Tie as tie
 

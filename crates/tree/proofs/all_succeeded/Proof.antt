@@ -1,6 +1,6 @@
 use mathlib.Core.Path.{refl}
-use Rattle.parlog.specs.Codes.{success}
 use borrow.Author.Needs.{needs}
+use Rattle.parlog.specs.Codes.{success}
 use Rattle.tree.proofs.all_succeeded.Statement.{statement}
 use Rattle.tree.proofs.all_succeeded.Tie as tie
 

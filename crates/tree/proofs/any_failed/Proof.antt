@@ -1,13 +1,13 @@
+use mathlib.Core.Path.{_∙_, _≡_, refl, sym}
+use Prim.Native.Nat.{_≤_}
 use borrow.Author.Needs.{needs}
 use native.Mathlib.Omega.{arith}
-use Prim.Native.Nat.{_≤_}
-use mathlib.Core.Path.{_≡_, refl, sym, _∙_}
-use Rattle.parlog.specs.Tree.{childReports, anyChild}
-use Rattle.parlog.specs.Tables.{procsOf}
 use Rattle.parlog.specs.Codes.{failure}
 use Rattle.parlog.specs.Scan.{some}
-use Rattle.tree.proofs.Turns.{some-hit, some-miss, some-end}
+use Rattle.parlog.specs.Tables.{procsOf}
+use Rattle.parlog.specs.Tree.{anyChild, childReports}
 use Rattle.tree.proofs.Family.{any-starts}
+use Rattle.tree.proofs.Turns.{some-end, some-hit, some-miss}
 use Rattle.tree.proofs.any_failed.Statement.{statement}
 use Rattle.tree.proofs.any_failed.Tie as tie
 

@@ -1,9 +1,9 @@
+use mathlib.Core.Path.{_∙_, _≡_, sym}
 use borrow.Author.Needs.{needs}
 use native.Mathlib.Omega.{arith}
-use mathlib.Core.Path.{_≡_, sym, _∙_}
-use Rattle.parlog.specs.Tree.{below, climb}
 use Rattle.parlog.specs.Tables.{procsOf}
-use Rattle.tree.proofs.Family.{below-starts, climb-end, climb-root, climb-met, climb-on}
+use Rattle.parlog.specs.Tree.{below, climb}
+use Rattle.tree.proofs.Family.{below-starts, climb-end, climb-met, climb-on, climb-root}
 use Rattle.tree.proofs.below.Statement.{statement}
 use Rattle.tree.proofs.below.Tie as tie
 

@@ -1,5 +1,5 @@
-use Rattle.tree.proofs.Family.{child-done, no-child}
 use borrow.Author.Needs.{needs}
+use Rattle.tree.proofs.Family.{child-done, no-child}
 use Rattle.tree.proofs.child_done.Statement.{statement}
 use Rattle.tree.proofs.child_done.Tie as tie
 

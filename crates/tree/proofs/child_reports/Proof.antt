@@ -1,5 +1,5 @@
-use Rattle.tree.proofs.Family.{child-reports, child-silent}
 use borrow.Author.Needs.{needs}
+use Rattle.tree.proofs.Family.{child-reports, child-silent}
 use Rattle.tree.proofs.child_reports.Statement.{statement}
 use Rattle.tree.proofs.child_reports.Tie as tie
 

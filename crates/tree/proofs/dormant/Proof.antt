@@ -1,4 +1,3 @@
-use borrow.Author.Needs.{needs}
 use mathlib.Core.Path.{refl}
 use Rattle.parlog.specs.Delta.{withMode}
 use Rattle.tree.proofs.dormant.Statement.{statement}

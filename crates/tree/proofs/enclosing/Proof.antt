@@ -1,9 +1,9 @@
+use mathlib.Core.Path.{_∙_, _≡_, sym}
 use borrow.Author.Needs.{needs}
 use native.Mathlib.Omega.{arith}
-use mathlib.Core.Path.{_≡_, sym, _∙_}
-use Rattle.parlog.specs.Tree.{enclosing, tryAbove}
 use Rattle.parlog.specs.Tables.{procsOf}
-use Rattle.tree.proofs.Family.{enclosing-starts, above-end, above-root, above-met, above-on}
+use Rattle.parlog.specs.Tree.{enclosing, tryAbove}
+use Rattle.tree.proofs.Family.{above-end, above-met, above-on, above-root, enclosing-starts}
 use Rattle.tree.proofs.enclosing.Statement.{statement}
 use Rattle.tree.proofs.enclosing.Tie as tie
 

@@ -1,5 +1,5 @@
-use Rattle.tree.proofs.Family.{first-none, first-found}
 use borrow.Author.Needs.{needs}
+use Rattle.tree.proofs.Family.{first-found, first-none}
 use Rattle.tree.proofs.enclosing_first.Statement.{statement}
 use Rattle.tree.proofs.enclosing_first.Tie as tie
 

@@ -1,6 +1,6 @@
-use Rattle.parlog.specs.declared.Process.{Process}
-use mathlib.Core.Path.{ap, _∙_}
+use mathlib.Core.Path.{_∙_, ap}
 use borrow.Author.Needs.{needs}
+use Rattle.parlog.specs.declared.Process.{Process}
 use Rattle.tree.proofs.first_at.Statement.{statement}
 use Rattle.tree.proofs.first_at.Tie as tie
 

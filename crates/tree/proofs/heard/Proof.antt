@@ -1,5 +1,5 @@
-use Rattle.tree.proofs.Family.{under-at, heard-none, heard-at}
 use borrow.Author.Needs.{needs}
+use Rattle.tree.proofs.Family.{heard-at, heard-none, under-at}
 use Rattle.tree.proofs.heard.Statement.{statement}
 use Rattle.tree.proofs.heard.Tie as tie
 

@@ -1,7 +1,7 @@
 use mathlib.Core.Path.{refl}
-use Rattle.parlog.specs.Codes.{success, failure}
-use Rattle.tree.proofs.Family.{heard-success, heard-failure, heard-nothing}
 use borrow.Author.Needs.{needs}
+use Rattle.parlog.specs.Codes.{failure, success}
+use Rattle.tree.proofs.Family.{heard-failure, heard-nothing, heard-success}
 use Rattle.tree.proofs.heard_from.Statement.{statement}
 use Rattle.tree.proofs.heard_from.Tie as tie
 

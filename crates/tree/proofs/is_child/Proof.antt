@@ -1,6 +1,6 @@
-use Rattle.parlog.specs.Tree.{isChild}
-use borrow.Author.Tests.{eq-eqb, ne-eqb}
 use borrow.Author.Needs.{needs}
+use borrow.Author.Tests.{eq-eqb, ne-eqb}
+use Rattle.parlog.specs.Tree.{isChild}
 use Rattle.tree.proofs.is_child.Statement.{statement}
 use Rattle.tree.proofs.is_child.Tie as tie
 

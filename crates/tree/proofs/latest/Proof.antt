@@ -1,12 +1,12 @@
+use mathlib.Core.Path.{_∙_, _≡_, sym}
+use Prim.Native.Nat.{_≤_}
 use borrow.Author.Needs.{needs}
 use native.Mathlib.Omega.{arith}
-use Prim.Native.Nat.{_≤_}
-use mathlib.Core.Path.{_≡_, sym, _∙_}
-use Rattle.parlog.specs.Tree.{isChild, latest}
-use Rattle.parlog.specs.Tables.{procsOf}
 use Rattle.parlog.specs.Scan.{highest}
-use Rattle.tree.proofs.Turns.{highest-hit, highest-miss, highest-end}
+use Rattle.parlog.specs.Tables.{procsOf}
+use Rattle.parlog.specs.Tree.{isChild, latest}
 use Rattle.tree.proofs.Family.{latest-starts}
+use Rattle.tree.proofs.Turns.{highest-end, highest-hit, highest-miss}
 use Rattle.tree.proofs.latest.Statement.{statement}
 use Rattle.tree.proofs.latest.Tie as tie
 

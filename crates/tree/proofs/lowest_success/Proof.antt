@@ -1,12 +1,12 @@
+use mathlib.Core.Path.{_∙_, refl, sym}
+use Prim.Native.Nat.{_-_, _≤_}
 use borrow.Author.Needs.{needs}
 use native.Mathlib.Omega.{arith}
-use Prim.Native.Nat.{_≤_, _-_}
-use mathlib.Core.Path.{_≡_, refl, sym, _∙_}
-use Rattle.parlog.specs.Tree.{childReports}
-use Rattle.parlog.specs.Tables.{procsOf}
 use Rattle.parlog.specs.Codes.{success}
-use Rattle.tree.proofs.Turns.{Missed, missed-start, missed-next, lowest-hit, lowest-end}
+use Rattle.parlog.specs.Tables.{procsOf}
+use Rattle.parlog.specs.Tree.{childReports}
 use Rattle.tree.proofs.Family.{lowest-starts}
+use Rattle.tree.proofs.Turns.{Missed, lowest-end, lowest-hit, missed-next, missed-start}
 use Rattle.tree.proofs.lowest_success.Statement.{statement}
 use Rattle.tree.proofs.lowest_success.Tie as tie
 

@@ -1,5 +1,5 @@
-use Rattle.tree.proofs.Family.{reports-so, reports-not}
 use borrow.Author.Needs.{needs}
+use Rattle.tree.proofs.Family.{reports-not, reports-so}
 use Rattle.tree.proofs.reports.Statement.{statement}
 use Rattle.tree.proofs.reports.Tie as tie
 

@@ -1,10 +1,10 @@
+use Prim.Native.Nat.{_-_, _≤_}
 use borrow.Author.Needs.{needs}
 use native.Mathlib.Omega.{arith}
-use Prim.Native.Nat.{_≤_, _-_}
-use Rattle.rows.specs.Rows.{Table}
-use Rattle.parlog.specs.Tables.{procsOf}
 use Rattle.parlog.specs.Scan.{build}
-use Rattle.tree.proofs.Passing.{passed, pass-start, pass-next, pass-end}
+use Rattle.parlog.specs.Tables.{procsOf}
+use Rattle.rows.specs.Rows.{Table}
+use Rattle.tree.proofs.Passing.{pass-end, pass-next, pass-start, passed}
 use Rattle.tree.proofs.sleep_below.Statement.{statement}
 use Rattle.tree.proofs.sleep_below.Tie as tie
 

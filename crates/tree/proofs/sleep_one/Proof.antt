@@ -1,6 +1,6 @@
-use borrow.Author.Tests.{not-true, not-false}
-use Rattle.tree.proofs.Passing.{sleep-still, sleep-not, sleep-now}
 use borrow.Author.Needs.{needs}
+use borrow.Author.Tests.{not-false, not-true}
+use Rattle.tree.proofs.Passing.{sleep-not, sleep-now, sleep-still}
 use Rattle.tree.proofs.sleep_one.Statement.{statement}
 use Rattle.tree.proofs.sleep_one.Tie as tie
 
