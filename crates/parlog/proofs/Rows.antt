@@ -125,20 +125,31 @@ module _ {A : Type 0} (bytes : A → List ℕ) (size : ℕ) (sized : (x : A) →
       ∙ getD-append-add (bytes x) (rowsBytes bytes xs) (i * size + k) 0
       ∙ rows-byte xs d i k (le-of-suc-le-suc h) b
 
--- what is written, by its bytes
-pub written-is : (rows l l₀ : List ℕ) → length l ≡ length l₀ → length rows ≤ length l₀
-    → ((j : ℕ) → j < length rows → getD l j 0 ≡ getD rows j 0) → ((j : ℕ) → length rows ≤ j → getD l j 0 ≡ getD l₀ j 0) → l ≡ written rows l₀
-unfolding written
-written-is rows l l₀ same enough inside past =
-    ext-getD 0 l (rows ++ drop (length rows) l₀) (same ∙ sym (length-append rows (drop (length rows) l₀) ∙ omega (arith, length-drop (length rows) l₀))) go
-  where
-    go : (j : ℕ) → j < length l → getD l j 0 ≡ getD (rows ++ drop (length rows) l₀) j 0
-    go j h = split (ltb j (length rows))
-        (λ e. let v : j < length rows = ltb-true j (length rows) e in inside j v ∙ sym (List·getD-append rows (drop (length rows) l₀) 0 j v))
-        (λ e. let v : length rows ≤ j = ltb-false j (length rows) e in
-        let w : j ≡ length rows + (j - length rows) = omega arith in
-        past j v
-        ∙ sym (ap (λ (k : ℕ). getD (rows ++ drop (length rows) l₀) k 0) w ∙ getD-append-add rows (drop (length rows) l₀) (j - length rows) 0 ∙ getD-drop (length rows) l₀ (j - length rows) 0 ∙ ap (λ (k : ℕ). getD l₀ k 0) (sym w)))
+-- ---- what is written, by its bytes
+
+module _ (rows l₀ : List ℕ) where
+  pub written-length : length rows ≤ length l₀ → length (written rows l₀) ≡ length l₀
+  unfolding written
+  written-length h = length-append rows (drop (length rows) l₀) ∙ omega (arith, length-drop (length rows) l₀)
+
+  pub written-in : (j : ℕ) → j < length rows → getD (written rows l₀) j 0 ≡ getD rows j 0
+  unfolding written
+  written-in j h = List·getD-append rows (drop (length rows) l₀) 0 j h
+
+  pub written-past : (j : ℕ) → length rows ≤ j → getD (written rows l₀) j 0 ≡ getD l₀ j 0
+  unfolding written
+  written-past j h =
+      let w : j ≡ length rows + (j - length rows) = omega arith in
+      ap (λ (k : ℕ). getD (rows ++ drop (length rows) l₀) k 0) w
+      ∙ getD-append-add rows (drop (length rows) l₀) (j - length rows) 0
+      ∙ getD-drop (length rows) l₀ (j - length rows) 0
+      ∙ ap (λ (k : ℕ). getD l₀ k 0) (sym w)
+
+  pub written-is : (l : List ℕ) → length l ≡ length l₀ → length rows ≤ length l₀
+      → ((j : ℕ) → j < length rows → getD l j 0 ≡ getD rows j 0) → ((j : ℕ) → length rows ≤ j → getD l j 0 ≡ getD l₀ j 0) → l ≡ written rows l₀
+  written-is l same enough inside past = ext-getD 0 l (written rows l₀) (same ∙ sym (written-length enough)) (λ j h. split (ltb j (length rows))
+      (λ e. let v : j < length rows = ltb-true j (length rows) e in inside j v ∙ sym (written-in j v))
+      (λ e. let v : length rows ≤ j = ltb-false j (length rows) e in past j v ∙ sym (written-past j v)))
 
 -- ---- a number of two bytes
 

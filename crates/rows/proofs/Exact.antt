@@ -9,14 +9,14 @@ use borrow.Author.Tests.{ltb-false, ltb-true}
 use native.Mathlib.Omega.{arith}
 use native.Mathlib.Nat.{add-assoc, add-zero}
 use Rattle.parlog.proofs.Bools.{split}
-use Rattle.parlog.proofs.Rows.{high-half, low-half, rows-byte, rows-length, written-is}
+use Rattle.parlog.proofs.Rows.{high-half, low-half, rows-byte, rows-length, written-in, written-is, written-length, written-past}
 use Rattle.parlog.proofs.Scans.{build-at}
 use Rattle.parlog.specs.Scan.{build}
-use Rattle.parlog.specs.Tables.{idle, notesAt, processAt, processBytes, procsOf, rowsBytes, spotAt, u16At, written}
+use Rattle.parlog.specs.Tables.{at, idle, notesAt, processAt, processBytes, procsOf, rowsBytes, spotAt, u16At, written}
 use Rattle.parlog.specs.declared.Process.{Process}
-use Rattle.rows.proofs.Laws.{row-length}
-use Rattle.rows.proofs.Tables.{table-at, table-same}
-use Rattle.rows.specs.Rows.{Bytes, Table}
+use Rattle.rows.proofs.Laws.{process-back, process-cong, row-length}
+use Rattle.rows.proofs.Tables.{procs-is, table-at, table-same}
+use Rattle.rows.specs.Rows.{Bytes, Four, Table}
 
 module _ (l : List ℕ) (i : ℕ) (are : Bytes l) where
   low-at : (k : ℕ) → u16At l (i * 24 + k) % 256 ≡ getD l (i * 24 + k) 0
@@ -37,7 +37,7 @@ module _ (l : List ℕ) (i : ℕ) (are : Bytes l) where
 pub table-bytes : {l₀ l : List ℕ} {ps : List Process} → Table l₀ l ps → Bytes l → length ps * 24 ≤ length l₀ → l ≡ written (rowsBytes processBytes ps) l₀
 table-bytes {l₀} {l} {ps} t are enough =
     let n : length (rowsBytes processBytes ps) ≡ length ps * 24 = rows-length processBytes 24 row-length ps in
-    written-is (rowsBytes processBytes ps) l l₀ (t .size) (omega arith) (λ j h. inside j (omega arith)) (λ j h. t .rest j (omega arith))
+    written-is (rowsBytes processBytes ps) l₀ l (t .size) (omega arith) (λ j h. inside j (omega arith)) (λ j h. t .rest j (omega arith))
   where
     inside : (j : ℕ) → j < length ps * 24 → getD l j 0 ≡ getD (rowsBytes processBytes ps) j 0
     inside j h =
@@ -49,6 +49,21 @@ table-bytes {l₀} {l} {ps} t are enough =
         ∙ ap (λ (x : Process). getD (processBytes x) k 0) (table-at i t (omega arith))
         ∙ sym (rows-byte processBytes 24 row-length ps idle i k (omega arith) (omega arith)) in
         rw e at g
+
+-- and those bytes are a table with these rows
+pub table-written : (l₀ : List ℕ) (ps : List Process) → ((i : ℕ) → i < length ps → Four (at ps i)) → length ps * 24 ≤ length l₀ → Table l₀ (written (rowsBytes processBytes ps) l₀) ps
+table-written l₀ ps has enough =
+    let n : length (rowsBytes processBytes ps) ≡ length ps * 24 = rows-length processBytes 24 row-length ps in
+    record {
+      size = written-length (rowsBytes processBytes ps) l₀ (omega arith);
+      rows = procs-is (written (rowsBytes processBytes ps) l₀) ps (λ i h.
+          process-cong (written (rowsBytes processBytes ps) l₀) (processBytes (at ps i)) i 0 (λ k u.
+          written-in (rowsBytes processBytes ps) l₀ (i * 24 + k) (omega arith)
+          ∙ rows-byte processBytes 24 row-length ps idle i k h u
+          ∙ ap (λ (j : ℕ). getD (processBytes (at ps i)) j 0) (omega arith))
+          ∙ process-back (at ps i) (has i h));
+      rest = λ b u. written-past (rowsBytes processBytes ps) l₀ b (omega arith);
+    }
 
 -- two tables with the same rows and the same rest are equal
 pub once : (l₀ l m : List ℕ) (ps : List Process) → Table l₀ l ps → Table l₀ m ps → Bytes l → Bytes m → l ≡ m

@@ -55,10 +55,16 @@ procs-append l n x enough has =
     let b : build (processAt (putProcess l n x)) n ≡ build (processAt l) n = build-cong (processAt (putProcess l n x)) (processAt l) n (λ j u. process-other l n x enough j (λ z. omega arith)) in
     cc)
 
+pub procs-set-length : (l : List ℕ) (n i : ℕ) (x : Process) → length (set (procsOf l n) i x) ≡ n
+procs-set-length l n i x = length-set (procsOf l n) i x ∙ procs-length l n
+
+pub procs-snoc-length : (l : List ℕ) (n : ℕ) (x : Process) → length (procsOf l n ++ (x ∷ [])) ≡ n + 1
+procs-snoc-length l n x = length-append (procsOf l n) (x ∷ []) ∙ rw procs-length
+
 -- one row written
 pub table-put : (l : List ℕ) (n i : ℕ) (x : Process) → n * 24 ≤ length l → i < n → Four x → Table l (putProcess l i x) (set (procsOf l n) i x)
 table-put l n i x enough h has =
-    let k : length (set (procsOf l n) i x) ≡ n = length-set (procsOf l n) i x ∙ procs-length l n in
+    let k : length (set (procsOf l n) i x) ≡ n = procs-set-length l n i x in
     record {
       size = put-length l i x (omega arith);
       rows = rw k (procs-put l n i x enough h has);

@@ -10,16 +10,16 @@ use borrow.Author.Tests.{eqb-false, eqb-true, ltb-true}
 use native.Mathlib.Omega.{arith}
 use native.Mathlib.Nat.{add-zero}
 use Rattle.parlog.proofs.Bools.{and-true, implies-true, split}
-use Rattle.parlog.proofs.Rows.{rows-byte, rows-length, written-is}
-use Rattle.parlog.proofs.Scans.{every-at}
+use Rattle.parlog.proofs.Rows.{rows-byte, rows-length, written-in, written-is, written-length, written-past}
+use Rattle.parlog.proofs.Scans.{every-at, every-is}
 use Rattle.parlog.specs.Scan.{every, implies}
 use Rattle.parlog.specs.TableRules.{cellKnown}
-use Rattle.parlog.specs.Tables.{bindingAt, bindingBy, bindingBytes, numberAt, numberCode, rowsBytes, sortAt, sortCode, written}
+use Rattle.parlog.specs.Tables.{bindingAt, bindingBy, bindingBytes, bindingOf, numberAt, numberCode, rowsBytes, sortAt, sortCode, written}
 use Rattle.parlog.specs.declared.Binding.{Binding}
 use Rattle.parlog.specs.declared.Binding.the-variants.{Free}
 use Rattle.rows.specs.Rows.{Bytes}
-use Rattle.vars.proofs.Laws.{cell-length}
-use Rattle.vars.proofs.Tables.{cells-at}
+use Rattle.vars.proofs.Laws.{binding-back, binding-cong, cell-length, known-back, known-cong}
+use Rattle.vars.proofs.Tables.{cells-at, vars-is}
 use Rattle.vars.specs.Cells.{Cells}
 
 low-third : (a b c : ℕ) → a < 256 → b < 256 → (a + b * 256 + c * 65536) % 256 ≡ a
@@ -71,7 +71,7 @@ module _ (l : List ℕ) (v : ℕ) (are : Bytes l) (known : cellKnown l v ≡ tru
 pub cells-bytes : {n : ℕ} {l₀ l : List ℕ} {vs : List Binding} → Cells n l₀ l vs → every (cellKnown l₀) n ≡ true → Bytes l → length vs * 4 ≤ length l₀ → l ≡ written (rowsBytes bindingBytes vs) l₀
 cells-bytes {n} {l₀} {l} {vs} t known are enough =
     let m : length (rowsBytes bindingBytes vs) ≡ length vs * 4 = rows-length bindingBytes 4 cell-length vs in
-    written-is (rowsBytes bindingBytes vs) l l₀ (t .size) (omega arith) (λ j h. inside j (omega arith)) (λ j h. t .rest j (omega arith))
+    written-is (rowsBytes bindingBytes vs) l₀ l (t .size) (omega arith) (λ j h. inside j (omega arith)) (λ j h. t .rest j (omega arith))
   where
     inside : (j : ℕ) → j < length vs * 4 → getD l j 0 ≡ getD (rowsBytes bindingBytes vs) j 0
     inside j h =
@@ -83,3 +83,21 @@ cells-bytes {n} {l₀} {l} {vs} t known are enough =
         ∙ ap (λ (x : Binding). getD (bindingBytes x) k 0) (cells-at v t (omega arith))
         ∙ sym (rows-byte bindingBytes 4 cell-length vs Free v k (omega arith) (omega arith)) in
         rw e at g
+
+-- and those bytes are a table with these bindings
+pub cells-written : (n : ℕ) (l₀ : List ℕ) (vs : List Binding) → length vs * 4 ≤ length l₀ → Cells n l₀ (written (rowsBytes bindingBytes vs) l₀) vs
+cells-written n l₀ vs enough =
+    let m : length (rowsBytes bindingBytes vs) ≡ length vs * 4 = rows-length bindingBytes 4 cell-length vs in
+    record {
+      size = written-length (rowsBytes bindingBytes vs) l₀ (omega arith);
+      cells = vars-is (written (rowsBytes bindingBytes vs) l₀) vs (λ v h. binding-cong (written (rowsBytes bindingBytes vs) l₀) (bindingBytes (bindingOf vs v)) v 0 (here v h) ∙ binding-back (bindingOf vs v));
+      rest = λ b u. written-past (rowsBytes bindingBytes vs) l₀ b (omega arith);
+      known = λ e. every-is (cellKnown (written (rowsBytes bindingBytes vs) l₀)) (length vs) (λ v h. known-cong (written (rowsBytes bindingBytes vs) l₀) (bindingBytes (bindingOf vs v)) v 0 (here v h) ∙ known-back (bindingOf vs v));
+    }
+  where
+    here : (v : ℕ) → v < length vs → (k : ℕ) → k < 4 → getD (written (rowsBytes bindingBytes vs) l₀) (v * 4 + k) 0 ≡ getD (bindingBytes (bindingOf vs v)) (0 * 4 + k) 0
+    here v h k u =
+        let m : length (rowsBytes bindingBytes vs) ≡ length vs * 4 = rows-length bindingBytes 4 cell-length vs in
+        written-in (rowsBytes bindingBytes vs) l₀ (v * 4 + k) (omega arith)
+        ∙ rows-byte bindingBytes 4 cell-length vs Free v k h u
+        ∙ ap (λ (j : ℕ). getD (bindingBytes (bindingOf vs v)) j 0) (omega arith)

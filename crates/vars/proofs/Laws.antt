@@ -56,9 +56,9 @@ known-back (Bound (Const c)) = refl
 known-back (Bound (Var v)) = refl
 
 module _ (l : List ℕ) (v : ℕ) (b : Binding) (enough : v * 4 + 4 ≤ length l) where
-  pub put-length : length (putCell l v (bindingBytes b)) ≡ length l
+  pub cell-put-length : length (putCell l v (bindingBytes b)) ≡ length l
   unfolding putCell
-  put-length = splice-length l (v * 4) (bindingBytes b) 4 (cell-length b) enough
+  cell-put-length = splice-length l (v * 4) (bindingBytes b) 4 (cell-length b) enough
 
   -- another row's bytes stay
   byte-other : (w : ℕ) → (w ≡ v → ⊥) → (k : ℕ) → k < 4 → getD (putCell l v (bindingBytes b)) (w * 4 + k) 0 ≡ getD l (w * 4 + k) 0
@@ -68,9 +68,9 @@ module _ (l : List ℕ) (v : ℕ) (b : Binding) (enough : v * 4 + 4 ≤ length l
       (λ ge. splice-after l (v * 4) (bindingBytes b) 4 (cell-length b) enough (w * 4 + k) (omega arith))
       (apart w v ne)
 
-  pub byte-past : (j : ℕ) → v * 4 + 4 ≤ j → getD (putCell l v (bindingBytes b)) j 0 ≡ getD l j 0
+  pub cell-byte-past : (j : ℕ) → v * 4 + 4 ≤ j → getD (putCell l v (bindingBytes b)) j 0 ≡ getD l j 0
   unfolding putCell
-  byte-past j h = splice-after l (v * 4) (bindingBytes b) 4 (cell-length b) enough j h
+  cell-byte-past j h = splice-after l (v * 4) (bindingBytes b) 4 (cell-length b) enough j h
 
   byte-same : (k : ℕ) → k < 4 → getD (putCell l v (bindingBytes b)) (v * 4 + k) 0 ≡ getD (bindingBytes b) (0 * 4 + k) 0
   unfolding putCell

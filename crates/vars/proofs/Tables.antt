@@ -17,7 +17,7 @@ use Rattle.parlog.specs.declared.Binding.{Binding}
 use Rattle.parlog.specs.declared.Binding.the-variants.{Free}
 use Rattle.rows.proofs.Laws.{wiped-after, wiped-before, wiped-in, wiped-length}
 use Rattle.rows.specs.Rows.{wiped}
-use Rattle.vars.proofs.Laws.{binding-cong, binding-none, binding-other, binding-same, byte-past, known-cong, known-none, known-other, known-same, put-length}
+use Rattle.vars.proofs.Laws.{binding-cong, binding-none, binding-other, binding-same, cell-byte-past, known-cong, known-none, known-other, known-same, cell-put-length}
 use Rattle.vars.specs.Cells.{Cells, putCell}
 
 pub vars-length : (l : List ℕ) (n : ℕ) → length (varsIn l n) ≡ n
@@ -41,6 +41,12 @@ pub vars-is : (l : List ℕ) (vs : List Binding) → ((v : ℕ) → v < length v
 unfolding varsIn
 vars-is l vs h = build-is (bindingAt l) Free vs h
 
+pub vars-set-length : (l : List ℕ) (n v : ℕ) (b : Binding) → length (set (varsIn l n) v b) ≡ n
+vars-set-length l n v b = length-set (varsIn l n) v b ∙ vars-length l n
+
+pub vars-more-length : (l : List ℕ) (n k : ℕ) → length (varsIn l n ++ replicate k Free) ≡ n + k
+vars-more-length l n k = length-append (varsIn l n) (replicate k Free) ∙ rw (vars-length, length-replicate)
+
 -- ---- one row written
 
 module _ (l : List ℕ) (n v : ℕ) (b : Binding) (enough : n * 4 ≤ length l) (h : v < n) where
@@ -56,11 +62,11 @@ module _ (l : List ℕ) (n v : ℕ) (b : Binding) (enough : n * 4 ≤ length l) 
 
   pub cells-put : Cells n l (putCell l v (bindingBytes b)) (set (varsIn l n) v b)
   cells-put =
-      let k : length (set (varsIn l n) v b) ≡ n = length-set (varsIn l n) v b ∙ vars-length l n in
+      let k : length (set (varsIn l n) v b) ≡ n = vars-set-length l n v b in
       record {
-        size = put-length l v b (omega arith);
+        size = cell-put-length l v b (omega arith);
         cells = rw k vars-put;
-        rest = λ j u. byte-past l v b (omega arith) j (omega (arith, k));
+        rest = λ j u. cell-byte-past l v b (omega arith) j (omega (arith, k));
         known = λ e. rw k (known-put e);
       }
 
