@@ -1,6 +1,6 @@
 -- A process that can move can still move after another's move, or is dormant then.
 use mathlib.Core.Path.{_∙_, _≡_, ap, refl, sym}
-use mathlib.Core.Logic.{_≢_, _⊎_, inl, inr}
+use mathlib.Core.Logic.{_↔_, _≢_, _⊎_, inl, inr}
 use mathlib.Core.Bool.{_&&_, _||_, Bool, cond, false, true}
 use mathlib.Core.List.{List}
 use Prim.Native.Nat.{_<_, ℕ}
@@ -11,19 +11,25 @@ use native.Mathlib.Omega.{arith}
 use Rattle.parlog.proofs.Able.{can-is, canIn, canWait, isFound, isHeard, modeAt}
 use Rattle.parlog.proofs.Bools.{never, not-so, or-false, or-right, split}
 use Rattle.parlog.proofs.Coded.{code-mode}
+use Rattle.parlog.proofs.Computes.{computes}
 use Rattle.parlog.proofs.Effects.{apply-other, sleepsIn}
+use Rattle.parlog.proofs.Exact.{Applies}
 use Rattle.parlog.proofs.Fine.{below-child, child-back, child-forth, Fine, fine}
+use Rattle.parlog.proofs.Good.{state-good}
 use Rattle.parlog.proofs.Kin.{all-at, all-test, any-at, any-test, heard-bad, heard-good, hears-bad, hears-good, Kin, lowest-child-at, lowest-child-none}
+use Rattle.parlog.proofs.Says.{Says, says, says-rule}
 use Rattle.parlog.proofs.Shape.{isAwake, shape}
 use Rattle.parlog.proofs.Stays.{Grows, grows-const, someBound-stays}
 use Rattle.parlog.proofs.Values.{Falling, value-free}
 use Rattle.parlog.specs.Codes.{and-par, and-seq, dormant, equate, failure, guard-eval, input-match, Mode, modeOf, or-par, or-search, ready, reporting, Result, seq-search, starting, success, suspended, Tag, tagOf, try-clause, waiting}
 use Rattle.parlog.specs.Delta.{apply, Delta, isAt, withMode}
 use Rattle.parlog.specs.Demands.{Stays}
+use Rattle.parlog.specs.Limits.{Limits}
 use Rattle.parlog.specs.Notions.{AllReport, Child, HasMode, Hears, me, Reports, SomeReports}
 use Rattle.parlog.specs.Program.{Program}
-use Rattle.parlog.specs.Rules.{by-rule, ruleOf}
-use Rattle.parlog.specs.Run.{canMove, given, supplied, supplyTables, supplyValue, ungiven}
+use Rattle.parlog.specs.Rules.{Applied, by-rule, no-rule, ruleOf}
+use Rattle.parlog.specs.Run.{canMove, given, isRule, supplied, supplyTables, supplyValue, ungiven}
+use Rattle.parlog.specs.TableRules.{stateOk}
 use Rattle.parlog.specs.Tables.{at, idle, noted, State, Tables}
 use Rattle.parlog.specs.Tree.{allChildren, anyChild, bad, below, good, Heard, heard, lowestChild, silent}
 use Rattle.parlog.specs.Unify.{value}
@@ -59,6 +65,23 @@ can-here pr s p c = awake-here s p (can-awake pr s p c)
 pub rule-can : (pr : Program) (s : State) (p : ℕ) (m : Move) (d : Delta) → ruleOf pr s p ≡ by-rule m d → canMove pr s p ≡ true
 unfolding canMove
 rule-can pr s p m d e = rw e
+
+-- "can move" is the relation's notion: some rule applies
+pub can-applies : (lim : Limits) (pr : Program) (s : State) → stateOk lim pr s ≡ true → (p : ℕ) → (canMove pr s p ≡ true) ↔ Applies pr s p
+can-applies lim pr s ok p = (applies, can)
+  where
+    at-rule : {m : Move} {d : Delta} → Says pr s p (by-rule m d) → Applies pr s p
+    at-rule {m} {d} (says-rule r) = record { rule = m; after = apply s p d; holds = r }
+
+    go : (a : Applied) → ruleOf pr s p ≡ a → isRule a ≡ true → Applies pr s p
+    go no-rule e c = never c
+    go (by-rule m d) e c = at-rule (rw e at (says pr s (state-good lim pr s ok) p))
+
+    applies : canMove pr s p ≡ true → Applies pr s p
+    applies c = go (ruleOf pr s p) refl (unfold canMove in c)
+
+    can : Applies pr s p → canMove pr s p ≡ true
+    can a = let c = computes pr s (state-good lim pr s ok) p (a .holds) in rule-can pr s p (a .rule) (c .delta) (c .rule)
 
 -- who reports moves only where it is process 0
 pub reporter-zero : (pr : Program) (s : State) (q : ℕ) → canMove pr s q ≡ true → HasMode s q reporting → q ≡ 0
