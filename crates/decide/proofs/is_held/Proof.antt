@@ -1,0 +1,11 @@
+use borrow.Author.Needs.{needs}
+use Rattle.decide.specs.Decision.{heldBy}
+use Rattle.decide.proofs.is_held.Statement.{statement}
+use Rattle.decide.proofs.is_held.Tie as tie
+
+returns : tie.Need-returns
+unfolding heldBy
+returns c = cc
+
+pub is-held-spec : {M : Type 1} → statement M
+is-held-spec = tie.close (tie.spec (λ c κs. search needs) (λ c κs. search needs) returns)

@@ -1,0 +1,36 @@
+use lib.Dec.{lit<}
+use borrow.Author.Needs.{needs}
+use native.Mathlib.Omega.{arith}
+use Rattle.decide.proofs.Pairs.{pairs-four}
+use Rattle.decide.proofs.pairs_of.Statement.{statement}
+use Rattle.decide.proofs.pairs_of.Tie as tie
+
+returns : tie.Need-returns
+returns c = let p = (c .before .before .before .before .before .before .before .before .before .before .before .before .before .before .before .pre) in
+    pairs-four _ _ _ _ _ _ (p .3) (p .4) (p .5) (c .before .before .before .before .before .before .out-after .ensures .0) (c .before .before .before .before .before .out-after2 .ensures .0) (c .before .before .before .before .out-after3 .ensures .0)
+    (c .before .before .before .pair-of .ensures) (c .before .before .pair-of2 .ensures) (c .before .pair-of3 .ensures) (c .pair-of4 .ensures)
+
+pub pairs-of-spec : {M : Type 1} → statement M
+pairs-of-spec =
+    tie.close
+    (tie.spec
+    (λ c. search needs)
+    (λ c. search needs)
+    (λ c. search needs)
+    (λ c. search needs)
+    (λ c. search needs)
+    (λ c. search needs)
+    (λ c. search needs)
+    (λ c. search needs)
+    (λ c. search needs)
+    (λ c. search needs)
+    (λ c. search needs)
+    (λ c. search needs)
+    (λ c κs. search needs)
+    (λ c κs. search needs)
+    (λ c κs. search needs)
+    (λ c κs. ((c .before .before .before .before .before .before .before .before .before .before .before .pre .0) 0 (lit< tt), (c .before .before .before .before .before .before .before .before .before .before .before .pre .1) 0 (lit< tt), omega arith))
+    (λ c κs. ((c .before .before .before .before .before .before .before .before .before .before .before .before .pre .0) 1 (lit< tt), (c .before .before .before .before .before .before .before .before .before .before .before .before .pre .1) 1 (lit< tt), omega arith))
+    (λ c κs. ((c .before .before .before .before .before .before .before .before .before .before .before .before .before .pre .0) 2 (lit< tt), (c .before .before .before .before .before .before .before .before .before .before .before .before .before .pre .1) 2 (lit< tt), omega arith))
+    (λ c κs. ((c .before .before .before .before .before .before .before .before .before .before .before .before .before .before .pre .0) 3 (lit< tt), (c .before .before .before .before .before .before .before .before .before .before .before .before .before .before .pre .1) 3 (lit< tt), omega arith))
+    returns)

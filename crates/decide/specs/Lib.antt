@@ -1,0 +1,2 @@
+-- What the contracts of decisions name beside the definitions.
+pub mod Decision

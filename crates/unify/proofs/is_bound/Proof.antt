@@ -1,0 +1,6 @@
+use borrow.Author.Needs.{needs}
+use Rattle.unify.proofs.is_bound.Statement.{statement}
+use Rattle.unify.proofs.is_bound.Tie as tie
+
+pub is-bound-spec : {M : Type 1} → statement M
+is-bound-spec = tie.close (tie.spec (λ c. search needs) (λ c. search needs) (λ c. cc) (λ c. cc))

@@ -1,0 +1,54 @@
+use mathlib.Core.List.{[]}
+use mathlib.Core.Path.{refl, sym, _∙_, _≡_}
+use Prim.Native.Nat.{_-_, _≤_}
+use lib.ListN.{drop, length, take}
+use borrow.Author.Needs.{needs}
+use native.Mathlib.Omega.{arith}
+use Rattle.parlog.specs.Tables.{varsIn}
+use Rattle.parlog.specs.Unify.{bound, unify, unifyFrom}
+use Rattle.unify.proofs.Laws.{unify-done, unify-more}
+use Rattle.unify.specs.Pending.{outcome, pending}
+use Rattle.unify.proofs.unify.Statement.{statement}
+use Rattle.unify.proofs.unify.Tie as tie
+
+abbrev Inv-loop : tie.InvT-loop
+Inv-loop vars n count pairs u₀ i₀ u i = (i ≤ count) × (u .count ≤ i) × (length (u .binds) ≡ 4) × (length pairs ≡ 4) × (unifyFrom (varsIn vars n) (outcome u) (drop i (take count pairs)) ≡ unifyFrom (varsIn vars n) (bound []) (take count pairs))
+
+abbrev μ-loop : tie.MeasureT-loop
+μ-loop vars n count pairs u₀ i₀ u i = count - i
+
+loop-holds : tie.Need-loop-holds Inv-loop μ-loop
+unfolding outcome pending
+loop-holds c = (search needs, search needs, refl, search needs, refl)
+
+unify-one-requires : tie.Need-unify-one-requires Inv-loop μ-loop
+unify-one-requires c κs = let h = c .before .before .before .before .pre .2 (c .before .before .loop .i) (c .before .loop-test .taken) in
+    (search needs, h .0, h .1, omega arith, search needs)
+
+loop-again : tie.Need-loop-again Inv-loop μ-loop
+loop-again c = let p = c .before .before .before in (
+  search needs,
+  search needs,
+  search needs,
+  search needs,
+  unify-more _ _ _ _ (omega arith) _ _ (c .before .before .loop-test .taken) (c .unify-one .ensures .0) ∙ p .loop .inv .4,
+)
+
+returns : tie.Need-returns Inv-loop μ-loop
+unfolding unify
+returns c = (sym (unify-done _ _ _ _ (omega arith) _ (c .loop-test .left)) ∙ c .before .loop .inv .4, search needs, search needs)
+
+pub unify-spec : {M : Type 1} → statement M
+unify-spec =
+    tie.close
+    (tie.spec
+    Inv-loop
+    μ-loop
+    loop-holds
+    (λ c. search needs)
+    (λ c. search needs)
+    unify-one-requires
+    (λ c. search needs)
+    (λ c. search needs)
+    loop-again
+    returns)

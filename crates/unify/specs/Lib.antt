@@ -1,0 +1,2 @@
+-- What the contracts of unifying name beside the definitions.
+pub mod Pending
