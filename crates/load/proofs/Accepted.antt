@@ -6,19 +6,23 @@ use Prim.Native.Nat.{_+_, _<_, _≤_, suc, zero, ℕ}
 use lib.Dec.{eqb, leb, ltb}
 use lib.ListN.{length, set}
 use lib.Seq.{getD-set-other, getD-set-same}
-use borrow.Author.Tests.{eq-eqb, eqb-false, eqb-true, leb-true, ltb-false, ne-eqb, not-false}
+use borrow.Author.Tests.{eq-eqb, eqb-false, eqb-true, leb-true, lt-ltb, ltb-false, ne-eqb, not-false}
 use borrow.Author.Count.{below-more}
 use native.Mathlib.Omega.{arith}
+use native.Mathlib.Numerals.{add-one}
 use Rattle.load.proofs.Room.{few-clauses, few-relations}
 use Rattle.load.proofs.Turn.{either-false, ends, whole}
 use Rattle.load.specs.Reading.{Arities}
 use Rattle.parlog.proofs.Along.{along-snoc}
 use Rattle.parlog.proofs.Bools.{and-true}
+use Rattle.parlog.proofs.Steps.{few}
+use Rattle.parlog.proofs.Stuck.{grown}
 use Rattle.parlog.specs.Body.{askBody, bodyRight, clauseBody, relationBody}
 use Rattle.parlog.specs.Cases.{order}
 use Rattle.parlog.specs.Codes.{none}
 use Rattle.parlog.specs.Image.{byteAt, kindAt, recordAt, recordEnd, wordAt}
-use Rattle.parlog.specs.Load.{after, blockFull, cut, kindFault, loadEnd, loadOf, long, nothingRead, progressed, records, refusal, refuseIf, tooMany, verdict}
+use Rattle.parlog.specs.Limits.{small}
+use Rattle.parlog.specs.Load.{after, blockFull, blockWith, cut, kindFault, loadEnd, loadOf, long, nothingRead, progressed, records, refusal, refuseIf, tooMany, verdict}
 use Rattle.parlog.specs.Names.{arityOf, clauseInside, clausePlaced, follows, goalNamed, namesRight, relationNamed}
 use Rattle.parlog.specs.Rules.{room}
 use Rattle.parlog.specs.Scan.{along}
@@ -55,6 +59,14 @@ relationOf s r k = byteAt s (recordAt s (r + k) + 4)
 abbrev pub InOrder : List ℕ → ℕ → ℕ → Type 0
 InOrder s r j = (k : ℕ) → suc k ≡ j → relationOf s r k ≤ relationOf s r j
 
+-- the mark of clause k, and how many clauses its block has with it
+abbrev pub markOf : List ℕ → ℕ → ℕ → ℕ
+markOf s r k = byteAt s (recordAt s (r + k) + 6)
+
+unfoldable pub sizeWith : List ℕ → ℕ → ℕ → ℕ
+sizeWith s r zero = 1
+sizeWith s r (suc k) = cond (eqb (relationOf s r k) (relationOf s r (suc k)) && eqb (markOf s r (suc k)) 0) (suc (sizeWith s r k)) 1
+
 pub record Right (s : List ℕ) (r c : ℕ) : Type 0 where
   pub short : length s ≤ 32768
   pub relations : r ≤ 32
@@ -62,6 +74,7 @@ pub record Right (s : List ℕ) (r c : ℕ) : Type 0 where
   pub relation : (k : ℕ) → k < r → RelationRight s (recordAt s k)
   pub clause : (k : ℕ) → k < c → ClauseRight s r (recordAt s (r + k))
   pub order : (k : ℕ) → k < c → InOrder s r k
+  pub blocks : (k : ℕ) → k < c → sizeWith s r k ≤ 8
   pub goal : GoalRight s r (recordAt s (r + c))
   pub ends : recordAt s (r + c + 1) ≡ length s
 
@@ -74,6 +87,8 @@ pub record Reached (s : List ℕ) (g : Progress) (at : ℕ) : Type 0 where
   pub relation : (k : ℕ) → k < g .relations → RelationRight s (recordAt s k)
   pub clause : (k : ℕ) → k < g .clauses → ClauseRight s (g .relations) (recordAt s (g .relations + k))
   pub order : (k : ℕ) → k < g .clauses → InOrder s (g .relations) k
+  pub blocks : (k : ℕ) → k < g .clauses → sizeWith s (g .relations) k ≤ 8
+  pub block : (k : ℕ) → suc k ≡ g .clauses → sizeWith s (g .relations) k ≡ g .block
   pub last : (k : ℕ) → suc k ≡ g .clauses → relationOf s (g .relations) k ≡ g .relation
   pub here : g .kind < 3 → at ≡ recordAt s (g .relations + g .clauses)
   pub goal : g .kind ≡ 3 → GoalRight s (g .relations) (recordAt s (g .relations + g .clauses))
@@ -89,6 +104,7 @@ pub record Passed (s : List ℕ) (g : Progress) (at : ℕ) (t : Progress) : Type
   pub few : tooMany g (kindAt s at) ≡ false
   pub body : bodyRight s at (kindAt s at) ≡ true
   pub names : namesRight s g at (kindAt s at) ≡ true
+  pub room : blockFull s g at (kindAt s at) ≡ false
   pub inside : recordEnd s at ≤ length s
   pub next : progressed s g at (kindAt s at) ≡ t
 
@@ -102,7 +118,7 @@ all-passed s g t at e =
     let p5 = passed (not (namesRight s g at (kindAt s at))) 5 _ t (p4 .1) in
     let p6 = passed (blockFull s g at (kindAt s at)) 6 _ t (p5 .1) in
     let e7 = p6 .1 in
-    record { kind = p2 .0; few = p3 .0; body = not-false _ (p4 .0); names = not-false _ (p5 .0); inside = whole s g t at e .1; next = cc }
+    record { kind = p2 .0; few = p3 .0; body = not-false _ (p4 .0); names = not-false _ (p5 .0); room = p6 .0; inside = whole s g t at e .1; next = cc }
 
 kinds : (g : Progress) (k : ℕ) → kindFault g k ≡ false → (1 ≤ k) × (k ≤ 3) × (g .kind ≤ k) × (g .kind < 3)
 unfolding kindFault
@@ -124,6 +140,26 @@ zero-of : (n : ℕ) → (0 < n → ⊥) → n ≡ 0
 zero-of zero f = refl
 zero-of (suc n) f = absurd (f (omega arith))
 
+-- the block of the next clause, as the load counts it
+size-with : (s : List ℕ) (g : Progress) (at : ℕ) → Reached s g at → relationOf s (g .relations) (g .clauses) ≡ byteAt s (at + 4) → markOf s (g .relations) (g .clauses) ≡ byteAt s (at + 6)
+    → sizeWith s (g .relations) (g .clauses) ≡ blockWith g (byteAt s (at + 4)) (byteAt s (at + 6))
+unfolding sizeWith
+size-with s g at R its mark = go (g .clauses) refl
+  where
+    go : (n : ℕ) → g .clauses ≡ n → sizeWith s (g .relations) (g .clauses) ≡ blockWith g (byteAt s (at + 4)) (byteAt s (at + 6))
+    go zero e = rw e
+    go (suc n) e =
+        let i : relationOf s (g .relations) (suc n) ≡ byteAt s (at + 4) = rw e at its in
+        let m : markOf s (g .relations) (suc n) ≡ byteAt s (at + 6) = rw e at mark in
+        let l = R .last n (sym e) in
+        let b = R .block n (sym e) in
+        let o = lt-ltb 0 (suc n) (omega arith) in
+        rw (e, i, m, l, b, o, add-one)
+
+block-room : (s : List ℕ) (g : Progress) (at : ℕ) → kindAt s at ≡ 2 → blockFull s g at (kindAt s at) ≡ false → blockWith g (byteAt s (at + 4)) (byteAt s (at + 6)) ≤ 8
+unfolding blockFull
+block-room s g at k2 e = ltb-false 8 (blockWith g (byteAt s (at + 4)) (byteAt s (at + 6))) (rw (eq-eqb (kindAt s at) 2 k2) at e)
+
 module _ (s : List ℕ) (g t : Progress) (at : ℕ) (R : Reached s g at) (P : Passed s g at t) where
   reached-relation : kindAt s at ≡ 1 → Reached s (progressed s g at (kindAt s at)) (recordEnd s at)
   unfolding progressed bodyRight
@@ -144,6 +180,8 @@ module _ (s : List ℕ) (g t : Progress) (at : ℕ) (R : Reached s g at) (P : Pa
         relation = below-more (λ k. RelationRight s (recordAt s k)) (g .relations) (R .relation) (subst (λ p. RelationRight s p) at-end own);
         clause = λ k h. absurd (omega arith);
         order = λ k h. absurd (omega arith);
+        blocks = λ k h. absurd (omega arith);
+        block = λ k h. absurd (omega arith);
         last = λ k h. absurd (omega arith);
         here = λ _. let a : g .relations + 1 + g .clauses ≡ g .relations + g .clauses + 1 = omega arith in rw a (snoc s (g .relations + g .clauses) at (R .here (ks .3)));
         goal = λ h. absurd (omega arith);
@@ -165,6 +203,9 @@ module _ (s : List ℕ) (g t : Progress) (at : ℕ) (R : Reached s g at) (P : Pa
       let own : ClauseRight s (g .relations) at = record { kind = k2; body = b; head = placed .0; names = both .1; inside = P .inside } in
       let at-end : at ≡ recordAt s (g .relations + g .clauses) = R .here (ks .3) in
       let its : relationOf s (g .relations) (g .clauses) ≡ byteAt s (at + 4) = ap (λ p. byteAt s (p + 4)) (sym at-end) in
+      let mark : markOf s (g .relations) (g .clauses) ≡ byteAt s (at + 6) = ap (λ p. byteAt s (p + 6)) (sym at-end) in
+      let grown = size-with s g at R its mark in
+      let small = block-room s g at k2 (P .room) in
       let room = few-clauses g (kindAt s at) k2 (P .few) in
       rw (n1, eq-eqb (kindAt s at) 2 k2)
       (record {
@@ -175,6 +216,8 @@ module _ (s : List ℕ) (g t : Progress) (at : ℕ) (R : Reached s g at) (P : Pa
         relation = R .relation;
         clause = below-more (λ k. ClauseRight s (g .relations) (recordAt s (g .relations + k))) (g .clauses) (R .clause) (subst (λ p. ClauseRight s (g .relations) p) at-end own);
         order = below-more (λ k. InOrder s (g .relations) k) (g .clauses) (R .order) (λ k h. let l = R .last k h in omega arith);
+        blocks = below-more (λ k. sizeWith s (g .relations) k ≤ 8) (g .clauses) (R .blocks) (omega (arith, grown, small));
+        block = λ k h. let e : k ≡ g .clauses = omega arith in ap (sizeWith s (g .relations)) e ∙ grown;
         last = λ k h. let e : k ≡ g .clauses = omega arith in ap (relationOf s (g .relations)) e ∙ its;
         here = λ _. let a : g .relations + (g .clauses + 1) ≡ g .relations + g .clauses + 1 = omega arith in rw a (snoc s (g .relations + g .clauses) at at-end);
         goal = λ h. absurd (omega arith);
@@ -200,6 +243,8 @@ module _ (s : List ℕ) (g t : Progress) (at : ℕ) (R : Reached s g at) (P : Pa
         relation = R .relation;
         clause = R .clause;
         order = R .order;
+        blocks = R .blocks;
+        block = R .block;
         last = R .last;
         here = λ h. absurd (omega arith);
         goal = λ _. subst (λ p. GoalRight s (g .relations) p) at-end own;
@@ -268,6 +313,7 @@ module _ (s : List ℕ) (r c : ℕ) (short : length s ≤ 32768) where
         relation = R .relation;
         clause = R .clause;
         order = R .order;
+        blocks = R .blocks;
         goal = R .goal k3;
         ends = sym (R .done k3) ∙ the-end;
       }))
@@ -301,6 +347,8 @@ nothing-reached s = record {
   relation = λ k h. absurd (omega arith);
   clause = λ k h. absurd (omega arith);
   order = λ k h. absurd (omega arith);
+  blocks = λ k h. absurd (omega arith);
+  block = λ k h. absurd (omega arith);
   last = λ k h. absurd (omega arith);
   here = λ _. refl;
   goal = λ h. absurd (omega arith);
