@@ -1,12 +1,12 @@
 // What a move will do, decided before anything is written, and the one function that carries it out.
 ghost use mathlib.Core.Path.{_≡_};
-ghost use mathlib.Core.List.{[], _++_};
+ghost use mathlib.Core.List.{_++_};
 ghost use Prim.Native.Nat.{_+_, _*_, _≤_, _<_};
-ghost use lib.ListN.{getD, length, set, take};
-ghost use Rattle.parlog.specs.Codes.{dormant, kindCode, modeCode, resultCode};
+ghost use lib.ListN.{getD, length, take};
+ghost use Rattle.parlog.specs.Codes.{kindCode, modeCode, resultCode};
 ghost use Rattle.parlog.specs.Delta.{apply, atBlock, atStage, blockSpot, callSpot, guardSpot, literalSpot, making, only, report, reporting-with, trySpot, withClause, withMode, withNotes, withResult, withSpot, woken};
 ghost use Rattle.parlog.specs.Rules.{by-rule, no-rule};
-ghost use Rattle.parlog.specs.Tables.{at, goalSpot, procsOf, varsIn};
+ghost use Rattle.parlog.specs.Tables.{goalSpot, procsOf, varsIn};
 ghost use Rattle.parlog.specs.Unify.{changed};
 ghost use Rattle.rows.specs.Rows.{Table};
 ghost use Rattle.vars.specs.Cells.{Cells};
