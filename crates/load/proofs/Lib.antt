@@ -4,3 +4,4 @@ pub mod Accepted
 pub mod Inside
 pub mod Rows
 pub mod Sanity
+pub mod Sizes

@@ -1,0 +1,130 @@
+-- How much one move can make of an accepted image: a stage of a goal has at most 8 literals, of a committed body 12; a block at most 8 clauses.
+use mathlib.Core.Path.{_∙_, _≡_, ap, refl}
+use mathlib.Core.Bool.{Bool, cond, false, true}
+use mathlib.Core.List.{[], _∷_, List}
+use Prim.Native.Nat.{_+_, _<_, _≤_, suc, zero, ℕ}
+use lib.Dec.{ltb}
+use lib.ListN.{getD, length, length-append}
+use borrow.Author.Tests.{ltb-false, ltb-true}
+use native.Mathlib.Omega.{arith}
+use Rattle.load.proofs.Accepted.{Right, sizeWith}
+use Rattle.load.proofs.Inside.{ask-fields, clause-fields, goal-fields}
+use Rattle.load.proofs.Sanity.{right-sane}
+use Rattle.parlog.proofs.Along.{along-add, list-at, list-length, list-past}
+use Rattle.parlog.proofs.Blocks.{blocks-short, runSize}
+use Rattle.parlog.proofs.Bools.{split}
+use Rattle.parlog.specs.Body.{goalRange}
+use Rattle.parlog.specs.Codes.{Kind, kindOf, the-body, the-goal, the-guard}
+use Rattle.parlog.specs.Image.{bodyAt, byteAt, guardAt, isInput, literalEnd, recordAt, recordEnd, stageEnd}
+use Rattle.parlog.specs.Program.{before, blockOf, clauseAt, clauseOf, committedBody, equation, Goal, goalAt, goalBy, goalOf, Literal, literalOf, modesAt, noClause, outCount, outputs, Program, programOf, stageAt, stageOf, varsOf}
+use Rattle.parlog.specs.declared.Spot.{Spot}
+use Rattle.parlog.specs.declared.Term.{Term}
+
+stage-few : (s : List ℕ) (from : ℕ) → goalRange s from ≡ true → (i : ℕ) → length (getD (goalOf s from) i []) ≤ 8
+unfolding goalOf stageOf
+stage-few s from e i = split (ltb i (byteAt s from))
+    (λ h. let l = ltb-true i (byteAt s from) h in
+        let f = goal-fields s from e .few i l in
+        rw (list-at (stageOf s) (stageEnd s) (byteAt s from) (from + 1) i [] l, list-length (literalOf s) (literalEnd s)) f)
+    (λ h. rw (list-past (stageOf s) (stageEnd s) (byteAt s from) (from + 1) i [] (ltb-false i (byteAt s from) h)) (omega arith))
+
+outputs-few : (ms : List ℕ) (ts : List Term) (v : ℕ) → length (outputs ms ts v) ≤ length ms
+unfolding outputs
+outputs-few [] ts v = omega arith
+outputs-few (m ∷ ms) [] v = omega arith
+outputs-few (m ∷ ms) (t ∷ ts) v = go (isInput m) (outputs-few ms ts v) (outputs-few ms ts (suc v))
+  where
+    go : (b : Bool) → length (outputs ms ts v) ≤ length ms → length (outputs ms ts (suc v)) ≤ length ms → length (cond b (outputs ms ts v) (equation t v ∷ outputs ms ts (suc v))) ≤ suc (length ms)
+    go true a o = omega arith
+    go false a o = omega arith
+
+before-few : (es : List Literal) (g : Goal) → length es ≤ 4 → ((i : ℕ) → length (getD g i []) ≤ 8) → (i : ℕ) → length (getD (before es g) i []) ≤ 12
+unfolding before
+before-few [] g h f i = let l = f i in omega arith
+before-few (e ∷ es) [] h f zero = omega arith
+before-few (e ∷ es) [] h f (suc i) = omega arith
+before-few (e ∷ es) (st ∷ g) h f zero = let l = f 0 in omega (arith, length-append (e ∷ es) st)
+before-few (e ∷ es) (st ∷ g) h f (suc i) = let l = f (suc i) in omega arith
+
+module _ (s : List ℕ) (r c : ℕ) (ok : Right s r c) where
+  abbrev pr : Program
+  pr = programOf s r c
+
+  clause-some : (k : ℕ) → k < c → clauseAt pr k ≡ clauseOf s (recordAt s (r + k))
+  unfolding programOf
+  clause-some k h = list-at (clauseOf s) (recordEnd s) c (recordAt s r) k noClause h ∙ ap (clauseOf s) (along-add (recordEnd s) k r 0)
+
+  clause-none : (k : ℕ) → c ≤ k → clauseAt pr k ≡ noClause
+  unfolding programOf
+  clause-none k h = list-past (clauseOf s) (recordEnd s) c (recordAt s r) k noClause h
+
+  guard-few : (k i : ℕ) → length (getD (clauseAt pr k .guard) i []) ≤ 8
+  unfolding clauseOf
+  guard-few k i = split (ltb k c)
+      (λ h. let l = ltb-true k c h in rw (clause-some k l) (stage-few s (guardAt s (recordAt s (r + k))) (clause-fields s (recordAt s (r + k)) (ok .clause k l .body) .guard) i))
+      (λ h. rw (clause-none k (ltb-false k c h)) (omega arith))
+
+  body-few : (k i : ℕ) → length (getD (clauseAt pr k .body) i []) ≤ 8
+  unfolding clauseOf
+  body-few k i = split (ltb k c)
+      (λ h. let l = ltb-true k c h in rw (clause-some k l) (stage-few s (bodyAt s (recordAt s (r + k))) (clause-fields s (recordAt s (r + k)) (ok .clause k l .body) .body) i))
+      (λ h. rw (clause-none k (ltb-false k c h)) (omega arith))
+
+  goal-few : (i : ℕ) → length (getD (pr .goal) i []) ≤ 8
+  unfolding programOf
+  goal-few i = stage-few s (recordAt s (r + c) + 5) (ask-fields s (recordAt s (r + c)) (ok .goal .body) .goal) i
+
+  few-by : (kind : Kind) (k i : ℕ) → length (getD (goalBy kind pr k) i []) ≤ 12
+  unfolding goalBy committedBody
+  few-by the-goal k i = let l = goal-few i in omega arith
+  few-by the-guard k i = let l = guard-few k i in omega arith
+  few-by the-body k i =
+      let m = right-sane s r c ok .modes (clauseAt pr k .rel) in
+      let o = outputs-few (modesAt pr (clauseAt pr k .rel)) (clauseAt pr k .head) (clauseAt pr k .vars) in
+      before-few (outputs (modesAt pr (clauseAt pr k .rel)) (clauseAt pr k .head) (clauseAt pr k .vars)) (clauseAt pr k .body) (omega arith) (body-few k) i
+
+  -- THE LAW: a stage has at most 12 members
+  pub stage-small : (z : Spot) → length (stageAt pr z) ≤ 12
+  unfolding stageAt goalAt
+  stage-small z = few-by (kindOf (z .kind)) (z .clause) (z .stage)
+
+  size-run : (k : ℕ) → k < c → runSize pr k ≡ sizeWith s r k
+  unfolding runSize sizeWith clauseOf
+  size-run zero h = refl
+  size-run (suc k) h =
+      let a = clause-some k (omega arith) in
+      let b = clause-some (suc k) h in
+      let e = size-run k (omega arith) in
+      rw (a, b, e)
+
+  clause-count : length (pr .clauses) ≡ c
+  unfolding programOf
+  clause-count = list-length (clauseOf s) (recordEnd s) c (recordAt s r)
+
+  -- THE LAW: a block has at most 8 clauses
+  pub block-small : (q b : ℕ) → length (blockOf pr q b) ≤ 8
+  block-small q b = blocks-short pr 8 (λ k h. let n = clause-count in let l : k < c = omega arith in rw (size-run k l) (ok .blocks k l)) q b
+
+  -- THE LAW: a copy of a clause has at most 20 variables
+  out-few : (ms : List ℕ) → outCount ms ≤ length ms
+  unfolding outCount
+  out-few [] = omega arith
+  out-few (m ∷ ms) = go (isInput m) (out-few ms)
+    where
+      go : (b : Bool) → outCount ms ≤ length ms → cond b (outCount ms) (suc (outCount ms)) ≤ suc (length ms)
+      go true h = omega arith
+      go false h = omega arith
+
+  own-few : (k : ℕ) → clauseAt pr k .vars ≤ 16
+  unfolding clauseOf
+  own-few k = split (ltb k c)
+      (λ h. let l = ltb-true k c h in rw (clause-some k l) (clause-fields s (recordAt s (r + k)) (ok .clause k l .body) .vars))
+      (λ h. rw (clause-none k (ltb-false k c h)) (omega arith))
+
+  pub vars-small : (k : ℕ) → varsOf pr k ≤ 20
+  unfolding varsOf
+  vars-small k =
+      let m = right-sane s r c ok .modes (clauseAt pr k .rel) in
+      let o = out-few (modesAt pr (clauseAt pr k .rel)) in
+      let v = own-few k in
+      omega arith
