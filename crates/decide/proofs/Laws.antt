@@ -13,7 +13,6 @@ use Rattle.decide.specs.declared.Noted.{Noted}
 use Rattle.parlog.proofs.Bools.{split}
 use Rattle.parlog.specs.Delta.{fourOf}
 use Rattle.parlog.specs.Image.{isInput}
-use Rattle.parlog.specs.Tables.{at, low}
 use Rattle.parlog.specs.Unify.{bound, clash, decide, heldIn, inputValue, isVar, Outcome, settle, settled, shift, unify, value}
 use Rattle.parlog.specs.declared.Binding.{Binding}
 use Rattle.parlog.specs.declared.Change.{Change}
@@ -111,7 +110,7 @@ module _ (vs : List Binding) (es : List Pair) (held : ℕ → Bool) (u : Unified
   unfolding decide settle decidedOf decidedBy fourOf
   way-fails ok =
       rw (← is, outcome-clash u ok)
-      (record { told = refl; deed = refl; same = refl; size = refl; few = lit≤ tt; four = four; counted = refl; short = lit≤ tt; filled = refl })
+      (record { told = refl; deed = refl; same = refl; size = refl; few = lit≤ tt; four = four; noting = refl; short = lit≤ tt; filled = refl })
 
   module _ (ok : u .ok ≡ true) (most : u .count ≤ 4) {s : Noted} (gs : s ≡ gather held (record { count = 0; notes = 0 ∷ 0 ∷ 0 ∷ 0 ∷ [] }) (pending u)) where
     made-length : length (pending u) ≡ u .count
@@ -131,24 +130,24 @@ module _ (vs : List Binding) (es : List Pair) (held : ℕ → Bool) (u : Unified
         go : (ns : List ℕ) → length ns ≤ 4 → s ≡ rowOf ns → Decides (settled ns (pending u)) (record { deed = Suspends; count = 0; binds = u .binds; noted = s .count; notes = s .notes })
         go [] l e = let z : s .count ≡ 0 = ap (λ (x : Noted). x .count) e in absurd (omega arith)
         go (v ∷ ns) l e =
-            unfold settled decidedOf decidedBy in (rw e (record { told = rw (row-back (v ∷ ns) l); deed = refl; same = refl; size = refl; few = lit≤ tt; four = four; counted = refl; short = l; filled = refl }))
+            unfold settled decidedOf decidedBy in (rw e (record { told = rw (row-back (v ∷ ns) l); deed = refl; same = refl; size = refl; few = lit≤ tt; four = four; noting = refl; short = l; filled = refl }))
 
     pub way-binds : s .count ≤ 0 → Decides (decide vs es held) (record { deed = Binds; count = u .count; binds = u .binds; noted = 0; notes = 0 ∷ 0 ∷ 0 ∷ 0 ∷ [] })
     unfolding decide settle
     way-binds h = rw (← is, outcome-ok u ok, settle) (go (heldIn held (pending u)) in-row)
       where
         go : (ns : List ℕ) → s ≡ rowOf ns → Decides (settled ns (pending u)) (record { deed = Binds; count = u .count; binds = u .binds; noted = 0; notes = 0 ∷ 0 ∷ 0 ∷ 0 ∷ [] })
-        go [] e = unfold settled decidedOf decidedBy pending fourOf in (record { told = refl; deed = refl; same = refl; size = sym made-length; few = most; four = four; counted = refl; short = lit≤ tt; filled = refl })
+        go [] e = unfold settled decidedOf decidedBy pending fourOf in (record { told = refl; deed = refl; same = refl; size = sym made-length; few = most; four = four; noting = refl; short = lit≤ tt; filled = refl })
         go (v ∷ ns) e = let z : s .count ≡ suc (length ns) = ap (λ (x : Noted). x .count) e in absurd (omega arith)
 
 -- the variables bound are among the first
 pub made-there : (m n : ℕ) (vs : List Binding) (es : List Pair) (u : Unified) → outcome u ≡ unify vs (take n es) → u .ok ≡ true → u .count ≤ 4 → length (u .binds) ≡ 4
     → n ≤ length es → Below m n es → (k : ℕ) → k < u .count → getD (u .binds) k noChange .var < m
-made-there m n vs es u is ok most four le low k h =
+made-there m n vs es u is ok most four le vars k h =
     one .0
   where
     fine : OutcomeLowers m (outcome u)
-    fine = rw is (unify-lowers m vs (take n es) (λ k lt. let q : k < n = rw (length-take-le n es le) at lt in rw (getD-take n es k noPair q) (low k q)))
+    fine = rw is (unify-lowers m vs (take n es) (λ k lt. let q : k < n = rw (length-take-le n es le) at lt in rw (getD-take n es k noPair q) (vars k q)))
 
     all : AllLower m (pending u)
     all = rw (outcome-ok u ok) at fine

@@ -32,7 +32,7 @@ module _ {d : Decided} {r : Decision} (is : Decides d r) where
   told-binds e = sym (is .told) ∙ rw e
 
   pub told-suspends : r .deed ≡ Suspends → d ≡ suspends (getD (r .notes) 0 0) (drop 1 (toNote r))
-  told-suspends e = go d (is .counted) (is .filled) (sym (is .deed) ∙ e) (is .short)
+  told-suspends e = go d (is .noting) (is .filled) (sym (is .deed) ∙ e) (is .short)
     where
       go : (d : Decided) → r .noted ≡ length (notesOf d) → r .notes ≡ fourOf (notesOf d) → deedOf d ≡ Suspends → r .noted ≤ 4 → d ≡ suspends (getD (r .notes) 0 0) (drop 1 (toNote r))
       go fails n f q s = cc

@@ -11,7 +11,6 @@ use Rattle.decide.specs.declared.Deed.the-variants.{Binds, Fails, Suspen
 use Rattle.decide.specs.declared.Held.{Held}
 use Rattle.decide.specs.declared.Noted.{Noted}
 use Rattle.parlog.specs.Delta.{fourOf}
-use Rattle.parlog.specs.Run.{counted}
 use Rattle.parlog.specs.Unify.{binds, Decided, fails, inputValue, suspends}
 use Rattle.parlog.specs.declared.Binding.{Binding}
 use Rattle.parlog.specs.declared.Change.{Change}
@@ -21,14 +20,14 @@ use Rattle.unify.specs.Pending.{top}
 
 -- ---- answers
 
--- what suspends notes at least one variable
+-- a decision from its parts; what suspends notes at least one variable
 unfoldable pub decidedBy : Deed → List Change → List ℕ → Decided
 decidedBy Fails cs ns = fails
 decidedBy Suspends cs [] = fails
 decidedBy Suspends cs (v ∷ ns) = suspends v ns
 decidedBy Binds cs ns = binds cs
 
--- the bindings that an answer has to be made, and the variables that it has to be noted
+-- what an answer wants bound, and noted
 abbrev pub toBind : Decision → List Change
 toBind r = take (r .count) (r .binds)
 
@@ -63,7 +62,7 @@ pub record Decides (d : Decided) (r : Decision) : Type 0 where
   pub size : r .count ≡ length (changesOf d)
   pub few : r .count ≤ 4
   pub four : length (r .binds) ≡ 4
-  pub counted : r .noted ≡ length (notesOf d)
+  pub noting : r .noted ≡ length (notesOf d)
   pub short : r .noted ≤ 4
   pub filled : r .notes ≡ fourOf (notesOf d)
 
