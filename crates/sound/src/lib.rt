@@ -8,8 +8,8 @@ ghost use lib.Dec.{eqb};
 ghost use lib.ListN.{length};
 ghost use Rattle.parlog.specs.Codes.{tagOf};
 ghost use Rattle.parlog.specs.Program.{clauseAt, programOf};
-ghost use Rattle.parlog.specs.Scan.{every};
-ghost use Rattle.parlog.specs.TableRules.{cellKnown, clauseIn, fullSize, goalIn, goingOk, kinOk, known, lentOk, notesOk, placesOk, resultOk, rowOk, varOk};
+ghost use Rattle.parlog.specs.Scan.{every, implies};
+ghost use Rattle.parlog.specs.TableRules.{cellKnown, clauseIn, foundIn, fullSize, goalIn, goingOk, kinOk, known, lentOk, notesOk, placesOk, resultOk, rowOk, varOk};
 ghost use Rattle.parlog.specs.Tables.{procsOf, varsIn};
 ghost use Rattle.sound.specs.Parts.{behindCall, behindGoal, behindLiteral, cellOk};
 
@@ -40,25 +40,37 @@ fn goal_in(image: &[u8], rels: usize, clauses: usize, n: usize, z: Spot) -> bool
     clause_in(image, rels, clauses, n, z.clause, z.base)
 }
 
-// What the tags of searches and tries ask besides a call of relation rel: a block of it, or a clause of it.
+// Where a search tells of a clause, that is there.
+fn told_ok(image: &[u8], rels: usize, clauses: usize, n: usize, told: bool, z: Spot) -> bool
+    requires { ⌜ (rels ≤ 32) × (clauses ≤ 64) ⌝ }
+    ensures { λ b. ⌜ b ≡ implies told (foundIn (programOf (now (image .entry)) rels clauses) n z) ⌝ }
+{
+    if told {
+        return clause_in(image, rels, clauses, n, z.found, z.first);
+    }
+    true
+}
+
+// What a tag asks besides a call of relation rel: a block of it, or a clause of it.
 fn behind_call(
     image: &[u8],
     rels: usize,
     clauses: usize,
     n: usize,
     t: u8,
+    waits: bool,
     z: Spot,
     rel: usize,
 ) -> bool
     requires { ⌜ (rels ≤ 32) × (clauses ≤ 64) ⌝ }
-    ensures { λ b. ⌜ b ≡ behindCall t (programOf (now (image .entry)) rels clauses) n z rel ⌝ }
+    ensures { λ b. ⌜ b ≡ behindCall t waits (programOf (now (image .entry)) rels clauses) n z rel ⌝ }
 {
-    if t < 4 {
-        return true;
-    }
-    if t == 4 {
+    if checks::or(t == 4, checks::and(t == 3, waits)) {
         let count = prog::block_count(image, rels, clauses, rel);
         return (z.block as usize) < count;
+    }
+    if t < 4 {
+        return true;
     }
     let found = clause_in(image, rels, clauses, n, z.found, z.first);
     let own = prog::clause_relation(image, rels, clauses, z.found as usize);
@@ -72,11 +84,12 @@ fn behind_literal(
     clauses: usize,
     n: usize,
     t: u8,
+    waits: bool,
     z: Spot,
     rel: usize,
 ) -> bool
     requires { ⌜ (rels ≤ 32) × (clauses ≤ 64) ⌝ }
-    ensures { λ b. ⌜ b ≡ behindLiteral t (programOf (now (image .entry)) rels clauses) n z rel ⌝ }
+    ensures { λ b. ⌜ b ≡ behindLiteral t waits (programOf (now (image .entry)) rels clauses) n z rel ⌝ }
 {
     if 7 < t {
         return rel == 255;
@@ -84,18 +97,26 @@ fn behind_literal(
     if rel == 255 {
         return false;
     }
-    behind_call(image, rels, clauses, n, t, z, rel)
+    behind_call(image, rels, clauses, n, t, waits, z, rel)
 }
 
 // What a tag asks besides a goal: a stage, or a literal.
-fn behind_goal(image: &[u8], rels: usize, clauses: usize, n: usize, t: u8, z: Spot) -> bool
+fn behind_goal(
+    image: &[u8],
+    rels: usize,
+    clauses: usize,
+    n: usize,
+    t: u8,
+    waits: bool,
+    z: Spot,
+) -> bool
     requires { ⌜ (rels ≤ 32) × (clauses ≤ 64) ⌝ }
-    ensures { λ b. ⌜ b ≡ behindGoal t (programOf (now (image .entry)) rels clauses) n z ⌝ }
+    ensures { λ b. ⌜ b ≡ behindGoal t waits (programOf (now (image .entry)) rels clauses) n z ⌝ }
 {
     if t < 2 {
         let stages = prog::goal_size(image, rels, clauses, z);
         let stage = z.stage as usize;
-        return checks::choose(t == 0, stage < stages, stage <= stages);
+        return checks::choose(checks::or(t == 0, waits), stage < stages, stage <= stages);
     }
     let size = prog::stage_size(image, rels, clauses, z);
     if size <= (z.literal as usize) {
@@ -103,45 +124,27 @@ fn behind_goal(image: &[u8], rels: usize, clauses: usize, n: usize, t: u8, z: Sp
     }
     let l = prog::literal(image, rels, clauses, z);
     let rel = l.rel;
-    behind_literal(image, rels, clauses, n, t, z, rel)
+    behind_literal(image, rels, clauses, n, t, waits, z, rel)
 }
 
-// What the rules of a tag read is there.
-fn places_ok(image: &[u8], rels: usize, clauses: usize, n: usize, t: u8, z: Spot) -> bool
+// What the rules of its tag read is there, and what they read besides in its mode.
+fn placed_ok(image: &[u8], rels: usize, clauses: usize, n: usize, x: Process) -> bool
     requires { ⌜ (rels ≤ 32) × (clauses ≤ 64) ⌝ }
-    ensures { λ b. ⌜ b ≡ placesOk (tagOf t) (programOf (now (image .entry)) rels clauses) n z ⌝ }
-{
-    if t == 7 {
-        return clause_in(image, rels, clauses, n, z.found, z.first);
-    }
-    let goal = goal_in(image, rels, clauses, n, z);
-    if !goal {
-        return false;
-    }
-    behind_goal(image, rels, clauses, n, t, z)
-}
-
-// What they read besides in some modes is there.
-fn going_ok(image: &[u8], rels: usize, clauses: usize, n: usize, x: Process) -> bool
-    requires { ⌜ (rels ≤ 32) × (clauses ≤ 64) ⌝ }
-    ensures { λ b. ⌜ b ≡ goingOk (tagOf (x .tag)) (programOf (now (image .entry)) rels clauses) n x ⌝ }
+    ensures { λ b. ⌜ b ≡ (placesOk (tagOf (x .tag)) (programOf (now (image .entry)) rels clauses) n (x .spot) && goingOk (tagOf (x .tag)) (programOf (now (image .entry)) rels clauses) n x) ⌝ }
 {
     let z = x.spot;
-    if checks::and(x.tag == 1, x.mode == 3) {
-        let stages = prog::goal_size(image, rels, clauses, z);
-        return (z.stage as usize) < stages;
-    }
-    if checks::and(x.tag == 3, x.mode == 3) {
-        let l = prog::literal(image, rels, clauses, z);
-        let rel = l.rel;
-        let count = prog::block_count(image, rels, clauses, rel);
-        return (z.block as usize) < count;
-    }
-    let search = checks::or(x.tag == 3, x.tag == 4);
-    if checks::and(search, checks::and(x.mode == 4, x.result == 1)) {
+    if x.tag == 7 {
         return clause_in(image, rels, clauses, n, z.found, z.first);
     }
-    true
+    let search = checks::or(x.tag == 3, x.tag == 4);
+    let told = checks::and(search, checks::and(x.mode == 4, x.result == 1));
+    let goal = goal_in(image, rels, clauses, n, z);
+    let found = told_ok(image, rels, clauses, n, told, z);
+    let there = checks::and(goal, found);
+    if !there {
+        return false;
+    }
+    behind_goal(image, rels, clauses, n, x.tag, x.mode == 3, z)
 }
 
 // ---- a row
@@ -182,16 +185,6 @@ fn own_ok(n: usize, i: usize, x: Process) -> bool
     let four = x.notes;
     let notes = checks::notes_ok(n, x.mode, x.count, four);
     checks::and(numbers, checks::and(result, notes))
-}
-
-// What a row says of the program.
-fn placed_ok(image: &[u8], rels: usize, clauses: usize, n: usize, x: Process) -> bool
-    requires { ⌜ (rels ≤ 32) × (clauses ≤ 64) ⌝ }
-    ensures { λ b. ⌜ b ≡ (placesOk (tagOf (x .tag)) (programOf (now (image .entry)) rels clauses) n (x .spot) && goingOk (tagOf (x .tag)) (programOf (now (image .entry)) rels clauses) n x) ⌝ }
-{
-    let places = places_ok(image, rels, clauses, n, x.tag, x.spot);
-    let going = going_ok(image, rels, clauses, n, x);
-    checks::and(places, going)
 }
 
 // Row i of the first count.
