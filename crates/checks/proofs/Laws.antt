@@ -104,9 +104,9 @@ fourCode n k a b c d = implies (ltb 0 k) (ltb a n) && (implies (ltb 1 k) (ltb b 
 four-code : (n k a b c d : ℕ) → (leb k 4 && fourCode n k a b c d) ≡ (leb k 4 && allBelow n (take k (a ∷ b ∷ c ∷ d ∷ [])))
 unfolding allBelow
 four-code n zero a b c d = refl
-four-code n (suc zero) a b c d = rw and-one
-four-code n (suc (suc zero)) a b c d = rw and-one
-four-code n (suc (suc (suc zero))) a b c d = rw and-one
+four-code n (suc zero) a b c d = refl
+four-code n (suc (suc zero)) a b c d = refl
+four-code n (suc (suc (suc zero))) a b c d = refl
 four-code n (suc (suc (suc (suc zero)))) a b c d = rw and-one
 four-code n (suc (suc (suc (suc (suc k))))) a b c d = rw (lt-leb (suc (suc (suc (suc (suc k))))) 4 (omega arith))
 

@@ -60,7 +60,11 @@ pub fn makes(up: u8, t: u8) -> bool
     let tried = or(t == 6, t == 7);
     let searched = choose(up == 4, t == 5, choose(up == 5, tried, and(up == 7, goal)));
     let called = choose(up == 2, or(t == 3, goal), choose(up == 3, t == 4, searched));
-    choose(up == 0, literal, choose(up == 1, or(literal, t == 0), called))
+    choose(
+        up == 0,
+        literal,
+        choose(up == 1, or(literal, t == 0), called),
+    )
 }
 
 // Note k, where it counts, is a variable.
@@ -104,6 +108,9 @@ pub fn counts_ok(
 ) -> bool
     ensures { λ r. ⌜ r ≡ ((leb 1 procs && (leb procs most && (leb vars cap && leb goal vars))) && ltb last procs) ⌝ }
 {
-    let counts = and(1 <= procs, and(procs <= most, and(vars <= cap, goal <= vars)));
+    let counts = and(
+        1 <= procs,
+        and(procs <= most, and(vars <= cap, goal <= vars)),
+    );
     and(counts, last < procs)
 }

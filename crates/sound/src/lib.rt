@@ -215,14 +215,7 @@ fn row_ok(
 // ---- the tables
 
 // Each of the first count rows.
-fn rows_ok(
-    image: &[u8],
-    rels: usize,
-    clauses: usize,
-    procs: &[u8],
-    count: usize,
-    n: usize,
-) -> bool
+fn rows_ok(image: &[u8], rels: usize, clauses: usize, procs: &[u8], count: usize, n: usize) -> bool
     requires { ⌜ (rels ≤ 32) × (clauses ≤ 64) × (count * 24 ≤ length (now procs)) ⌝ }
     ensures { λ b. ⌜ b ≡ every (rowOk (programOf (now (image .entry)) rels clauses) (procsOf (now (procs .entry)) count) n) count ⌝ }
 {
