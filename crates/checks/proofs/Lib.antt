@@ -1,0 +1,2 @@
+-- Laws of the tests on numbers.
+pub mod Laws

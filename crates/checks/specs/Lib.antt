@@ -1,0 +1,2 @@
+-- What the tests on numbers name beside the definitions.
+pub mod Tests
