@@ -27,20 +27,20 @@ enum {
 
 enum {
     RISSOBARM_ACCEPTED = 0, /* no refusal */
-    RISSOBARM_LONG = 1,     /* image over 32,768 bytes */
-    RISSOBARM_CUT = 2,      /* 1 to 3 bytes remain, or a record's length is under 4 or passes the end */
-    RISSOBARM_KIND = 3,     /* a record's kind is unknown or out of order, or a record follows the goal */
-    RISSOBARM_BODY = 4,     /* a field out of its range, or fields that do not end at the record's end */
-    RISSOBARM_NAME = 5,     /* unknown relation or variable, wrong arity, or a misplaced clause */
-    RISSOBARM_MANY = 6,     /* 33rd relation, 65th clause, 9th clause of a block */
-    RISSOBARM_NOGOAL = 7,   /* the image ends without a goal */
-    RISSOBARM_STATE = 8,    /* the run's tables break a table rule */
-    RISSOBARM_NODE = 9,     /* process number not below the process count */
-    RISSOBARM_STILL = 10,   /* no rule applies to that process */
-    RISSOBARM_ROOM = 11,    /* the move needs more processes or variables than are left */
-    RISSOBARM_NOVAR = 12,   /* supplied variable not below the goal's count */
-    RISSOBARM_BOUND = 13,   /* the supplied variable's value is a constant already */
-    RISSOBARM_CONST = 14    /* supplied value over 32,767 */
+    RISSOBARM_LONG = 1,     /* the image is too long */
+    RISSOBARM_CUT = 2,      /* a record is cut short, or says that it is shorter than it can be */
+    RISSOBARM_KIND = 3,     /* no kind of record is meant, or it stands at the wrong place */
+    RISSOBARM_BODY = 4,     /* a number is out of its range, or the fields do not fill the record */
+    RISSOBARM_NAME = 5,     /* something is named that is not there, or a clause is out of place */
+    RISSOBARM_MANY = 6,     /* one relation, clause or clause of a block too many */
+    RISSOBARM_NOGOAL = 7,   /* there is no goal */
+    RISSOBARM_STATE = 8,    /* the lent rows are no tables of a run of this image */
+    RISSOBARM_NODE = 9,     /* there is no such process */
+    RISSOBARM_STILL = 10,   /* it has nothing to do */
+    RISSOBARM_ROOM = 11,    /* its move does not fit into the tables any more */
+    RISSOBARM_NOVAR = 12,   /* the goal has no such variable */
+    RISSOBARM_BOUND = 13,   /* that variable has its value */
+    RISSOBARM_CONST = 14    /* the value is no constant of an image */
 };
 
 /* ---- answers ---- */

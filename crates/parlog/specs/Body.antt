@@ -1,4 +1,4 @@
--- Refusal 4, BODY: a count, arity, mode or mark outside its range, or fields that do not end at the record's end.
+-- Refusal 4, BODY: what a record holds, field by field.
 -- Each test holds where the record is right. Fields are read with the arity that the record itself writes.
 use mathlib.Core.Bool.{_&&_, Bool, cond}
 use mathlib.Core.List.{List}

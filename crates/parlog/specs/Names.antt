@@ -1,4 +1,4 @@
--- Refusal 5, NAME: unknown relation, wrong arity, variable not below the count, clause out of order, first clause with mark 1.
+-- Refusal 5, NAME: what a record names, and where a clause stands.
 -- Each test holds where the names are right.
 use mathlib.Core.Bool.{_&&_, _||_, Bool, cond, true}
 use mathlib.Core.List.{List}
