@@ -8,6 +8,7 @@ use lib.ListN.{drop, getD, length, length-append, take}
 use lib.Seq.{getD-take, length-take-le}
 use native.Mathlib.Omega.{arith}
 use Rattle.decide.specs.Decision.{decidedBy, decidedOf, Decides, gather, pushOf}
+use Rattle.decide.specs.declared.Decision.{Decision}
 use Rattle.decide.specs.declared.Deed.the-variants.{Binds, Fails, Suspends}
 use Rattle.decide.specs.declared.Noted.{Noted}
 use Rattle.parlog.proofs.Bools.{split}
@@ -106,10 +107,10 @@ row-first v ns = refl
 -- ---- the ways through decide
 
 module _ (vs : List Binding) (es : List Pair) (held : ℕ → Bool) (u : Unified) (is : outcome u ≡ unify vs es) (four : length (u .binds) ≡ 4) where
-  pub way-fails : u .ok ≡ false → Decides (decide vs es held) (record { deed = Fails; count = 0; binds = u .binds; noted = 0; notes = 0 ∷ 0 ∷ 0 ∷ 0 ∷ [] })
+  pub way-fails : {r : Decision} → r ≡ record { deed = Fails; count = 0; binds = u .binds; noted = 0; notes = 0 ∷ 0 ∷ 0 ∷ 0 ∷ [] } → u .ok ≡ false → Decides (decide vs es held) r
   unfolding decide settle decidedOf decidedBy fourOf
-  way-fails ok =
-      rw (← is, outcome-clash u ok)
+  way-fails e ok =
+      rw (e, ← is, outcome-clash u ok)
       (record { told = refl; deed = refl; same = refl; size = refl; few = lit≤ tt; four = four; noting = refl; short = lit≤ tt; filled = refl })
 
   module _ (ok : u .ok ≡ true) (most : u .count ≤ 4) {s : Noted} (gs : s ≡ gather held (record { count = 0; notes = 0 ∷ 0 ∷ 0 ∷ 0 ∷ [] }) (pending u)) where
@@ -132,9 +133,9 @@ module _ (vs : List Binding) (es : List Pair) (held : ℕ → Bool) (u : Unified
         go (v ∷ ns) l e =
             unfold settled decidedOf decidedBy in (rw e (record { told = rw (row-back (v ∷ ns) l); deed = refl; same = refl; size = refl; few = lit≤ tt; four = four; noting = refl; short = l; filled = refl }))
 
-    pub way-binds : s .count ≤ 0 → Decides (decide vs es held) (record { deed = Binds; count = u .count; binds = u .binds; noted = 0; notes = 0 ∷ 0 ∷ 0 ∷ 0 ∷ [] })
+    pub way-binds : {r : Decision} → r ≡ record { deed = Binds; count = u .count; binds = u .binds; noted = 0; notes = 0 ∷ 0 ∷ 0 ∷ 0 ∷ [] } → s .count ≤ 0 → Decides (decide vs es held) r
     unfolding decide settle
-    way-binds h = rw (← is, outcome-ok u ok, settle) (go (heldIn held (pending u)) in-row)
+    way-binds q h = rw (q, ← is, outcome-ok u ok, settle) (go (heldIn held (pending u)) in-row)
       where
         go : (ns : List ℕ) → s ≡ rowOf ns → Decides (settled ns (pending u)) (record { deed = Binds; count = u .count; binds = u .binds; noted = 0; notes = 0 ∷ 0 ∷ 0 ∷ 0 ∷ [] })
         go [] e = unfold settled decidedOf decidedBy pending fourOf in (record { told = refl; deed = refl; same = refl; size = sym made-length; few = most; four = four; noting = refl; short = lit≤ tt; filled = refl })

@@ -157,6 +157,19 @@ fn needed(vars: &[u8], n: usize, args: [Term; 4], h: Held, u: Unified) -> Noted
     s
 }
 
+// A decision that notes nothing.
+fn unnoted(deed: Deed, count: usize, binds: [Change; 4]) -> Decision
+    ensures { λ r. ⌜ r ≡ record { deed = deed; count = count; binds = binds; noted = 0; notes = 0 ∷ 0 ∷ 0 ∷ 0 ∷ [] } ⌝ }
+{
+    Decision {
+        deed: deed,
+        count: count,
+        binds: binds,
+        noted: 0,
+        notes: [0, 0, 0, 0],
+    }
+}
+
 // The first pairs: a clash fails, a variable bound that is not to be bound suspends, else all is bound.
 fn decide(
     vars: &[u8],
@@ -173,13 +186,7 @@ fn decide(
     let ok = u.ok;
     let binds = u.binds;
     if !ok {
-        return Decision {
-            deed: Deed::Fails,
-            count: 0,
-            binds: binds,
-            noted: 0,
-            notes: [0, 0, 0, 0],
-        };
+        return unnoted(Deed::Fails, 0, binds);
     }
     let s = needed(vars, n, args, h, u);
     let noted = s.count;
@@ -193,13 +200,7 @@ fn decide(
             notes: notes,
         };
     }
-    Decision {
-        deed: Deed::Binds,
-        count: u.count,
-        binds: binds,
-        noted: 0,
-        notes: [0, 0, 0, 0],
-    }
+    unnoted(Deed::Binds, u.count, binds)
 }
 
 // The head's side of a pair: an output argument gives way to its new variable.
