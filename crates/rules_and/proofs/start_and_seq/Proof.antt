@@ -1,0 +1,21 @@
+use mathlib.Core.Path.{refl}
+use borrow.Author.Needs.{needs}
+use Rattle.parlog.specs.Codes.{success, waiting}
+use Rattle.rules_and.proofs.Ways.{seq-ends, seq-starts}
+use Rattle.rules_and.proofs.start_and_seq.Statement.{statement}
+use Rattle.rules_and.proofs.start_and_seq.Tie as tie
+
+pub start-and-seq-spec : {M : Type 1} → statement M
+start-and-seq-spec =
+    tie.close
+    (tie.spec
+    (λ c κs. search needs)
+    (λ c. search needs)
+    (λ c κs. search needs)
+    (λ c. (seq-ends _ _ _ _ (c .before .before .before .goal-size .ensures .0) (c .before .if1 .taken) ((c .report .ensures .0) success refl), (c .report .ensures .1), (c .report .ensures .2)))
+    (λ c κs. search needs)
+    (λ c κs. search needs)
+    (λ c κs. search needs)
+    (λ c κs. search needs)
+    (λ c κs. search needs)
+    (λ c. (seq-starts _ _ _ _ (c .before .before .before .before .before .before .before .goal-size .ensures .0) (c .before .before .before .before .before .if1 .left) (c .before .before .before .before .tag-of-stage .ensures .0) (c .before .before .before .literal-spot .ensures) (c .before .before .new-process .ensures) ((c .before .with-mode .ensures) waiting refl) (c .with-child .ensures .0), (c .with-child .ensures .1), (c .with-child .ensures .2))))

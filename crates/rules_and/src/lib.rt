@@ -1,0 +1,260 @@
+// The rules of the conjunctions, of a tried clause and of its guard, with ready and stop: each only reads, and answers a plan.
+ghost use mathlib.Core.Path.{_≡_};
+ghost use mathlib.Core.List.{[], _∷_};
+ghost use Prim.Native.Nat.{_*_, _≤_, _<_};
+ghost use lib.ListN.{length};
+ghost use Rattle.parlog.specs.Codes.{and-par, and-seq, guard-eval, try-clause};
+ghost use Rattle.parlog.specs.Delta.{making};
+ghost use Rattle.parlog.specs.Program.{Program, programOf, stageAt};
+ghost use Rattle.parlog.specs.Rules.{by-rule, member, stopRule};
+ghost use Rattle.parlog.specs.Scan.{build};
+ghost use Rattle.parlog.specs.Tables.{procsOf};
+ghost use Rattle.parlog.specs.declared.Found.the-variants.{At, Nothing};
+ghost use Rattle.parlog.specs.declared.Move.the-variants.{AndSeqNext};
+ghost use Rattle.plan.specs.Plans.{appliedOf};
+ghost use Rattle.rules_and.specs.Says.{nextStage, Readies, Starts, touched, Waits};
+use parlog::Found;
+use parlog::Move;
+use parlog::Process;
+use parlog::Spot;
+use plan::Plan;
+use tree::News;
+
+// A ready process is about to start next.
+pub fn ready(p: usize, x: Process) -> Plan
+    ensures { λ r. ⌜ Readies p x (appliedOf r) × (r .count ≤ 12) × (r .changes .count ≡ 0) ⌝ }
+{
+    let me = plan::with_mode(x, 2);
+    plan::only(Move::Ready(p), me)
+}
+
+// The goal's own process has nobody to report to.
+pub fn stop(p: usize, x: Process) -> Plan
+    ensures { λ r. ⌜ (appliedOf r ≡ stopRule p x) × (r .count ≤ 12) × (r .changes .count ≡ 0) ⌝ }
+{
+    if p == 0 {
+        let me = plan::with_mode(x, 0);
+        return plan::only(Move::Stop(0), me);
+    }
+    plan::none()
+}
+
+// ---- plans that make processes
+
+// The row that a move touches which makes k processes after n.
+fn touched(n: usize, p: usize, k: usize) -> usize
+    ensures { λ r. ⌜ r ≡ touched n p k ⌝ }
+{
+    if k == 0 {
+        return p;
+    }
+    n
+}
+
+// The mover and one child.
+fn with_child(mv: Move, x: Process, child: Process) -> Plan
+    ensures { λ r. ⌜ (appliedOf r ≡ by-rule mv (making x Nothing (child ∷ []) 0)) × (r .count ≤ 12) × (r .changes .count ≡ 0) ⌝ }
+{
+    let mut new = [0u8; 288];
+    rows::append(&mut new, 0, child);
+    plan::make(mv, x, Found::Nothing, 1, new, 0)
+}
+
+// The mover and two children.
+fn with_children(mv: Move, x: Process, one: Process, other: Process) -> Plan
+    ensures { λ r. ⌜ (appliedOf r ≡ by-rule mv (making x Nothing (one ∷ other ∷ []) 0)) × (r .count ≤ 12) × (r .changes .count ≡ 0) ⌝ }
+{
+    let mut new = [0u8; 288];
+    rows::append(&mut new, 0, one);
+    rows::append(&mut new, 1, other);
+    plan::make(mv, x, Found::Nothing, 2, new, 0)
+}
+
+// ---- and-par
+
+// The process for member j of the stage that z names.
+fn member(image: &[u8], rels: usize, clauses: usize, p: usize, z: Spot, j: usize) -> Process
+    requires { ⌜ (rels ≤ 32) × (clauses ≤ 64) × (p ≤ 65535) × (j ≤ 255) ⌝ }
+    ensures { λ r. ⌜ r ≡ member (programOf (now (image .entry)) rels clauses) p z j ⌝ }
+{
+    let y = plan::literal_spot(z, j as u8);
+    let t = prog::tag_of_literal(image, rels, clauses, y);
+    plan::new_process(t, 1, p, y)
+}
+
+// The processes for its first k members, as rows.
+fn members(image: &[u8], rels: usize, clauses: usize, p: usize, z: Spot, k: usize, new: &mut [u8])
+    requires { ⌜ (rels ≤ 32) × (clauses ≤ 64) × (p ≤ 65535) × (k ≤ 12) × (288 ≤ length (now new)) ⌝ }
+    ensures { λ _. ⌜ procsOf (now (new .exit)) k ≡ build (member (programOf (now (image .entry)) rels clauses) p z) k ⌝ }
+{
+    let mut j = 0;
+    while j < k {
+        let y = member(image, rels, clauses, p, z, j);
+        rows::append(new, j, y);
+        j += 1;
+    }
+}
+
+// Starts every member of the stage.
+pub fn start_and_par(
+    image: &[u8],
+    rels: usize,
+    clauses: usize,
+    n: usize,
+    p: usize,
+    x: Process,
+) -> Plan
+    requires { ⌜ (rels ≤ 32) × (clauses ≤ 64) × (n ≤ 65535) × (p < n) × (length (stageAt (programOf (now image) rels clauses) (x .spot)) ≤ 12) ⌝ }
+    ensures { λ r. ⌜ Starts and-par (programOf (now (image .entry)) rels clauses) n p x (appliedOf r) × (r .count ≤ 12) × (r .changes .count ≡ 0) ⌝ }
+{
+    let z = x.spot;
+    let k = prog::stage_size(image, rels, clauses, z);
+    let mut new = [0u8; 288];
+    members(image, rels, clauses, p, z, k, &mut new);
+    let me = plan::with_mode(x, 3);
+    let q = touched(n, p, k);
+    plan::make(Move::AndParStart(q), me, Found::Nothing, k, new, 0)
+}
+
+// One failure decides, else all must succeed.
+pub fn wait_and_par(procs: &[u8], n: usize, p: usize, x: Process) -> Plan
+    requires { ⌜ n * 24 ≤ length (now procs) ⌝ }
+    ensures { λ r. ⌜ Waits and-par (procsOf (now (procs .entry)) n) p x (appliedOf r) × (r .count ≤ 12) × (r .changes .count ≡ 0) ⌝ }
+{
+    if tree::any_failed(procs, n, p) {
+        return plan::report(Move::AndParFailure(p), 2, x);
+    }
+    if tree::all_succeeded(procs, n, p) {
+        return plan::report(Move::AndParSuccess(p), 1, x);
+    }
+    plan::none()
+}
+
+// ---- and-seq
+
+// Starts the stage that is next, if there is one.
+pub fn start_and_seq(
+    image: &[u8],
+    rels: usize,
+    clauses: usize,
+    n: usize,
+    p: usize,
+    x: Process,
+) -> Plan
+    requires { ⌜ (rels ≤ 32) × (clauses ≤ 64) × (n ≤ 65535) × (p < n) ⌝ }
+    ensures { λ r. ⌜ Starts and-seq (programOf (now (image .entry)) rels clauses) n p x (appliedOf r) × (r .count ≤ 12) × (r .changes .count ≡ 0) ⌝ }
+{
+    let z = x.spot;
+    let stages = prog::goal_size(image, rels, clauses, z);
+    let i = z.stage as usize;
+    if stages <= i {
+        return plan::report(Move::AndSeqSuccess(p), 1, x);
+    }
+    let t = prog::tag_of_stage(image, rels, clauses, z);
+    let y = plan::literal_spot(z, 0);
+    let child = plan::new_process(t, 2, p, y);
+    let me = plan::with_mode(x, 3);
+    with_child(Move::AndSeqStart(n), me, child)
+}
+
+// About to start the stage behind.
+fn next_stage(x: Process) -> Process
+    requires { ⌜ x .spot .stage < 255 ⌝ }
+    ensures { λ r. ⌜ r ≡ nextStage x ⌝ }
+{
+    let z = x.spot;
+    let y = plan::at_stage(z, z.stage + 1);
+    plan::with_spot(x, 2, y)
+}
+
+// The stage succeeded: it sleeps, and the stage behind it is next.
+fn pass_stage(p: usize, x: Process, c: usize) -> Plan
+    requires { ⌜ x .spot .stage < 255 ⌝ }
+    ensures { λ r. ⌜ (appliedOf r ≡ by-rule (AndSeqNext p) (making (nextStage x) (At c) [] 0)) × (r .count ≤ 12) × (r .changes .count ≡ 0) ⌝ }
+{
+    let me = next_stage(x);
+    let new = [0u8; 288];
+    plan::make(Move::AndSeqNext(p), me, Found::At(c), 0, new, 0)
+}
+
+// Goes on to the stage behind, or fails with its stage.
+pub fn wait_and_seq(procs: &[u8], n: usize, p: usize, x: Process) -> Plan
+    requires { ⌜ (n * 24 ≤ length (now procs)) × (x .spot .stage < 255) ⌝ }
+    ensures { λ r. ⌜ Waits and-seq (procsOf (now (procs .entry)) n) p x (appliedOf r) × (r .count ≤ 12) × (r .changes .count ≡ 0) ⌝ }
+{
+    let news = tree::heard(procs, n, p);
+    match news {
+        News::Silent => plan::none(),
+        News::Good(c) => pass_stage(p, x, c),
+        News::Bad(_) => plan::report(Move::AndSeqFailure(p), 2, x),
+    }
+}
+
+// ---- try-clause
+
+// Matches the head and runs the guard side by side.
+pub fn start_try_clause(n: usize, p: usize, x: Process) -> Plan
+    requires { ⌜ (n ≤ 65535) × (p < n) ⌝ }
+    ensures { λ r. ⌜ ((pr : Program) → Starts try-clause pr n p x (appliedOf r)) × (r .count ≤ 12) × (r .changes .count ≡ 0) ⌝ }
+{
+    let z = x.spot;
+    let call = plan::try_spot(z, z.found, z.first);
+    let one = plan::new_process(6, 1, p, call);
+    let guard = plan::guard_spot(z.found, z.first);
+    let other = plan::new_process(7, 1, p, guard);
+    let me = plan::with_mode(x, 3);
+    with_children(Move::TryClauseStart(n), me, one, other)
+}
+
+// Both must succeed.
+pub fn wait_try_clause(procs: &[u8], n: usize, p: usize, x: Process) -> Plan
+    requires { ⌜ n * 24 ≤ length (now procs) ⌝ }
+    ensures { λ r. ⌜ Waits try-clause (procsOf (now (procs .entry)) n) p x (appliedOf r) × (r .count ≤ 12) × (r .changes .count ≡ 0) ⌝ }
+{
+    if tree::any_failed(procs, n, p) {
+        return plan::report(Move::TryClauseFailure(p), 2, x);
+    }
+    if tree::all_succeeded(procs, n, p) {
+        return plan::report(Move::TryClauseSuccess(p), 1, x);
+    }
+    plan::none()
+}
+
+// ---- guard-eval
+
+// Runs the guard of the clause, if it has one.
+pub fn start_guard_eval(
+    image: &[u8],
+    rels: usize,
+    clauses: usize,
+    n: usize,
+    p: usize,
+    x: Process,
+) -> Plan
+    requires { ⌜ (rels ≤ 32) × (clauses ≤ 64) × (n ≤ 65535) × (p < n) ⌝ }
+    ensures { λ r. ⌜ Starts guard-eval (programOf (now (image .entry)) rels clauses) n p x (appliedOf r) × (r .count ≤ 12) × (r .changes .count ≡ 0) ⌝ }
+{
+    let z = x.spot;
+    let size = prog::guard_size(image, rels, clauses, z.found as usize);
+    if size == 0 {
+        return plan::report(Move::GuardEvalEmpty(p), 1, x);
+    }
+    let y = plan::goal_spot(1, z.found, z.first);
+    let t = prog::tag_of_goal(image, rels, clauses, y);
+    let child = plan::new_process(t, 2, p, y);
+    let me = plan::with_mode(x, 3);
+    with_child(Move::GuardEvalStart(n), me, child)
+}
+
+// Tells what the guard tells.
+pub fn wait_guard_eval(procs: &[u8], n: usize, p: usize, x: Process) -> Plan
+    requires { ⌜ n * 24 ≤ length (now procs) ⌝ }
+    ensures { λ r. ⌜ Waits guard-eval (procsOf (now (procs .entry)) n) p x (appliedOf r) × (r .count ≤ 12) × (r .changes .count ≡ 0) ⌝ }
+{
+    let news = tree::heard(procs, n, p);
+    match news {
+        News::Silent => plan::none(),
+        News::Good(_) => plan::report(Move::GuardEvalSuccess(p), 1, x),
+        News::Bad(_) => plan::report(Move::GuardEvalFailure(p), 2, x),
+    }
+}
