@@ -1,6 +1,6 @@
 -- The goals of a program by kind and clause: one law for each way through `literal_by`, `stage_size_by` and `goal_size_by`.
 use mathlib.Core.Path.{_∙_, _≡_, ap, refl, sym}
-use mathlib.Core.List.{[], _++_, _∷_, List}
+use mathlib.Core.List.{[], _++_, _∷_, append-nil, List}
 use Prim.Native.Nat.{_+_, _-_, _<_, _≤_, suc, zero, ℕ}
 use lib.ListN.{getD, length, length-append, List·getD-append}
 use lib.Seq.{getD-append-add}
