@@ -1,0 +1,329 @@
+// The rules of or-par, seq-search and or-search: each reads the tables and answers a plan.
+ghost use mathlib.Core.Path.{_≡_};
+ghost use mathlib.Core.List.{[], _∷_, _++_, List};
+ghost use Prim.Native.Nat.{_+_, _*_, _≤_, _<_, suc};
+ghost use lib.Dec.{ltb};
+ghost use lib.ListN.{getD, length};
+ghost use Rattle.parlog.specs.Codes.{failure, isTag, or-par, or-search, ready, seq-search, success, try-clause};
+ghost use Rattle.parlog.specs.Delta.{making, report, trySpot};
+ghost use Rattle.parlog.specs.Program.{blockCount, blockOf, literalAt, Program, programOf, varsOf};
+ghost use Rattle.parlog.specs.Rules.{blockAt, bodyChild, by-rule, orParHeard, orSearchWait, searching, seqSearchNext, startRule, tries, triesVars, waitRule, withFound};
+ghost use Rattle.parlog.specs.Tables.{at, newProcess, procsOf, State};
+ghost use Rattle.parlog.specs.Tree.{allChildren};
+ghost use Rattle.parlog.specs.declared.Binding.{Binding};
+ghost use Rattle.parlog.specs.declared.Found.the-variants.{Nothing};
+ghost use Rattle.plan.specs.Plans.{appliedOf};
+ghost use Rattle.rows.specs.Rows.{Table};
+use parlog::Found;
+use parlog::Move;
+use parlog::Process;
+use parlog::Spot;
+use plan::Plan;
+use tree::News;
+
+// ---- what the rules share
+
+// One new process, and perhaps a child that falls asleep.
+fn make_one(mv: Move, x: Process, nap: Found, y: Process) -> Plan
+    ensures { λ r. ⌜ (appliedOf r ≡ by-rule mv (making x nap (y ∷ []) 0)) × (r .count ≤ 12) × (r .changes .count ≡ 0) ⌝ }
+{
+    let mut new = [0u8; 288];
+    rows::append(&mut new, 0, y);
+    plan::make(mv, x, nap, 1, new, 0)
+}
+
+// The relation that the literal at z calls.
+fn called(image: &[u8], rels: usize, clauses: usize, z: Spot) -> usize
+    requires { ⌜ (rels ≤ 32) × (clauses ≤ 64) ⌝ }
+    ensures { λ r. ⌜ (r ≡ literalAt (programOf (now (image .entry)) rels clauses) z .rel) × (r ≤ 255) ⌝ }
+{
+    let l = prog::literal(image, rels, clauses, z);
+    l.rel
+}
+
+// Reports success with the clause that child c names.
+fn commit(mv: Move, procs: &[u8], n: usize, c: usize, x: Process) -> Plan
+    requires { ⌜ n * 24 ≤ length (now procs) ⌝ }
+    ensures { λ r. ⌜ ((vs : List Binding) → appliedOf r ≡ by-rule mv (report success (withFound (record { procs = procsOf (now (procs .entry)) n; vars = vs }) c x))) × (r .count ≤ 12) × (r .changes .count ≡ 0) ⌝ }
+{
+    let y = rows::get(procs, n, c);
+    let told = y.spot;
+    let own = x.spot;
+    let z = plan::with_clause(own, told.found, told.first);
+    let me = plan::with_spot(x, 4, z);
+    plan::report(mv, 1, me)
+}
+
+// ---- or-par
+
+// Has a clause looked for.
+pub fn start_or_par(n: usize, p: usize, x: Process) -> Plan
+    requires { ⌜ (n ≤ 65535) × (p < n) ⌝ }
+    ensures { λ r. ⌜ ((pr : Program) (s : State) → length (s .procs) ≡ n → appliedOf r ≡ startRule or-par pr s p x) × (r .count ≤ 12) × (r .changes .count ≡ 0) ⌝ }
+{
+    let own = x.spot;
+    let z = plan::call_spot(own);
+    let y = plan::new_process(3, 2, p, z);
+    let me = plan::with_mode(x, 3);
+    make_one(Move::OrParStart(n), me, Found::Nothing, y)
+}
+
+// The process for the committed body of clause k, its first variable v.
+fn body_child(image: &[u8], rels: usize, clauses: usize, p: usize, k: u8, v: u16) -> Process
+    requires { ⌜ (rels ≤ 32) × (clauses ≤ 64) × (p ≤ 65535) ⌝ }
+    ensures { λ r. ⌜ r ≡ bodyChild (programOf (now (image .entry)) rels clauses) p k v ⌝ }
+{
+    let t = prog::tag_of_goal_by(image, rels, clauses, 2, k as usize);
+    let z = plan::goal_spot(2, k, v);
+    plan::new_process(t, 2, p, z)
+}
+
+// Child c tells success: a clause was found, or its body is done.
+fn or_par_heard(
+    image: &[u8],
+    rels: usize,
+    clauses: usize,
+    procs: &[u8],
+    n: usize,
+    p: usize,
+    x: Process,
+    c: usize,
+) -> Plan
+    requires { ⌜ (rels ≤ 32) × (clauses ≤ 64) × (n * 24 ≤ length (now procs)) × (n ≤ 65535) × (p < n) ⌝ }
+    ensures { λ r. ⌜ ((vs : List Binding) → appliedOf r ≡ orParHeard (isTag seq-search (at (procsOf (now (procs .entry)) n) c .tag)) (programOf (now (image .entry)) rels clauses) (record { procs = procsOf (now (procs .entry)) n; vars = vs }) p x c) × (r .count ≤ 12) × (r .changes .count ≡ 0) ⌝ }
+{
+    let y = rows::get(procs, n, c);
+    if y.tag != 3 {
+        return plan::report(Move::OrParSuccess(p), 1, x);
+    }
+    let told = y.spot;
+    let child = body_child(image, rels, clauses, p, told.found, told.first);
+    make_one(Move::OrParSpawn(n), x, Found::At(c), child)
+}
+
+// Waits for the search, then for the body.
+pub fn wait_or_par(
+    image: &[u8],
+    rels: usize,
+    clauses: usize,
+    procs: &[u8],
+    n: usize,
+    p: usize,
+    x: Process,
+) -> Plan
+    requires { ⌜ (rels ≤ 32) × (clauses ≤ 64) × (n * 24 ≤ length (now procs)) × (n ≤ 65535) × (p < n) ⌝ }
+    ensures { λ r. ⌜ ((vs : List Binding) → appliedOf r ≡ waitRule or-par (programOf (now (image .entry)) rels clauses) (record { procs = procsOf (now (procs .entry)) n; vars = vs }) p x) × (r .count ≤ 12) × (r .changes .count ≡ 0) ⌝ }
+{
+    let h = tree::heard(procs, n, p);
+    match h {
+        News::Silent => plan::none(),
+        News::Good(c) => or_par_heard(image, rels, clauses, procs, n, p, x, c),
+        News::Bad(c) => plan::report(Move::OrParFailure(p), 2, x),
+    }
+}
+
+// ---- seq-search
+
+// At block b, with a process that tries it.
+fn searching(mv: Move, b: u8, p: usize, x: Process, nap: Found) -> Plan
+    requires { ⌜ p ≤ 65535 ⌝ }
+    ensures { λ r. ⌜ (appliedOf r ≡ by-rule mv (searching b p x nap)) × (r .count ≤ 12) × (r .changes .count ≡ 0) ⌝ }
+{
+    let own = x.spot;
+    let here = plan::at_block(own, b);
+    let me = plan::with_spot(x, 3, here);
+    let z = plan::block_spot(own, b);
+    let y = plan::new_process(4, 2, p, z);
+    make_one(mv, me, nap, y)
+}
+
+// How many blocks the relation has that the literal at z calls.
+fn blocks(image: &[u8], rels: usize, clauses: usize, z: Spot) -> usize
+    requires { ⌜ (rels ≤ 32) × (clauses ≤ 64) ⌝ }
+    ensures { λ r. ⌜ (r ≡ blockCount (programOf (now (image .entry)) rels clauses) (literalAt (programOf (now (image .entry)) rels clauses) z .rel)) × (r ≤ 64) ⌝ }
+{
+    let rel = called(image, rels, clauses, z);
+    prog::block_count(image, rels, clauses, rel)
+}
+
+// Tries the first block, if there is one.
+pub fn start_seq_search(
+    image: &[u8],
+    rels: usize,
+    clauses: usize,
+    n: usize,
+    p: usize,
+    x: Process,
+) -> Plan
+    requires { ⌜ (rels ≤ 32) × (clauses ≤ 64) × (n ≤ 65535) × (p < n) ⌝ }
+    ensures { λ r. ⌜ ((s : State) → length (s .procs) ≡ n → appliedOf r ≡ startRule seq-search (programOf (now (image .entry)) rels clauses) s p x) × (r .count ≤ 12) × (r .changes .count ≡ 0) ⌝ }
+{
+    let z = x.spot;
+    let count = blocks(image, rels, clauses, z);
+    if count == 0 {
+        return plan::report(Move::SeqSearchNone(p), 2, x);
+    }
+    searching(Move::SeqSearchStart(n), 0, p, x, Found::Nothing)
+}
+
+// Child c tells failure: tries the block behind, if there is one.
+fn next_block(
+    image: &[u8],
+    rels: usize,
+    clauses: usize,
+    n: usize,
+    p: usize,
+    x: Process,
+    c: usize,
+) -> Plan
+    requires { ⌜ (rels ≤ 32) × (clauses ≤ 64) × (n ≤ 65535) × (p < n) × (x .spot .block < 255) ⌝ }
+    ensures { λ r. ⌜ ((s : State) → length (s .procs) ≡ n → appliedOf r ≡ seqSearchNext (ltb (suc (x .spot .block)) (blockCount (programOf (now (image .entry)) rels clauses) (literalAt (programOf (now (image .entry)) rels clauses) (x .spot) .rel))) s p x c) × (r .count ≤ 12) × (r .changes .count ≡ 0) ⌝ }
+{
+    let z = x.spot;
+    let count = blocks(image, rels, clauses, z);
+    let b = z.block + 1;
+    if count <= b as usize {
+        return plan::report(Move::SeqSearchFailure(p), 2, x);
+    }
+    searching(Move::SeqSearchNext(n), b, p, x, Found::At(c))
+}
+
+// Waits for a block that succeeds.
+pub fn wait_seq_search(
+    image: &[u8],
+    rels: usize,
+    clauses: usize,
+    procs: &[u8],
+    n: usize,
+    p: usize,
+    x: Process,
+) -> Plan
+    requires { ⌜ (rels ≤ 32) × (clauses ≤ 64) × (n * 24 ≤ length (now procs)) × (n ≤ 65535) × (p < n) × (x .spot .block < 255) ⌝ }
+    ensures { λ r. ⌜ ((vs : List Binding) → appliedOf r ≡ waitRule seq-search (programOf (now (image .entry)) rels clauses) (record { procs = procsOf (now (procs .entry)) n; vars = vs }) p x) × (r .count ≤ 12) × (r .changes .count ≡ 0) ⌝ }
+{
+    let h = tree::heard(procs, n, p);
+    match h {
+        News::Silent => plan::none(),
+        News::Good(c) => commit(Move::SeqSearchSuccess(p), procs, n, c, x),
+        News::Bad(c) => next_block(image, rels, clauses, n, p, x, c),
+    }
+}
+
+// ---- or-search
+
+// The process that tries clause k, its first variable v.
+fn try_child(p: usize, z: Spot, k: usize, v: usize) -> Process
+    requires { ⌜ (p ≤ 65535) × (k ≤ 255) × (v ≤ 65535) ⌝ }
+    ensures { λ r. ⌜ r ≡ newProcess try-clause ready p (trySpot z k v) ⌝ }
+{
+    let y = plan::try_spot(z, k as u8, v as u16);
+    plan::new_process(5, 1, p, y)
+}
+
+// The process for clause j of block b, as row j; answers the variable behind its own.
+fn try_one(
+    image: &[u8],
+    rels: usize,
+    clauses: usize,
+    rows: &mut [u8],
+    p: usize,
+    z: Spot,
+    rel: usize,
+    b: usize,
+    j: usize,
+    v: usize,
+) -> usize
+    requires { ⌜ (rels ≤ 32) × (clauses ≤ 64) × (p ≤ 65535) × (v ≤ 65535) × (j * 24 + 24 ≤ length (now rows)) ⌝ }
+    ensures { λ r. ⌜ (r ≡ v + varsOf (programOf (now (image .entry)) rels clauses) (getD (blockOf (programOf (now (image .entry)) rels clauses) rel b) j 255)) × (r ≤ v + 510) × Table (now (rows .entry)) (now (rows .exit)) (procsOf (now (rows .entry)) j ++ (newProcess try-clause ready p (trySpot z (getD (blockOf (programOf (now (image .entry)) rels clauses) rel b) j 255) v) ∷ [])) ⌝ }
+{
+    let k = prog::block_clause(image, rels, clauses, rel, b, j);
+    let y = try_child(p, z, k, v);
+    rows::append(rows, j, y);
+    v + prog::vars_of(image, rels, clauses, k)
+}
+
+// A process for each clause of block b; answers the variable behind those of all.
+fn try_all(
+    image: &[u8],
+    rels: usize,
+    clauses: usize,
+    rows: &mut [u8],
+    m: usize,
+    p: usize,
+    z: Spot,
+    rel: usize,
+    b: usize,
+    size: usize,
+) -> usize
+    requires { ⌜ (rels ≤ 32) × (clauses ≤ 64) × (p ≤ 65535) × (size ≡ length (blockOf (programOf (now image) rels clauses) rel b)) × (size * 24 ≤ length (now rows)) × (m + 510 * size ≤ 65535) ⌝ }
+    ensures { λ r. ⌜ (procsOf (now (rows .exit)) size ≡ tries (programOf (now (image .entry)) rels clauses) p z m (blockOf (programOf (now (image .entry)) rels clauses) rel b)) × (r ≡ m + triesVars (programOf (now (image .entry)) rels clauses) (blockOf (programOf (now (image .entry)) rels clauses) rel b)) ⌝ }
+{
+    let mut v = m;
+    let mut j = 0;
+    while j < size {
+        v = try_one(image, rels, clauses, rows, p, z, rel, b, j, v);
+        j += 1;
+    }
+    v
+}
+
+// The first process made, or the mover where there is none.
+fn first_made(size: usize, n: usize, p: usize) -> usize
+    ensures { λ r. ⌜ ((size ≡ 0) → r ≡ p) × ((0 < size) → r ≡ n) ⌝ }
+{
+    if size == 0 { p } else { n }
+}
+
+// Tries every clause of the block.
+pub fn start_or_search(
+    image: &[u8],
+    rels: usize,
+    clauses: usize,
+    n: usize,
+    m: usize,
+    p: usize,
+    x: Process,
+) -> Plan
+    requires { ⌜ (rels ≤ 32) × (clauses ≤ 64) × (n ≤ 65535) × (p < n) × (length (blockAt (programOf (now image) rels clauses) (x .spot)) ≤ 12) × (m + 510 * length (blockAt (programOf (now image) rels clauses) (x .spot)) ≤ 65535) ⌝ }
+    ensures { λ r. ⌜ ((s : State) → length (s .procs) ≡ n → length (s .vars) ≡ m → appliedOf r ≡ startRule or-search (programOf (now (image .entry)) rels clauses) s p x) × (r .count ≤ 12) × (r .changes .count ≡ 0) ⌝ }
+{
+    let z = x.spot;
+    let rel = called(image, rels, clauses, z);
+    let b = z.block as usize;
+    let size = prog::block_size(image, rels, clauses, rel, b);
+    let mut new = [0u8; 288];
+    let v = try_all(image, rels, clauses, &mut new, m, p, z, rel, b, size);
+    let me = plan::with_mode(x, 3);
+    let first = first_made(size, n, p);
+    plan::make(
+        Move::OrSearchStart(first),
+        me,
+        Found::Nothing,
+        size,
+        new,
+        v - m,
+    )
+}
+
+// No child tells success: fails if all tell failure.
+fn or_search_none(procs: &[u8], n: usize, p: usize, x: Process) -> Plan
+    requires { ⌜ n * 24 ≤ length (now procs) ⌝ }
+    ensures { λ r. ⌜ ((s : State) → appliedOf r ≡ orSearchWait Nothing (allChildren failure (procsOf (now (procs .entry)) n) p) s p x) × (r .count ≤ 12) × (r .changes .count ≡ 0) ⌝ }
+{
+    if tree::all_failed(procs, n, p) {
+        return plan::report(Move::OrSearchFailure(p), 2, x);
+    }
+    plan::none()
+}
+
+// Commits to the first clause that succeeds.
+pub fn wait_or_search(procs: &[u8], n: usize, p: usize, x: Process) -> Plan
+    requires { ⌜ (n * 24 ≤ length (now procs)) × (n ≤ 65535) × (p < n) ⌝ }
+    ensures { λ r. ⌜ ((pr : Program) (vs : List Binding) → appliedOf r ≡ waitRule or-search pr (record { procs = procsOf (now (procs .entry)) n; vars = vs }) p x) × (r .count ≤ 12) × (r .changes .count ≡ 0) ⌝ }
+{
+    let f = tree::lowest_success(procs, n, p);
+    let Found::At(c) = f else {
+        return or_search_none(procs, n, p, x);
+    };
+    commit(Move::OrSearchCommit(p), procs, n, c, x)
+}
