@@ -1,0 +1,2 @@
+-- What the contracts of matching name beside the definitions.
+pub mod Starts
