@@ -16,7 +16,7 @@ use Rattle.parlog.specs.Scan.{implies}
 use Rattle.parlog.specs.TableRules.{blockIn, callIn, clauseIn, equalityIn, foundIn, goalIn, goalInBy, goingOk, isEquality, literalIn, placesOk, succeeds, tryIn}
 use Rattle.parlog.specs.declared.Process.{Process}
 use Rattle.parlog.specs.declared.Spot.{Spot}
-use Rattle.prog.proofs.Rows.{list-length}
+use Rattle.parlog.proofs.Along.{list-length}
 use Rattle.prog.specs.Parts.{shown}
 use Rattle.prog.specs.declared.Lit.{Lit}
 use Rattle.sound.specs.Parts.{behindCall, behindGoal, behindLiteral}
