@@ -5,3 +5,4 @@ pub mod Inside
 pub mod Rows
 pub mod Sanity
 pub mod Sizes
+pub mod Heads
