@@ -63,7 +63,7 @@ module _ {dd : Decided} {d : Decision} (is : Decides dd d) where
   itself = rw (is .told) is
 
   noted-is : toNote d ≡ notesOf dd
-  noted-is = let l : length (notesOf dd) ≤ 4 = rw (is .counted) at (is .short) in rw (is .filled, is .counted) (row-back (notesOf dd) l)
+  noted-is = let l : length (notesOf dd) ≤ 4 = rw (is .noting) at (is .short) in rw (is .filled, is .noting) (row-back (notesOf dd) l)
 
   -- what is made can be written
   bound-writable : {n m : ℕ} → n ≡ m → Writable n (changesOf dd) → Writable m (toBind d)
