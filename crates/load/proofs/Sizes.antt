@@ -24,8 +24,8 @@ stage-few : (s : List ℕ) (from : ℕ) → goalRange s from ≡ true → (i : �
 unfolding goalOf stageOf
 stage-few s from e i = split (ltb i (byteAt s from))
     (λ h. let l = ltb-true i (byteAt s from) h in
-        let f = goal-fields s from e .few i l in
-        rw (list-at (stageOf s) (stageEnd s) (byteAt s from) (from + 1) i [] l, list-length (literalOf s) (literalEnd s)) f)
+    let f = goal-fields s from e .few i l in
+    rw (list-at (stageOf s) (stageEnd s) (byteAt s from) (from + 1) i [] l, list-length (literalOf s) (literalEnd s)) f)
     (λ h. rw (list-past (stageOf s) (stageEnd s) (byteAt s from) (from + 1) i [] (ltb-false i (byteAt s from) h)) (omega arith))
 
 outputs-few : (ms : List ℕ) (ts : List Term) (v : ℕ) → length (outputs ms ts v) ≤ length ms

@@ -90,7 +90,7 @@ module _ (pr : Program) (r b : ℕ) where
 
   -- with clause n its block has as many clauses as its run
   run-by : (n : ℕ) → test (suc n) ≡ true → (o : Bool) → opens pr r (suc n) ≡ o → (test n ≡ true → length (those test (suc n)) ≡ runSize pr n)
-    → suc (length (those test (suc n))) ≡ runSize pr (suc n)
+      → suc (length (those test (suc n))) ≡ runSize pr (suc n)
   run-by n e true o back = rw (none-before (suc n) o e) (sym (opens-run (suc n) (in-rel (suc n) e) o))
   run-by n e false o back = let j = joins-run n e o in ap suc (back (j .0)) ∙ sym (j .1)
 
