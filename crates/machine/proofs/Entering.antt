@@ -1,0 +1,73 @@
+-- The ways through the first tests of a call.
+use mathlib.Core.Path.{_∙_, _≡_, sym}
+use mathlib.Core.Bool.{_&&_, Bool, false, true}
+use mathlib.Core.List.{List}
+use Prim.Native.Nat.{_*_, _≤_, ℕ}
+use lib.Dec.{eqb, ltb}
+use lib.ListN.{length}
+use borrow.Author.Tests.{eqb-true}
+use native.Mathlib.Omega.{arith}
+use Rattle.load.specs.Bounds.{Bounded}
+use Rattle.machine.specs.Entered.{EnterSays, Inside}
+use Rattle.parlog.proofs.Assume.{assume-counts}
+use Rattle.parlog.proofs.Bools.{and-true}
+use Rattle.parlog.specs.Calls.{enter}
+use Rattle.parlog.specs.Limits.{Limits, small}
+use Rattle.parlog.specs.Load.{loadOf, refusal}
+use Rattle.parlog.specs.Program.{programOf}
+use Rattle.parlog.specs.Scan.{every}
+use Rattle.parlog.specs.TableRules.{cellKnown, fullSize, lentOk, stateOk, tablesOk}
+use Rattle.parlog.specs.Tables.{at, Lent, markerLast, procCount, tablesIn, varCount}
+use Rattle.parlog.specs.declared.Loaded.{Loaded}
+use Rattle.parlog.specs.declared.Loaded.the-variants.{Accepted, Refused}
+use Rattle.parlog.specs.declared.Refusal.{Refusal}
+use Rattle.rows.proofs.Tables.{procs-length}
+use Rattle.vars.proofs.Tables.{vars-length}
+
+-- the limits, as the tests are given them
+abbrev limits : Limits
+limits = record { procs = 512; vars = 1024 }
+
+lent-inside : (s : List ℕ) (r c : ℕ) (l : Lent) → r ≤ 32 → c ≤ 64 → lentOk limits (programOf s r c) l ≡ true → Inside s r c l
+unfolding lentOk fullSize tablesOk tablesIn
+lent-inside s r c l hr hc e =
+    let a = and-true (fullSize limits l) (every (cellKnown (l .vars)) (varCount (l .head)) && tablesOk limits (programOf s r c) (tablesIn l)) e in
+    let b = and-true (every (cellKnown (l .vars)) (varCount (l .head))) (tablesOk limits (programOf s r c) (tablesIn l)) (a .1) in
+    let t = and-true (stateOk limits (programOf s r c) (tablesIn l .state)) (ltb (markerLast (l .head)) (length (tablesIn l .state .procs))) (b .1) in
+    let k = assume-counts limits (programOf s r c) (tablesIn l .state) (t .0) in
+    let x = and-true (eqb (length (l .head)) 10) (eqb (length (l .procs)) (512 * 24) && eqb (length (l .vars)) (1024 * 4)) (a .0) in
+    let y = and-true (eqb (length (l .procs)) (512 * 24)) (eqb (length (l .vars)) (1024 * 4)) (x .1) in
+    let h = eqb-true (length (l .head)) 10 (x .0) in
+    let p = eqb-true (length (l .procs)) (512 * 24) (y .0) in
+    let v = eqb-true (length (l .vars)) (1024 * 4) (y .1) in
+    let np = procs-length (l .procs) (procCount (l .head)) in
+    let nv = vars-length (l .vars) (varCount (l .head)) in
+    record {
+      relations = hr;
+      clauses = hc;
+      head = h;
+      rows = omega (arith, p, np, k .1);
+      cells = omega (arith, v, nv, k .3);
+      goal = omega (arith, nv, k .2);
+      cells-known = b .0;
+    }
+
+module _ (s : List ℕ) (l : Lent) {a : Loaded} (is : a ≡ loadOf s) where
+  pub enter-refused : {f : Refusal} → a ≡ Refused f → EnterSays s l a
+  unfolding enter
+  enter-refused e = rw e (record { entry = rw (sym is ∙ e); inside = tt })
+
+  module _ {r c : ℕ} (e : a ≡ Accepted r c) {ok : Bool} (test : ok ≡ lentOk limits (programOf s r c) l) where
+    pub enter-turned : ok ≡ false → {f : Refusal} → f ≡ refusal 8 0 → EnterSays s l (Refused f)
+    unfolding enter small
+    enter-turned h ef = record { entry = rw (sym is ∙ e, sym test ∙ h, ef); inside = tt }
+
+    pub enter-entered : ok ≡ true → Bounded (length s) a → EnterSays s l (Accepted r c)
+    unfolding enter small
+    enter-entered h b =
+        let k = rw e at b in
+        record { entry = rw (sym is ∙ e, sym test ∙ h); inside = lent-inside s r c l (k .0) (k .1) (sym test ∙ h) }
+
+-- what a call knows that was let in
+pub inside-of : (s : List ℕ) (l : Lent) {a : Loaded} {r c : ℕ} → EnterSays s l a → a ≡ Accepted r c → Inside s r c l
+inside-of s l h e = rw e at (h .inside)

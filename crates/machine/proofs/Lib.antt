@@ -1,0 +1,6 @@
+-- The laws of the calls.
+pub mod Entering
+pub mod Looking
+pub mod Beginning
+pub mod Giving
+pub mod Once

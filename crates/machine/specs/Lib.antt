@@ -1,0 +1,4 @@
+-- What the calls promise.
+pub mod Entered
+pub mod Starting
+pub mod Supplying

@@ -1,0 +1,268 @@
+// The calls over lent bytes: a start, a supply, and the value of a goal variable.
+use parlog::Loaded;
+use parlog::Process;
+use parlog::Refusal;
+use parlog::Spot;
+use parlog::Started;
+use parlog::Supplied;
+use parlog::Term;
+use parlog::Valued;
+ghost use mathlib.Core.Path.{_≡_};
+ghost use mathlib.Core.Bool.{cond};
+ghost use Prim.Native.Nat.{_+_, _*_, _≤_, _<_};
+ghost use lib.Dec.{leb, ltb};
+ghost use lib.ListN.{length};
+ghost use Rattle.parlog.specs.Calls.{valueAnswer, valueCall};
+ghost use Rattle.parlog.specs.Codes.{starting, the-goal};
+ghost use Rattle.parlog.specs.Limits.{small};
+ghost use Rattle.parlog.specs.Load.{refusal};
+ghost use Rattle.parlog.specs.Program.{programOf, tagOfGoal};
+ghost use Rattle.parlog.specs.Run.{seen, unseen};
+ghost use Rattle.parlog.specs.Tables.{goalSpot, newProcess, numberCode, startedLent, varCount, varsIn};
+ghost use Rattle.parlog.specs.Unify.{value};
+ghost use Rattle.parlog.specs.declared.Binding.the-variants.{Bound};
+ghost use Rattle.parlog.specs.declared.Supplied.the-variants.{Ungiven};
+ghost use Rattle.parlog.specs.declared.Term.the-variants.{Var};
+ghost use Rattle.machine.specs.Entered.{EnterSays};
+ghost use Rattle.machine.specs.Starting.{BeginSays, StartSays, StartableSays};
+ghost use Rattle.machine.specs.Supplying.{DecidedSays, SupplySays, askedOf, givenBy, isConst};
+
+// A refusal of these numbers; it has no offset.
+fn refusal(number: u8) -> Refusal
+    ensures { λ r. ⌜ r ≡ refusal number 0 ⌝ }
+{
+    Refusal {
+        number: number,
+        offset: 0,
+    }
+}
+
+// The image first, then the table rules: the counts of the program, or the refusal.
+fn enter(image: &[u8], head: &[u8], procs: &[u8], vars: &[u8]) -> Loaded
+    ensures { λ r. ⌜ EnterSays (now (image .entry)) (record { head = now (head .entry); procs = now (procs .entry); vars = now (vars .entry) }) r ⌝ }
+{
+    let l = load::load(image);
+    let Loaded::Accepted(rels, clauses) = l else {
+        return l;
+    };
+    if !sound::lent_ok(image, rels, clauses, head, procs, vars, 512, 1024) {
+        return Loaded::Refused(refusal(8));
+    }
+    l
+}
+
+// The value of a goal variable, in tables that keep the rules.
+fn look(
+    image: &[u8],
+    rels: usize,
+    clauses: usize,
+    head: &[u8],
+    vars: &[u8],
+    variable: u32,
+) -> Valued
+    requires { ⌜ (rels ≤ 32) × (clauses ≤ 64) × (10 ≤ length (now head)) × (varCount (now head) * 4 ≤ length (now vars)) × (programOf (now image) rels clauses .goalVars ≤ varCount (now head)) ⌝ }
+    ensures { λ r. ⌜ r ≡ valueAnswer (cond (ltb variable (programOf (now (image .entry)) rels clauses .goalVars)) (seen (value (varsIn (now (vars .entry)) (varCount (now (head .entry)))) (Var variable))) (unseen 12)) ⌝ }
+{
+    let goal = prog::goal_vars(image, rels, clauses);
+    if goal <= (variable as usize) {
+        return Valued::Unvalued(refusal(12));
+    }
+    let n = head::var_count(head);
+    let seen = unify::value_of(vars, n, Term::Var(variable));
+    Valued::Value(seen)
+}
+
+// The value of a goal variable.
+pub fn value(image: &[u8], head: &[u8], procs: &[u8], vars: &[u8], variable: u32) -> Valued
+    ensures { λ r. ⌜ r ≡ valueCall small (now (image .entry)) (record { head = now (head .entry); procs = now (procs .entry); vars = now (vars .entry) }) variable ⌝ }
+{
+    let e = enter(image, head, procs, vars);
+    let Loaded::Accepted(rels, clauses) = e else {
+        let r = load::refusal(e);
+        return Valued::Unvalued(r);
+    };
+    look(image, rels, clauses, head, vars, variable)
+}
+
+// ---- the start
+
+// The image first, then the sizes: the counts of the program, or the refusal.
+fn startable(image: &[u8], head: &[u8], procs: &[u8], vars: &[u8]) -> Loaded
+    ensures { λ r. ⌜ StartableSays (now (image .entry)) (record { head = now (head .entry); procs = now (procs .entry); vars = now (vars .entry) }) r ⌝ }
+{
+    let l = load::load(image);
+    let Loaded::Accepted(rels, clauses) = l else {
+        return l;
+    };
+    if !sound::full_size(head, procs, vars, 512, 1024) {
+        return Loaded::Refused(refusal(8));
+    }
+    l
+}
+
+// The process of the image's goal, about to start.
+fn goal_process(image: &[u8], rels: usize, clauses: usize) -> Process
+    requires { ⌜ (rels ≤ 32) × (clauses ≤ 64) ⌝ }
+    ensures { λ r. ⌜ r ≡ newProcess (tagOfGoal (programOf (now (image .entry)) rels clauses .goal)) starting 0 (goalSpot the-goal 0 0) ⌝ }
+{
+    let tag = prog::tag_of_goal_by(image, rels, clauses, 0, 0);
+    let spot = Spot {
+        kind: 0,
+        clause: 0,
+        base: 0,
+        stage: 0,
+        literal: 0,
+        block: 0,
+        found: 0,
+        first: 0,
+    };
+    let notes = [0, 0, 0, 0];
+    Process {
+        tag: tag,
+        mode: 2,
+        result: 0,
+        count: 0,
+        parent: 0,
+        spot: spot,
+        notes: notes,
+    }
+}
+
+// The process table of a start: the goal's process, and zeros.
+fn begin_procs(image: &[u8], rels: usize, clauses: usize, procs: &mut [u8])
+    requires { ⌜ (rels ≤ 32) × (clauses ≤ 64) × (length (now procs) ≡ 12288) ⌝ }
+    ensures { λ _. ⌜ now (procs .exit) ≡ startedLent small (programOf (now (image .entry)) rels clauses) .procs ⌝ }
+{
+    let x = goal_process(image, rels, clauses);
+    rows::wipe(procs, 0, 12288);
+    rows::append(procs, 0, x);
+}
+
+// All three: the counts, the goal's process, and its variables unbound.
+fn begin(
+    image: &[u8],
+    rels: usize,
+    clauses: usize,
+    head: &mut [u8],
+    procs: &mut [u8],
+    vars: &mut [u8],
+)
+    requires { ⌜ (rels ≤ 32) × (clauses ≤ 64) × (length (now head) ≡ 10) × (length (now procs) ≡ 12288) × (length (now vars) ≡ 4096) ⌝ }
+    ensures { λ _. ⌜ BeginSays (programOf (now (image .entry)) rels clauses) (now (head .exit)) (now (procs .exit)) (now (vars .exit)) ⌝ }
+{
+    let goal = prog::goal_vars(image, rels, clauses);
+    begin_procs(image, rels, clauses, procs);
+    rows::wipe(vars, 0, 4096);
+    head::put_head(head, 1, goal, 0, 0);
+}
+
+// A start: the tables of a run that has not moved yet.
+pub fn start(image: &[u8], head: &mut [u8], procs: &mut [u8], vars: &mut [u8]) -> Started
+    ensures { λ r. ⌜ StartSays (now (image .entry)) (record { head = now (head .entry); procs = now (procs .entry); vars = now (vars .entry) }) r (now (head .exit)) (now (procs .exit)) (now (vars .exit)) ⌝ }
+{
+    let a = startable(image, head, procs, vars);
+    let Loaded::Accepted(rels, clauses) = a else {
+        let r = load::refusal(a);
+        return Started::Unstarted(r);
+    };
+    begin(image, rels, clauses, head, procs, vars);
+    Started::Begun
+}
+
+// ---- the supply
+
+// The value is known already.
+fn is_const(t: Term) -> bool
+    ensures { λ r. ⌜ r ≡ isConst t ⌝ }
+{
+    match t {
+        Term::Const(_) => true,
+        Term::Var(_) => false,
+    }
+}
+
+// The number of a term.
+fn number_of(t: Term) -> usize
+    ensures { λ r. ⌜ r ≡ numberCode (Bound t) ⌝ }
+{
+    match t {
+        Term::Const(c) => c as usize,
+        Term::Var(v) => v as usize,
+    }
+}
+
+// A constant for a variable whose value is t: it must be one that an image can have, before t is looked at.
+fn given(t: Term, constant: u32) -> Supplied
+    ensures { λ r. ⌜ r ≡ cond (leb constant 32767) (givenBy t) (Ungiven (refusal 14 0)) ⌝ }
+{
+    let large = 32767 < constant;
+    let known = is_const(t);
+    if large {
+        return Supplied::Ungiven(refusal(14));
+    }
+    if known {
+        return Supplied::Ungiven(refusal(13));
+    }
+    Supplied::Given(number_of(t))
+}
+
+// What a supply answers, in tables that keep the rules; nothing is written yet.
+fn asked(
+    image: &[u8],
+    rels: usize,
+    clauses: usize,
+    head: &[u8],
+    vars: &[u8],
+    variable: u32,
+    value: u32,
+) -> Supplied
+    requires { ⌜ (rels ≤ 32) × (clauses ≤ 64) × (10 ≤ length (now head)) × (varCount (now head) * 4 ≤ length (now vars)) × (programOf (now image) rels clauses .goalVars ≤ varCount (now head)) ⌝ }
+    ensures { λ r. ⌜ r ≡ askedOf (programOf (now (image .entry)) rels clauses) (varsIn (now (vars .entry)) (varCount (now (head .entry)))) variable value ⌝ }
+{
+    let goal = prog::goal_vars(image, rels, clauses);
+    if goal <= (variable as usize) {
+        return Supplied::Ungiven(refusal(12));
+    }
+    let n = head::var_count(head);
+    let t = unify::value_of(vars, n, Term::Var(variable));
+    given(t, value)
+}
+
+// The same, with the tests that come first.
+fn decided(
+    image: &[u8],
+    head: &[u8],
+    procs: &[u8],
+    vars: &[u8],
+    variable: u32,
+    value: u32,
+) -> Supplied
+    ensures { λ r. ⌜ DecidedSays (now (image .entry)) (record { head = now (head .entry); procs = now (procs .entry); vars = now (vars .entry) }) variable value r ⌝ }
+{
+    let e = enter(image, head, procs, vars);
+    let Loaded::Accepted(rels, clauses) = e else {
+        let r = load::refusal(e);
+        return Supplied::Ungiven(r);
+    };
+    asked(image, rels, clauses, head, vars, variable, value)
+}
+
+// A supply: the value of a goal variable becomes bound to a constant.
+pub fn supply(
+    image: &[u8],
+    head: &[u8],
+    procs: &[u8],
+    vars: &mut [u8],
+    variable: u32,
+    value: u32,
+) -> Supplied
+    ensures { λ r. ⌜ SupplySays (now (image .entry)) (record { head = now (head .entry); procs = now (procs .entry); vars = now (vars .entry) }) variable value r (now (head .entry)) (now (procs .entry)) (now (vars .exit)) ⌝ }
+{
+    let a = decided(image, head, procs, vars, variable, value);
+    let Supplied::Given(v) = a else {
+        return a;
+    };
+    let n = head::var_count(head);
+    vars::bind(vars, n, v, Term::Const(value));
+    a
+}
