@@ -27,7 +27,16 @@ ghost use Rattle.machine.specs.Entered.{EnterSays};
 ghost use Rattle.machine.specs.Starting.{BeginSays, StartSays, StartableSays};
 ghost use Rattle.machine.specs.Supplying.{DecidedSays, SupplySays, askedOf, givenBy, isConst};
 
-// A refusal of these numbers; it has no offset.
+// The limits of a run, and the sizes of its two tables.
+const PROCS: usize = 512;
+
+const VARS: usize = 1024;
+
+const PROC_BYTES: usize = 12288;
+
+const VAR_BYTES: usize = 4096;
+
+// A refusal with this number; it has no offset.
 fn refusal(number: u8) -> Refusal
     ensures { λ r. ⌜ r ≡ refusal number 0 ⌝ }
 {
@@ -45,11 +54,13 @@ fn enter(image: &[u8], head: &[u8], procs: &[u8], vars: &[u8]) -> Loaded
     let Loaded::Accepted(rels, clauses) = l else {
         return l;
     };
-    if !sound::lent_ok(image, rels, clauses, head, procs, vars, 512, 1024) {
+    if !sound::lent_ok(image, rels, clauses, head, procs, vars, PROCS, VARS) {
         return Loaded::Refused(refusal(8));
     }
     l
 }
+
+// ---- the value
 
 // The value of a goal variable, in tables that keep the rules.
 fn look(
@@ -94,7 +105,7 @@ fn startable(image: &[u8], head: &[u8], procs: &[u8], vars: &[u8]) -> Loaded
     let Loaded::Accepted(rels, clauses) = l else {
         return l;
     };
-    if !sound::full_size(head, procs, vars, 512, 1024) {
+    if !sound::full_size(head, procs, vars, PROCS, VARS) {
         return Loaded::Refused(refusal(8));
     }
     l
@@ -134,7 +145,7 @@ fn begin_procs(image: &[u8], rels: usize, clauses: usize, procs: &mut [u8])
     ensures { λ _. ⌜ now (procs .exit) ≡ startedLent small (programOf (now (image .entry)) rels clauses) .procs ⌝ }
 {
     let x = goal_process(image, rels, clauses);
-    rows::wipe(procs, 0, 12288);
+    rows::wipe(procs, 0, PROC_BYTES);
     rows::append(procs, 0, x);
 }
 
@@ -152,7 +163,7 @@ fn begin(
 {
     let goal = prog::goal_vars(image, rels, clauses);
     begin_procs(image, rels, clauses, procs);
-    rows::wipe(vars, 0, 4096);
+    rows::wipe(vars, 0, VAR_BYTES);
     head::put_head(head, 1, goal, 0, 0);
 }
 
