@@ -1,0 +1,115 @@
+// The rule that applies to a process, by its tag and mode: it reads the tables and answers a plan.
+ghost use mathlib.Core.Path.{_≡_};
+ghost use mathlib.Core.Logic.{_≢_};
+ghost use mathlib.Core.List.{List};
+ghost use Prim.Native.Nat.{_*_, _≤_, _<_};
+ghost use lib.ListN.{length};
+ghost use Rattle.parlog.specs.Codes.{tagOf};
+ghost use Rattle.parlog.specs.Program.{programOf, stageAt};
+ghost use Rattle.parlog.specs.Rules.{blockAt, ruleOf, startRule, waitRule};
+ghost use Rattle.parlog.specs.Tables.{procsOf, State, varsIn};
+ghost use Rattle.parlog.specs.declared.Binding.{Binding};
+ghost use Rattle.plan.specs.Plans.{appliedOf, stateIn, Within};
+ghost use Rattle.moves.specs.Legal.{Able, Legal};
+use parlog::Process;
+use plan::Plan;
+
+// A process about to start whose rule binds nothing, by its tag.
+fn start_tree(
+    image: &[u8],
+    rels: usize,
+    clauses: usize,
+    n: usize,
+    m: usize,
+    p: usize,
+    x: Process,
+) -> Plan
+    requires { ⌜ (rels ≤ 32) × (clauses ≤ 64) × (n ≤ 65535) × (m ≤ 60000) × (p < n) × (x .tag < 9) × (x .tag ≢ 6) × (x .tag ≢ 8) × (length (stageAt (programOf (now image) rels clauses) (x .spot)) ≤ 12) × (length (blockAt (programOf (now image) rels clauses) (x .spot)) ≤ 8) ⌝ }
+    ensures { λ r. ⌜ ((s : State) → length (s .procs) ≡ n → length (s .vars) ≡ m → appliedOf r ≡ startRule (tagOf (x .tag)) (programOf (now (image .entry)) rels clauses) s p x) × (r .count ≤ 12) × (r .changes .count ≡ 0) ⌝ }
+{
+    let t = x.tag;
+    match t {
+        0 => rules_and::start_and_par(image, rels, clauses, n, p, x),
+        1 => rules_and::start_and_seq(image, rels, clauses, n, p, x),
+        2 => rules_or::start_or_par(n, p, x),
+        3 => rules_or::start_seq_search(image, rels, clauses, n, p, x),
+        4 => rules_or::start_or_search(image, rels, clauses, n, m, p, x),
+        5 => rules_and::start_try_clause(n, p, x),
+        _ => rules_and::start_guard_eval(image, rels, clauses, n, p, x),
+    }
+}
+
+// A process about to start, by its tag.
+fn start_rule(
+    image: &[u8],
+    rels: usize,
+    clauses: usize,
+    procs: &[u8],
+    n: usize,
+    vars: &[u8],
+    m: usize,
+    p: usize,
+    x: Process,
+) -> Plan
+    requires { ⌜ (rels ≤ 32) × (clauses ≤ 64) × (n * 24 ≤ length (now procs)) × (n ≤ 65535) × (m * 4 ≤ length (now vars)) × (m ≤ 60000) × (p < n) × Able (programOf (now image) rels clauses) (varsIn (now vars) m) x ⌝ }
+    ensures { λ r. ⌜ (appliedOf r ≡ startRule (tagOf (x .tag)) (programOf (now (image .entry)) rels clauses) (stateIn (now (procs .entry)) n (now (vars .entry)) m) p x) × (r .count ≤ 12) × (r .changes .count ≤ 4) × Within m (r .changes .count) (r .changes .list) ⌝ }
+{
+    let t = x.tag;
+    match t {
+        6 => rules_match::start_input_match(image, rels, clauses, vars, m, p, x),
+        8 => rules_match::start_equate(image, rels, clauses, procs, n, vars, m, p, x),
+        _ => start_tree(image, rels, clauses, n, m, p, x),
+    }
+}
+
+// A process that waits, by its tag.
+fn wait_rule(
+    image: &[u8],
+    rels: usize,
+    clauses: usize,
+    procs: &[u8],
+    n: usize,
+    p: usize,
+    x: Process,
+) -> Plan
+    requires { ⌜ (rels ≤ 32) × (clauses ≤ 64) × (n * 24 ≤ length (now procs)) × (n ≤ 65535) × (p < n) × (x .tag < 9) × (x .tag ≡ 1 → x .spot .stage < 255) × (x .tag ≡ 3 → x .spot .block < 255) ⌝ }
+    ensures { λ r. ⌜ ((vs : List Binding) → appliedOf r ≡ waitRule (tagOf (x .tag)) (programOf (now (image .entry)) rels clauses) (record { procs = procsOf (now (procs .entry)) n; vars = vs }) p x) × (r .count ≤ 12) × (r .changes .count ≡ 0) ⌝ }
+{
+    let t = x.tag;
+    match t {
+        0 => rules_and::wait_and_par(procs, n, p, x),
+        1 => rules_and::wait_and_seq(procs, n, p, x),
+        2 => rules_or::wait_or_par(image, rels, clauses, procs, n, p, x),
+        3 => rules_or::wait_seq_search(image, rels, clauses, procs, n, p, x),
+        4 => rules_or::wait_or_search(procs, n, p, x),
+        5 => rules_and::wait_try_clause(procs, n, p, x),
+        7 => rules_and::wait_guard_eval(procs, n, p, x),
+        _ => plan::none(),
+    }
+}
+
+// The rule that applies to process p, as a plan.
+pub fn rule_of(
+    image: &[u8],
+    rels: usize,
+    clauses: usize,
+    procs: &[u8],
+    n: usize,
+    vars: &[u8],
+    m: usize,
+    p: usize,
+) -> Plan
+    requires { ⌜ (rels ≤ 32) × (clauses ≤ 64) × (n * 24 ≤ length (now procs)) × (n ≤ 65535) × (m * 4 ≤ length (now vars)) × (m ≤ 60000) × (p < n) × Legal (programOf (now image) rels clauses) (stateIn (now procs) n (now vars) m) p ⌝ }
+    ensures { λ r. ⌜ (appliedOf r ≡ ruleOf (programOf (now (image .entry)) rels clauses) (stateIn (now (procs .entry)) n (now (vars .entry)) m) p) × (r .count ≤ 12) × (r .changes .count ≤ 4) × Within m (r .changes .count) (r .changes .list) ⌝ }
+{
+    let x = rows::get(procs, n, p);
+    let mode = x.mode;
+    match mode {
+        0 => plan::none(),
+        1 => rules_and::ready(p, x),
+        2 => start_rule(image, rels, clauses, procs, n, vars, m, p, x),
+        3 => wait_rule(image, rels, clauses, procs, n, p, x),
+        4 => rules_and::stop(p, x),
+        _ => rules_match::wake(vars, m, p, x),
+    }
+}
