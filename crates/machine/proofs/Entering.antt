@@ -5,7 +5,7 @@ use mathlib.Core.List.{List}
 use Prim.Native.Nat.{_*_, _≤_, ℕ}
 use lib.Dec.{eqb, ltb}
 use lib.ListN.{length}
-use borrow.Author.Tests.{eqb-true}
+use borrow.Author.Tests.{eqb-true, ltb-true}
 use native.Mathlib.Omega.{arith}
 use Rattle.load.specs.Bounds.{Bounded}
 use Rattle.machine.specs.Entered.{EnterSays, Inside}
@@ -28,13 +28,15 @@ use Rattle.vars.proofs.Tables.{vars-length}
 abbrev limits : Limits
 limits = record { procs = 512; vars = 1024 }
 
-lent-inside : (s : List ℕ) (r c : ℕ) (l : Lent) → r ≤ 32 → c ≤ 64 → lentOk limits (programOf s r c) l ≡ true → Inside s r c l
-unfolding lentOk fullSize tablesOk tablesIn
-lent-inside s r c l hr hc e =
+-- THE LAW: what an accepted image and good tables give
+pub lent-inside : (s : List ℕ) (r c : ℕ) (l : Lent) → loadOf s ≡ Accepted r c → r ≤ 32 → c ≤ 64 → lentOk small (programOf s r c) l ≡ true → Inside s r c l
+unfolding lentOk fullSize tablesOk tablesIn small
+lent-inside s r c l el hr hc e =
     let a = and-true (fullSize limits l) (every (cellKnown (l .vars)) (varCount (l .head)) && tablesOk limits (programOf s r c) (tablesIn l)) e in
     let b = and-true (every (cellKnown (l .vars)) (varCount (l .head))) (tablesOk limits (programOf s r c) (tablesIn l)) (a .1) in
     let t = and-true (stateOk limits (programOf s r c) (tablesIn l .state)) (ltb (markerLast (l .head)) (length (tablesIn l .state .procs))) (b .1) in
     let k = assume-counts limits (programOf s r c) (tablesIn l .state) (t .0) in
+    let m = ltb-true (markerLast (l .head)) (length (tablesIn l .state .procs)) (t .1) in
     let x = and-true (eqb (length (l .head)) 10) (eqb (length (l .procs)) (512 * 24) && eqb (length (l .vars)) (1024 * 4)) (a .0) in
     let y = and-true (eqb (length (l .procs)) (512 * 24)) (eqb (length (l .vars)) (1024 * 4)) (x .1) in
     let h = eqb-true (length (l .head)) 10 (x .0) in
@@ -43,9 +45,17 @@ lent-inside s r c l hr hc e =
     let np = procs-length (l .procs) (procCount (l .head)) in
     let nv = vars-length (l .vars) (varCount (l .head)) in
     record {
+      loaded = el;
+      good = e;
       relations = hr;
       clauses = hc;
       head = h;
+      procs-size = omega (arith, p);
+      vars-size = omega (arith, v);
+      some = omega (arith, np, k .0);
+      procs-most = omega (arith, np, k .1);
+      vars-most = omega (arith, nv, k .3);
+      last = omega (arith, np, m);
       rows = omega (arith, p, np, k .1);
       cells = omega (arith, v, nv, k .3);
       goal = omega (arith, nv, k .2);
@@ -66,7 +76,7 @@ module _ (s : List ℕ) (l : Lent) {a : Loaded} (is : a ≡ loadOf s) where
     unfolding enter small
     enter-entered h b =
         let k = rw e at b in
-        record { entry = rw (sym is ∙ e, sym test ∙ h); inside = lent-inside s r c l (k .0) (k .1) (sym test ∙ h) }
+        record { entry = rw (sym is ∙ e, sym test ∙ h); inside = lent-inside s r c l (sym is ∙ e) (k .0) (k .1) (unfold small in sym test ∙ h) }
 
 -- what a call knows that was let in
 pub inside-of : (s : List ℕ) (l : Lent) {a : Loaded} {r c : ℕ} → EnterSays s l a → a ≡ Accepted r c → Inside s r c l

@@ -37,7 +37,7 @@ const PROC_BYTES: usize = 12288;
 const VAR_BYTES: usize = 4096;
 
 // A refusal with this number; it has no offset.
-fn refusal(number: u8) -> Refusal
+pub fn refusal(number: u8) -> Refusal
     ensures { λ r. ⌜ r ≡ refusal number 0 ⌝ }
 {
     Refusal {
@@ -47,7 +47,7 @@ fn refusal(number: u8) -> Refusal
 }
 
 // The image first, then the table rules: the counts of the program, or the refusal.
-fn enter(image: &[u8], head: &[u8], procs: &[u8], vars: &[u8]) -> Loaded
+pub fn enter(image: &[u8], head: &[u8], procs: &[u8], vars: &[u8]) -> Loaded
     ensures { λ r. ⌜ EnterSays (now (image .entry)) (record { head = now (head .entry); procs = now (procs .entry); vars = now (vars .entry) }) r ⌝ }
 {
     let l = load::load(image);
