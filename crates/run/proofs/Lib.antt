@@ -1,0 +1,2 @@
+-- The laws of the turn and the run.
+pub mod Runs
