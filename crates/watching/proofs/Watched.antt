@@ -31,7 +31,7 @@ quiet-start ps i h = absurd (omega arith)
 -- the lowest number of a suspended process
 pub record First (ps : List Process) (i : ℕ) : Type 0 where
   pub there : i < length ps
-  pub sleeps : suspendedAt ps i ≡ true
+  pub suspends : suspendedAt ps i ≡ true
   pub quiet : Quiet ps i
 
 module _ (ps : List Process) where
@@ -39,7 +39,7 @@ module _ (ps : List Process) where
   unfolding watchOf
   watch-at i e =
       let r = lowest-at (suspendedAt ps) (length ps) i e in
-      record { there = r .there; sleeps = r .passes; quiet = λ j h. not-so (suspendedAt ps j) (λ p. absurd (let l = r .least j (omega (arith, r .there)) p in omega arith)) }
+      record { there = r .there; suspends = r .passes; quiet = λ j h. not-so (suspendedAt ps j) (λ p. absurd (let l = r .least j (omega (arith, r .there)) p in omega arith)) }
 
   pub watch-none : watchOf ps ≡ Nothing → Quiet ps (length ps)
   unfolding watchOf
@@ -49,7 +49,7 @@ module _ (ps : List Process) where
 
   pub watch-first : (i : ℕ) → First ps i → watchOf ps ≡ At i
   unfolding watchOf
-  watch-first i f = lowest-is (suspendedAt ps) (length ps) i (record { there = f .there; passes = f .sleeps; least = least })
+  watch-first i f = lowest-is (suspendedAt ps) (length ps) i (record { there = f .there; passes = f .suspends; least = least })
     where
       least : (j : ℕ) → j < length ps → suspendedAt ps j ≡ true → i ≤ j
       least j h p = split (ltb j i) (λ z. never (sym (f .quiet j (ltb-true j i z)) ∙ p)) (λ z. ltb-false j i z)
@@ -66,7 +66,7 @@ module _ (ps : List Process) (q : ℕ) (so : Quiet ps q) where
 
   module _ {b : Bool} (e : b ≡ suspendedAt ps q) where
     pub watch-hit : q < length ps → b ≡ true → watchOf ps ≡ At q
-    watch-hit h y = watch-first ps q (record { there = h; sleeps = sym e ∙ y; quiet = so })
+    watch-hit h y = watch-first ps q (record { there = h; suspends = sym e ∙ y; quiet = so })
 
     pub quiet-next : b ≡ false → Quiet ps (q + 1)
     quiet-next y i u = below-suc i q (omega arith) (λ z. rw z (sym e ∙ y)) (λ l. so i l)
