@@ -159,21 +159,21 @@ one-less limit k h = omega arith
 
 module _ (s : List ℕ) (r c : ℕ) (l₀ : Lent) (limit : ℕ) where
   pub going-start : Inside s r c l₀ → Bytes (l₀ .head) → Bytes (l₀ .procs) → Bytes (l₀ .vars) → Going s r c l₀ l₀ limit 0
-  going-start i hs ps vs = record { inside = i; most = omega arith; rest = ap (λ (k : ℕ). runFrom k small (programOf s r c) 0 (tablesIn l₀)) (omega arith); grown = grown-same l₀ i hs ps vs }
+  going-start i hs ps vs = record { inside = i; most = omega arith; rest = ap (λ (k : ℕ). runFrom k small (programOf s r c) 0 (tablesIn l₀)) (omega arith); holds = grown-same l₀ i hs ps vs }
 
   module _ (i₀ : Inside s r c l₀) (l : Lent) (k : ℕ) (g : Going s r c l₀ l limit k) where
     -- the run comes to this
     comes-to : (e : End) → runFrom (limit - k) small (programOf s r c) k (tablesIn l) ≡ halt e k (tablesIn l) → RanSays s r c l₀ limit (Ended e k) l
     comes-to e q =
         let z : runTables limit small (programOf s r c) (tablesIn l₀) ≡ halt e k (tablesIn l) = unfold runTables in (g .rest ∙ q) in
-        record { answer = rw z; head = rw z (g .grown .head); procs = rw z (g .grown .procs); vars = rw z (g .grown .vars) }
+        record { answer = rw z; head = rw z (g .holds .head); procs = rw z (g .holds .procs); vars = rw z (g .holds .vars) }
 
     pub going-on : k < limit → {w : Went} (l′ : Lent) → WentSays s r c l w l′ → w ≡ On → Going s r c l₀ l′ limit (k + 1)
     going-on h l′ d e = let f : WentTo On (programOf s r c) l l′ = rw e at (d .went) in record {
       inside = d .inside;
       most = omega arith;
       rest = g .rest ∙ ap (λ (x : ℕ). runFrom x small (programOf s r c) k (tablesIn l)) (one-less limit k h) ∙ f .0 (limit - (k + 1)) k ∙ ap (λ (x : ℕ). runFrom (limit - (k + 1)) small (programOf s r c) x (tablesIn l′)) (omega arith);
-      grown = grown-then l₀ l l′ i₀ (g .inside) (d .inside) (g .grown) (f .1);
+      holds = grown-then l₀ l l′ i₀ (g .inside) (d .inside) (g .holds) (f .1);
     }
 
     pub going-over : k < limit → {w : Went} (l′ : Lent) → WentSays s r c l w l′ → {e : End} → w ≡ Over e → RanSays s r c l₀ limit (Ended e k) l′
