@@ -4,7 +4,6 @@ use mathlib.Core.List.{List}
 use Prim.Native.Nat.{_*_, _-_, _<_, _≤_, suc, ℕ}
 use lib.ListN.{length}
 use Rattle.machine.specs.Entered.{Inside}
-use Rattle.parlog.proofs.Stuck.{grown}
 use Rattle.parlog.specs.Calls.{runCall, stepAnswer, turnCall}
 use Rattle.parlog.specs.Limits.{small}
 use Rattle.parlog.specs.Program.{Program, programOf}
