@@ -10,14 +10,13 @@ use native.Mathlib.Omega.{arith}
 use Rattle.parlog.proofs.Able.{canWait, isFound, isHeard}
 use Rattle.parlog.proofs.Bools.{split}
 use Rattle.parlog.specs.Codes.{and-par, and-seq, equate, failure, guard-eval, input-match, or-par, or-search, seq-search, success, Tag, try-clause}
-use Rattle.parlog.specs.Load.{verdict}
-use Rattle.parlog.specs.Scan.{every, highest, lowest, orElse, some}
+use Rattle.parlog.specs.Scan.{every, highest, implies, lowest, orElse, some}
 use Rattle.parlog.specs.Tables.{at}
 use Rattle.parlog.specs.Tree.{allChildren, anyChild, bad, childDone, childReports, good, heard, heardFrom, isChild, latest, lowestChild, reports, silent}
 use Rattle.parlog.specs.declared.Found.{Found}
 use Rattle.parlog.specs.declared.Found.the-variants.{At, Nothing}
 use Rattle.parlog.specs.declared.Process.{Process}
-use Rattle.turns.proofs.Small.{bad-end, bad-turn, badLeft, good-end, good-turn, goodLeft, late-end, late-turn, lateLeft, small-turn}
+use Rattle.turns.proofs.Small.{bad-turn, good-turn, late-turn, none-bad-turn, none-good-turn, small-turn}
 use Rattle.turns.specs.Notes.{heardAt, latestIn, noneSilent, noteOf, noteTo, someBad, someGood, tells}
 
 -- success and failure are not told together
@@ -47,69 +46,82 @@ unfolding lowest some
 found-some t zero = refl
 found-some t (suc n) = found-or (lowest t n) (t n) n ∙ ap (λ (z : Bool). t n || z) (found-some t n)
 
+told-by : (a b : Bool) (c : ℕ) → isHeard (cond a (good c) (cond b (bad c) silent)) ≡ (a || b)
+told-by true b c = refl
+told-by false true c = refl
+told-by false false c = refl
+
 module _ (ps : List Process) (p : ℕ) where
-  at-small : (q s : ℕ) → s < 16 → heardAt ps p q s < 16
-  unfolding heardAt noteOf
-  at-small q s h = small-turn (isChild ps p q) (reports success (at ps q)) (reports failure (at ps q)) true true s h
+  note-small : (q : ℕ) → noteTo ps p q < 16
+  unfolding noteTo heardAt noteOf
+  note-small zero = omega arith
+  note-small (suc q) = small-turn (isChild ps p q) (reports success (at ps q)) (reports failure (at ps q)) (noteTo ps p q) (note-small q)
 
-  -- a verdict on notes, and what it comes to with the rows below q left
-  fold-at : (verdict : ℕ → Bool) (left : ℕ → ℕ → Bool) → ((s : ℕ) → s < 16 → verdict s ≡ left 0 s) → ((q s : ℕ) → s < 16 → left q (heardAt ps p q s) ≡ left (suc q) s)
-      → (q s : ℕ) → s < 16 → verdict (noteTo ps p q s) ≡ left q s
-  unfolding noteTo
-  fold-at verdict left base turn zero s h = base s h
-  fold-at verdict left base turn (suc q) s h = fold-at verdict left base turn q (heardAt ps p q s) (at-small q s h) ∙ turn q s h
+  -- ---- some child reports this
 
-  fold-bad : (q s : ℕ) → s < 16 → (someBad (noteTo ps p q s) || noneSilent (noteTo ps p q s)) ≡ badLeft s (some (childReports failure ps p) q) (every (childDone success ps p) q)
-  unfolding some every childReports childDone heardAt noteOf
-  fold-bad = fold-at (λ s. someBad s || noneSilent s) (λ q s. badLeft s (some (childReports failure ps p) q) (every (childDone success ps p) q)) bad-end turn
-    where
-      turn : (q s : ℕ) → s < 16 → badLeft (heardAt ps p q s) (some (childReports failure ps p) q) (every (childDone success ps p) q)
-          ≡ badLeft s (some (childReports failure ps p) (suc q)) (every (childDone success ps p) (suc q))
-      turn q s h =
-          bad-turn (isChild ps p q) (reports success (at ps q)) (reports failure (at ps q)) (some (childReports failure ps p) q) (every (childDone success ps p) q) s h (exclusive (at ps q))
+  fold-bad : (q : ℕ) → someBad (noteTo ps p q) ≡ some (childReports failure ps p) q
+  unfolding noteTo heardAt noteOf some childReports
+  fold-bad zero = refl
+  fold-bad (suc q) =
+      bad-turn (isChild ps p q) (reports success (at ps q)) (reports failure (at ps q)) (noteTo ps p q) (note-small q) (exclusive (at ps q))
+      ∙ ap (λ (z : Bool). (isChild ps p q && reports failure (at ps q)) || z) (fold-bad q)
 
-  fold-good : (q s : ℕ) → s < 16 → (someGood (noteTo ps p q s) || noneSilent (noteTo ps p q s)) ≡ goodLeft s (some (childReports success ps p) q) (every (childDone failure ps p) q)
-  unfolding some every childReports childDone heardAt noteOf
-  fold-good = fold-at (λ s. someGood s || noneSilent s) (λ q s. goodLeft s (some (childReports success ps p) q) (every (childDone failure ps p) q)) good-end turn
-    where
-      turn : (q s : ℕ) → s < 16 → goodLeft (heardAt ps p q s) (some (childReports success ps p) q) (every (childDone failure ps p) q)
-          ≡ goodLeft s (some (childReports success ps p) (suc q)) (every (childDone failure ps p) (suc q))
-      turn q s h =
-          good-turn (isChild ps p q) (reports success (at ps q)) (reports failure (at ps q)) (some (childReports success ps p) q) (every (childDone failure ps p) q) s h (exclusive (at ps q))
+  fold-good : (q : ℕ) → someGood (noteTo ps p q) ≡ some (childReports success ps p) q
+  unfolding noteTo heardAt noteOf some childReports
+  fold-good zero = refl
+  fold-good (suc q) =
+      good-turn (isChild ps p q) (reports success (at ps q)) (reports failure (at ps q)) (noteTo ps p q) (note-small q)
+      ∙ ap (λ (z : Bool). (isChild ps p q && reports success (at ps q)) || z) (fold-good q)
 
-  told-by : (a b : Bool) (c : ℕ) → isHeard (cond a (good c) (cond b (bad c) silent)) ≡ (a || b)
-  told-by true b c = refl
-  told-by false true c = refl
-  told-by false false c = refl
+  -- ---- or all report the other
+
+  fold-none-bad : (q : ℕ) → (someBad (noteTo ps p q) || noneSilent (noteTo ps p q)) ≡ (some (childReports failure ps p) q || every (childDone success ps p) q)
+  unfolding noteTo heardAt noteOf some every childReports childDone
+  fold-none-bad zero = refl
+  fold-none-bad (suc q) =
+      none-bad-turn (isChild ps p q) (reports success (at ps q)) (reports failure (at ps q)) (noteTo ps p q) (note-small q) (exclusive (at ps q)) (every (childDone success ps p) q)
+      (fold-none-bad q ∙ ap (λ (z : Bool). z || every (childDone success ps p) q) (sym (fold-bad q)))
+      ∙ ap (λ (z : Bool). ((isChild ps p q && reports failure (at ps q)) || z) || (implies (isChild ps p q) (reports success (at ps q)) && every (childDone success ps p) q)) (fold-bad q)
+
+  fold-none-good : (q : ℕ) → (someGood (noteTo ps p q) || noneSilent (noteTo ps p q)) ≡ (some (childReports success ps p) q || every (childDone failure ps p) q)
+  unfolding noteTo heardAt noteOf some every childReports childDone
+  fold-none-good zero = refl
+  fold-none-good (suc q) =
+      none-good-turn (isChild ps p q) (reports success (at ps q)) (reports failure (at ps q)) (noteTo ps p q) (note-small q) (exclusive (at ps q)) (every (childDone failure ps p) q)
+      (fold-none-good q ∙ ap (λ (z : Bool). z || every (childDone failure ps p) q) (sym (fold-good q)))
+      ∙ ap (λ (z : Bool). ((isChild ps p q && reports success (at ps q)) || z) || (implies (isChild ps p q) (reports failure (at ps q)) && every (childDone failure ps p) q)) (fold-good q)
+
+  -- ---- the latest child reports
 
   told-at : (c : Bool) (q : ℕ) (f : Found) → isHeard (heardFrom ps (cond c (At q) f)) ≡ cond c (reports success (at ps q) || reports failure (at ps q)) (isHeard (heardFrom ps f))
   unfolding heardFrom
   told-at true q f = told-by (reports success (at ps q)) (reports failure (at ps q)) q
   told-at false q f = refl
 
-  fold-late : (q s : ℕ) → s < 16 → latestIn (noteTo ps p q s) ≡ lateLeft s (isHeard (heardFrom ps (highest (isChild ps p) q)))
-  unfolding highest heardFrom heardAt noteOf
-  fold-late = fold-at latestIn (λ q s. lateLeft s (isHeard (heardFrom ps (highest (isChild ps p) q)))) late-end turn
-    where
-      turn : (q s : ℕ) → s < 16 → lateLeft (heardAt ps p q s) (isHeard (heardFrom ps (highest (isChild ps p) q))) ≡ lateLeft s (isHeard (heardFrom ps (highest (isChild ps p) (suc q))))
-      turn q s h =
-          late-turn (isChild ps p q) (reports success (at ps q)) (reports failure (at ps q)) (isHeard (heardFrom ps (highest (isChild ps p) q))) true s h
-          ∙ ap (lateLeft s) (sym (told-at (isChild ps p q) q (highest (isChild ps p) q)))
+  fold-late : (q : ℕ) → latestIn (noteTo ps p q) ≡ isHeard (heardFrom ps (highest (isChild ps p) q))
+  unfolding noteTo heardAt noteOf highest heardFrom
+  fold-late zero = refl
+  fold-late (suc q) =
+      late-turn (isChild ps p q) (reports success (at ps q)) (reports failure (at ps q)) (noteTo ps p q) (note-small q)
+      ∙ ap (cond (isChild ps p q) (reports success (at ps q) || reports failure (at ps q))) (fold-late q)
+      ∙ sym (told-at (isChild ps p q) q (highest (isChild ps p) q))
 
-  all-bad : (someBad (noteTo ps p (length ps) 0) || noneSilent (noteTo ps p (length ps) 0)) ≡ (anyChild failure ps p || allChildren success ps p)
+  -- ---- all rows
+
+  all-bad : (someBad (noteTo ps p (length ps)) || noneSilent (noteTo ps p (length ps))) ≡ (anyChild failure ps p || allChildren success ps p)
   unfolding anyChild allChildren
-  all-bad = fold-bad (length ps) 0 (omega arith)
+  all-bad = fold-none-bad (length ps)
 
-  all-good : (someGood (noteTo ps p (length ps) 0) || noneSilent (noteTo ps p (length ps) 0)) ≡ (isFound (lowestChild success ps p) || allChildren failure ps p)
+  all-good : (someGood (noteTo ps p (length ps)) || noneSilent (noteTo ps p (length ps))) ≡ (isFound (lowestChild success ps p) || allChildren failure ps p)
   unfolding lowestChild allChildren
-  all-good = fold-good (length ps) 0 (omega arith) ∙ ap (λ (z : Bool). z || every (childDone failure ps p) (length ps)) (sym (found-some (childReports success ps p) (length ps)))
+  all-good = fold-none-good (length ps) ∙ ap (λ (z : Bool). z || every (childDone failure ps p) (length ps)) (sym (found-some (childReports success ps p) (length ps)))
 
-  all-late : latestIn (noteTo ps p (length ps) 0) ≡ isHeard (heard ps p)
+  all-late : latestIn (noteTo ps p (length ps)) ≡ isHeard (heard ps p)
   unfolding heard latest
-  all-late = fold-late (length ps) 0 (omega arith)
+  all-late = fold-late (length ps)
 
   -- the note of all rows says what the scans say
-  pub note-says : (t : Tag) → tells t (noteTo ps p (length ps) 0) ≡ canWait t ps p
+  pub note-says : (t : Tag) → tells t (noteTo ps p (length ps)) ≡ canWait t ps p
   unfolding tells canWait
   note-says and-par = all-bad
   note-says and-seq = all-late

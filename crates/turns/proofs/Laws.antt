@@ -2,7 +2,7 @@
 use mathlib.Core.Path.{_∙_, _≡_, ap, refl, sym}
 use mathlib.Core.Bool.{_||_, Bool, cond, false, not, true}
 use mathlib.Core.List.{_∷_, List}
-use Prim.Native.Nat.{_%_, _*_, _+_, _-_, _/_, _<_, _≤_, suc, zero, ℕ}
+use Prim.Native.Nat.{_%_, _*_, _+_, _/_, _<_, _≤_, suc, zero, ℕ}
 use lib.Dec.{eqb, ltb}
 use lib.ListN.{drop, drop-of-length-le, getD, length, length-set, set, take}
 use lib.Seq.{drop-cons, getD-set-other, getD-set-same, getD-take, length-take-le, take-all}
@@ -26,7 +26,7 @@ use Rattle.rows.proofs.Laws.{wiped-in}
 use Rattle.rows.proofs.Tables.{procs-at, procs-length}
 use Rattle.rows.specs.Rows.{wiped}
 use Rattle.turns.proofs.Fold.{note-says}
-use Rattle.turns.specs.Notes.{Clear, hear, heardAt, heardRow, Listened, noneSilent, Noted, noteOf, noteTo, someBad, someGood, stateFrom, tells}
+use Rattle.turns.specs.Notes.{Clear, hear, heardAt, heardRow, noneSilent, Noted, noteOf, noteTo, someBad, someGood, stateFrom, tells}
 use Rattle.vars.proofs.Tables.{vars-at, vars-past}
 
 -- ---- what a process tells its parent
@@ -88,34 +88,23 @@ pub clear-wiped : (ms : List ℕ) (n : ℕ) → n ≤ length ms → {ms' : List 
 unfolding Clear
 clear-wiped ms n h e p u = rw (e) (ap (λ (k : ℕ). getD (wiped ms 0 n) k 0) (sym (zero-add p)) ∙ wiped-in ms 0 n (omega arith) p u)
 
-less-one : (n : ℕ) → suc n - 1 ≡ n
-less-one n = omega arith
-
-note-step : (ps : List Process) (p q s : ℕ) → 0 < q → noteTo ps p q s ≡ noteTo ps p (q - 1) (heardAt ps p (q - 1) s)
+-- after the row q, the rows below the next
+note-more : (ps : List Process) (p q : ℕ) → noteTo ps p (q + 1) ≡ heardAt ps p q (noteTo ps p q)
 unfolding noteTo
-note-step ps p zero s h = absurd (omega arith)
-note-step ps p (suc q) s h = rw less-one
+note-more ps p q = rw (add-one q)
 
 module _ (ps : List Process) (n : ℕ) (ms : List ℕ) where
-  pub noted-start : Clear ms n → Noted ps n ms n
-  unfolding Noted Clear
-  noted-start z p h = rw (z p h)
-
-  pub noted-turn : (q : ℕ) → 1 < q → n ≤ length ms → {ms' : List ℕ} → ms' ≡ heardRow ms n (at ps (q - 1)) → Noted ps n ms q → Noted ps n ms' (q - 1)
-  unfolding Noted
-  noted-turn q h big e now p lt =
-      now p lt ∙ note-step ps p q (getD ms p 0) (omega arith)
-      ∙ sym (ap (noteTo ps p (q - 1)) (rw e (row-at ms n ps p (q - 1) big lt (omega arith))))
-
   -- process 0 is nobody's child
-  pub noted-end : (q : ℕ) → q ≤ 1 → Noted ps n ms q → Listened ps n ms
-  unfolding Noted Listened noteTo heardAt isChild
-  noted-end q h now p lt = now p lt ∙ go q h
-    where
-      go : (q : ℕ) → q ≤ 1 → noteTo ps p q (getD ms p 0) ≡ getD ms p 0
-      go zero h = refl
-      go (suc zero) h = refl
-      go (suc (suc q)) h = absurd (omega arith)
+  pub noted-start : Clear ms n → Noted ps n ms 1
+  unfolding Noted Clear noteTo heardAt isChild
+  noted-start z p h = z p h
+
+  pub noted-turn : (q : ℕ) → 0 < q → n ≤ length ms → {ms' : List ℕ} → ms' ≡ heardRow ms n (at ps q) → Noted ps n ms q → Noted ps n ms' (q + 1)
+  unfolding Noted
+  noted-turn q h big e so p lt = rw e (row-at ms n ps p q big lt h ∙ ap (heardAt ps p q) (so p lt) ∙ sym (note-more ps p q))
+
+  pub noted-end : (q : ℕ) → q ≡ n → Noted ps n ms q → Noted ps n ms n
+  noted-end q e so = rw e at so
 
 -- ---- what a note says, by tag
 
@@ -258,7 +247,7 @@ module _ (procs vars : List ℕ) (n m p : ℕ) {k : ℕ} (ek : k ≡ at (procsOf
   can-suspended h a c lt e =
       by-mode (e ∙ ap (λ (x : Process). someBound (varsIn vars m) (noted x)) (sym (procs-at procs n p lt)) ∙ sym (in-suspended here p (at (procsOf procs n) p) k h a c))
 
-  pub can-waiting : (ms : List ℕ) {t : ℕ} {b : Bool} → k ≡ 3 → p < n → Listened (procsOf procs n) n ms → t ≡ at (procsOf procs n) p .tag → b ≡ tells (tagOf t) (getD ms p 0) → b ≡ canMove pr here p
-  unfolding canIn modeOf Listened
+  pub can-waiting : (ms : List ℕ) {t : ℕ} {b : Bool} → k ≡ 3 → p < n → Noted (procsOf procs n) n ms n → t ≡ at (procsOf procs n) p .tag → b ≡ tells (tagOf t) (getD ms p 0) → b ≡ canMove pr here p
+  unfolding canIn modeOf Noted
   can-waiting ms {t} e lt all et eb =
-      by-mode (rw e (eb ∙ ap (tells (tagOf t)) (sym (all p lt)) ∙ (rw (procs-length procs n) at (note-says (procsOf procs n) p (tagOf t))) ∙ ap (λ (j : ℕ). canWait (tagOf j) (procsOf procs n) p) et))
+      by-mode (rw e (eb ∙ ap (tells (tagOf t)) (all p lt) ∙ (rw (procs-length procs n) at (note-says (procsOf procs n) p (tagOf t))) ∙ ap (λ (j : ℕ). canWait (tagOf j) (procsOf procs n) p) et))

@@ -8,14 +8,12 @@ use native.Mathlib.Omega.{arith}
 use native.Mathlib.Numerals.{add-one}
 use Rattle.parlog.proofs.Bools.{and-true, never, not-so, split, true-and}
 use Rattle.parlog.proofs.Scans.{lowest-at, lowest-is, lowest-none, lowest-nothing}
-use Rattle.parlog.specs.Rules.{still}
 use Rattle.parlog.specs.Run.{turnOf}
 use Rattle.parlog.specs.Scan.{lowest, orElse}
 use Rattle.parlog.specs.declared.Found.{Found}
 use Rattle.parlog.specs.declared.Found.the-variants.{At, Nothing}
 use Rattle.tree.proofs.Turns.{lowest-end, lowest-hit, Missed, missed-next}
 use Rattle.turns.specs.Notes.{firstFrom}
-use lib.Dec.{leb·zero}  --keep
 
 -- ---- the search from a on
 
@@ -57,7 +55,7 @@ module _ (f : ℕ → Bool) (n last : ℕ) where
 
   from-first : firstFrom f 0 (last + 1) ≡ lowest f (last + 1)
   unfolding firstFrom
-  from-first = lowest-same (λ i. leb 0 i && f i) f (last + 1) (λ i. rw (leb·zero i))
+  from-first = lowest-same (λ i. leb 0 i && f i) f (last + 1) (λ i. rw (le-leb 0 i (omega arith)))
 
   -- nobody behind the last: the lowest of all is not behind it
   round : (g : Found) → lowest f (last + 1) ≡ g → last < n → lowest behind n ≡ Nothing → lowest f n ≡ g

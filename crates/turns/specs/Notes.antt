@@ -4,6 +4,7 @@ use mathlib.Core.Bool.{_&&_, _||_, Bool, cond, false}
 use mathlib.Core.List.{List}
 use Prim.Native.Nat.{_%_, _/_, _<_, suc, zero, ℕ}
 use lib.Dec.{eqb, leb, ltb}
+use lib.Bits.{bitAnd, bitOr}
 use lib.ListN.{getD, set}
 use Rattle.parlog.specs.Codes.{and-par, and-seq, equate, failure, guard-eval, input-match, or-par, or-search, seq-search, success, Tag, try-clause}
 use Rattle.parlog.specs.Scan.{lowest}
@@ -11,7 +12,6 @@ use Rattle.parlog.specs.Tables.{at, procsOf, State, varsIn}
 use Rattle.parlog.specs.Tree.{isChild, reports}
 use Rattle.parlog.specs.declared.Found.{Found}
 use Rattle.parlog.specs.declared.Process.{Process}
-use lib.Bits.{bitAnd, bitOr}  --keep
 
 -- the tables' lists
 abbrev pub stateFrom : List ℕ → ℕ → List ℕ → ℕ → State
@@ -23,9 +23,9 @@ stateFrom procs n vars m = record { procs = procsOf procs n; vars = varsIn vars 
 unfoldable pub noteOf : Process → ℕ
 noteOf x = cond (reports success x) 10 (cond (reports failure x) 12 1)
 
--- the note s after a child more; who is heard first is the latest
+-- the note s after a child more; who is heard last is the latest
 unfoldable pub hear : ℕ → ℕ → ℕ
-hear s f = cond (eqb s 0) f (bitOr s (bitAnd f 7))
+hear s f = bitOr (bitAnd s 7) f
 
 -- what a note says
 abbrev pub someGood : ℕ → Bool
@@ -58,10 +58,10 @@ tells equate s = false
 unfoldable pub heardAt : List Process → ℕ → ℕ → ℕ → ℕ
 heardAt ps p i s = cond (isChild ps p i) (hear s (noteOf (at ps i))) s
 
--- and after all rows below q, downwards
-unfoldable pub noteTo : List Process → ℕ → ℕ → ℕ → ℕ
-noteTo ps p zero s = s
-noteTo ps p (suc q) s = noteTo ps p q (heardAt ps p q s)
+-- p's note after the rows below q
+unfoldable pub noteTo : List Process → ℕ → ℕ → ℕ
+noteTo ps p zero = 0
+noteTo ps p (suc q) = heardAt ps p q (noteTo ps p q)
 
 -- all notes after the row x; a parent that is not there hears nothing
 unfoldable pub heardRow : List ℕ → ℕ → Process → List ℕ
@@ -71,13 +71,9 @@ heardRow ms n x = cond (ltb (x .parent) n) (set ms (x .parent) (hear (getD ms (x
 unfoldable pub Clear : List ℕ → ℕ → Type 0
 Clear ms n = (p : ℕ) → p < n → getD ms p 0 ≡ 0
 
--- each note in hand, and the rows below q that are left, give the whole
+-- the rows below q were heard
 unfoldable pub Noted : List Process → ℕ → List ℕ → ℕ → Type 0
-Noted ps n ms q = (p : ℕ) → p < n → noteTo ps p n 0 ≡ noteTo ps p q (getD ms p 0)
-
--- every row was heard
-unfoldable pub Listened : List Process → ℕ → List ℕ → Type 0
-Listened ps n ms = (p : ℕ) → p < n → noteTo ps p n 0 ≡ getD ms p 0
+Noted ps n ms q = (p : ℕ) → p < n → getD ms p 0 ≡ noteTo ps p q
 
 -- ---- the search
 

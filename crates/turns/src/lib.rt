@@ -9,7 +9,7 @@ ghost use Rattle.parlog.specs.Program.{Program};
 ghost use Rattle.parlog.specs.Run.{canMove, turnOf};
 ghost use Rattle.parlog.specs.Tables.{at, bindingOf, noted, notesAt, processAt, procsOf, varsIn};
 ghost use Rattle.parlog.specs.Unify.{isBound, someBound};
-ghost use Rattle.turns.specs.Notes.{Clear, firstFrom, hear, heardRow, Listened, noneSilent, noteOf, someBad, someGood, stateFrom, tells};
+ghost use Rattle.turns.specs.Notes.{Clear, firstFrom, hear, heardRow, noneSilent, Noted, noteOf, someBad, someGood, stateFrom, tells};
 use parlog::Found;
 
 // ---- the notes
@@ -35,10 +35,7 @@ fn note_of(procs: &[u8], n: usize, i: usize) -> u8
 fn hear(s: u8, f: u8) -> u8
     ensures { λ r. ⌜ r ≡ hear s f ⌝ }
 {
-    if s == 0 {
-        return f;
-    }
-    s | (f & 7)
+    (s & 7) | f
 }
 
 // The parent of process q hears it.
@@ -54,15 +51,15 @@ fn hear_row(procs: &[u8], n: usize, notes: &mut [u8], q: usize)
     }
 }
 
-// Every process is heard by its parent, the latest first; process 0 has none.
+// Every process is heard by its parent, the latest last; process 0 has none.
 fn listen(procs: &[u8], n: usize, notes: &mut [u8])
-    requires { ⌜ (n * 24 ≤ length (now procs)) × (n ≤ length (now notes)) × Clear (now notes) n ⌝ }
-    ensures { λ _. ⌜ (length (now (notes .exit)) ≡ length (now (notes .entry))) × Listened (procsOf (now (procs .entry)) n) n (now (notes .exit)) ⌝ }
+    requires { ⌜ (n * 24 ≤ length (now procs)) × (n ≤ length (now notes)) × (0 < n) × Clear (now notes) n ⌝ }
+    ensures { λ _. ⌜ (length (now (notes .exit)) ≡ length (now (notes .entry))) × Noted (procsOf (now (procs .entry)) n) n (now (notes .exit)) n ⌝ }
 {
-    let mut q = n;
-    while 1 < q {
-        q -= 1;
+    let mut q = 1;
+    while q < n {
         hear_row(procs, n, notes, q);
+        q += 1;
     }
 }
 
@@ -164,7 +161,7 @@ fn wakes(procs: &[u8], vars: &[u8], m: usize, p: usize) -> bool
 
 // A rule applies to process p, once every process was heard.
 fn can_move(procs: &[u8], n: usize, vars: &[u8], m: usize, notes: &[u8], p: usize) -> bool
-    requires { ⌜ (n * 24 ≤ length (now procs)) × (n ≤ length (now notes)) × (m * 4 ≤ length (now vars)) × (p < n) × Listened (procsOf (now procs) n) n (now notes) ⌝ }
+    requires { ⌜ (n * 24 ≤ length (now procs)) × (n ≤ length (now notes)) × (m * 4 ≤ length (now vars)) × (p < n) × Noted (procsOf (now procs) n) n (now notes) n ⌝ }
     ensures { λ r. ⌜ ((pr : Program) → r ≡ canMove pr (stateFrom (now (procs .entry)) n (now (vars .entry)) m) p) ⌝ }
 {
     let mode = rows::mode_at(procs, n, p);
@@ -188,7 +185,7 @@ fn can_move(procs: &[u8], n: usize, vars: &[u8], m: usize, notes: &[u8], p: usiz
 
 // The first process from a on, below e, that can move.
 fn first(procs: &[u8], n: usize, vars: &[u8], m: usize, notes: &[u8], a: usize, e: usize) -> Found
-    requires { ⌜ (n * 24 ≤ length (now procs)) × (n ≤ length (now notes)) × (m * 4 ≤ length (now vars)) × (e ≤ n) × Listened (procsOf (now procs) n) n (now notes) ⌝ }
+    requires { ⌜ (n * 24 ≤ length (now procs)) × (n ≤ length (now notes)) × (m * 4 ≤ length (now vars)) × (e ≤ n) × Noted (procsOf (now procs) n) n (now notes) n ⌝ }
     ensures { λ r. ⌜ ((pr : Program) → r ≡ firstFrom (canMove pr (stateFrom (now (procs .entry)) n (now (vars .entry)) m)) a e) ⌝ }
 {
     let mut q = a;

@@ -9,7 +9,7 @@ next-spec =
     tie.close
     (tie.spec
     (λ c κs. search needs)
-    (λ c κs. (search needs, search needs, clear-wiped _ _ (c .before .before .before .before .before .before .before .before .pre .2) (c .before .before .before .wipe .ensures)))
+    (λ c κs. (search needs, search needs, search needs, clear-wiped _ _ (c .before .before .before .before .before .before .before .before .pre .2) (c .before .before .before .wipe .ensures)))
     (λ c. search needs)
     (λ c κs. search needs)
     (λ c. search needs)
