@@ -1,11 +1,9 @@
 // What a C program calls: numbers and byte rows alone. Each answer is one word.
 use parlog::Loaded;
 ghost use mathlib.Core.Path.{_≡_};
-ghost use Rattle.capi.specs.Tells.{StartTells, SupplyTells};
-ghost use Rattle.parlog.specs.Calls.{valueCall};
-ghost use Rattle.parlog.specs.Limits.{small};
+ghost use Rattle.capi.specs.Tells.{StartTells, StepTells, SupplyTells, ValueTells, WatchTells};
 ghost use Rattle.parlog.specs.Load.{loadOf};
-ghost use Rattle.parlog.specs.Numbers.{loadNumbers, valueNumbers, word};
+ghost use Rattle.parlog.specs.Numbers.{loadNumbers, word};
 
 // Tests an image: its relation and clause counts, or the first refusal.
 #[no_mangle]
@@ -34,6 +32,21 @@ pub extern "C" fn rissobarm_start(
     words::start_word(a)
 }
 
+// Makes the step of one process.
+#[no_mangle]
+pub extern "C" fn rissobarm_step(
+    image: &[u8],
+    head: &mut [u8],
+    procs: &mut [u8],
+    vars: &mut [u8],
+    process: u32,
+) -> u64
+    ensures { λ r. ⌜ StepTells (now (image .entry)) (record { head = now (head .entry); procs = now (procs .entry); vars = now (vars .entry) }) process r (now (head .exit)) (now (procs .exit)) (now (vars .exit)) ⌝ }
+{
+    let a = step::step(image, head, procs, vars, process);
+    words::step_word(a)
+}
+
 // Binds the value of a goal variable to a constant.
 #[no_mangle]
 pub extern "C" fn rissobarm_supply(
@@ -59,8 +72,17 @@ pub extern "C" fn rissobarm_value(
     vars: &[u8],
     variable: u32,
 ) -> u64
-    ensures { λ r. ⌜ r ≡ word (valueNumbers (valueCall small (now (image .entry)) (record { head = now (head .entry); procs = now (procs .entry); vars = now (vars .entry) }) variable)) ⌝ }
+    ensures { λ r. ⌜ ValueTells (now (image .entry)) (record { head = now (head .entry); procs = now (procs .entry); vars = now (vars .entry) }) variable r ⌝ }
 {
     let a = machine::value(image, head, procs, vars, variable);
     words::value_word(a)
+}
+
+// The lowest number of a suspended process, in any row of processes.
+#[no_mangle]
+pub extern "C" fn rissobarm_watch(procs: &[u8]) -> u64
+    ensures { λ r. ⌜ WatchTells (now (procs .entry)) r ⌝ }
+{
+    let a = watching::watch_rows(procs);
+    words::watch_word(a)
 }
