@@ -3,19 +3,21 @@ use mathlib.Core.Path.{_≡_}
 use mathlib.Core.List.{List}
 use Prim.Native.Nat.{_/_, _≤_, ℕ}
 use lib.ListN.{length}
-use Rattle.capi.specs.Tells.{StartTells, StepTells, SupplyTells, Tells, ValueTells, WatchTells}
+use native.Mathlib.Omega.{arith}
+use Rattle.capi.specs.Tells.{RunTells, StartTells, StepTells, SupplyTells, Tells, TurnTells, ValueTells, WatchTells}
 use Rattle.load.specs.Fields.{refusalOf}
 use Rattle.machine.specs.Starting.{StartSays}
 use Rattle.machine.specs.Supplying.{SupplySays}
-use Rattle.parlog.specs.Calls.{valueCall}
+use Rattle.parlog.specs.Calls.{runCall, turnCall, valueCall}
 use Rattle.parlog.specs.Limits.{small}
 use Rattle.parlog.specs.Load.{loadOf}
-use Rattle.parlog.specs.Numbers.{loadNumbers, Numbers, refusedAs, startNumbers, stepNumbers, supplyNumbers, valueNumbers, watchNumbers, word}
+use Rattle.parlog.specs.Numbers.{loadNumbers, Numbers, refusedAs, runNumbers, startNumbers, stepNumbers, supplyNumbers, valueNumbers, watchNumbers, word}
 use Rattle.parlog.specs.Run.{watchOf}
 use Rattle.parlog.specs.Tables.{Lent, procsOf}
 use Rattle.parlog.specs.declared.Found.{Found}
 use Rattle.parlog.specs.declared.Loaded.{Loaded}
 use Rattle.parlog.specs.declared.Loaded.the-variants.{Accepted, Refused}
+use Rattle.parlog.specs.declared.Ran.{Ran}
 use Rattle.parlog.specs.declared.Refusal.{Refusal}
 use Rattle.parlog.specs.declared.Started.{Started}
 use Rattle.parlog.specs.declared.Stepped.{Stepped}
@@ -23,8 +25,8 @@ use Rattle.parlog.specs.declared.Supplied.{Supplied}
 use Rattle.parlog.specs.declared.Valued.{Valued}
 use Rattle.rows.proofs.Tables.{procs-length}
 use Rattle.step.specs.Stepping.{StepSays}
-use Rattle.words.proofs.Fitting.{start-fits, step-fits, supply-fits, value-fits, watch-reached}
-use Rattle.words.specs.Fits.{reached, StartFits, StepFits, SupplyFits, ValueFits}
+use Rattle.words.proofs.Fitting.{run-fits, start-fits, step-fits, supply-fits, turn-fits, value-fits, watch-reached}
+use Rattle.words.specs.Fits.{reached, RunFits, StartFits, StepFits, SupplyFits, ValueFits}
 
 module _ (s : List ℕ) {l : Loaded} (is : l ≡ loadOf s) where
   pub load-refused : {f r : Refusal} {w : ℕ} → l ≡ Refused f → r ≡ refusalOf l → w ≡ word (refusedAs r) → w ≡ word (loadNumbers (loadOf s))
@@ -66,6 +68,20 @@ module _ (s : List ℕ) (l : Lent) {h p v : List ℕ} where
 
     pub supply-tells : {w : ℕ} → w ≡ word (supplyNumbers a) → SupplyTells s l x c w h p v
     supply-tells k = tells-of (told .answer) supplyNumbers (told .head) (told .procs) (told .vars) k
+
+module _ (s : List ℕ) (l : Lent) {a : Stepped} (answer : a ≡ turnCall small s l .answer) where
+  pub turn-fit : StepFits a
+  turn-fit = fits-of answer StepFits (turn-fits s l)
+
+  pub turn-tells : {h p v : List ℕ} {w : ℕ} → h ≡ turnCall small s l .lent .head → p ≡ turnCall small s l .lent .procs → v ≡ turnCall small s l .lent .vars → w ≡ word (stepNumbers a) → TurnTells s l w h p v
+  turn-tells eh ep ev k = tells-of answer stepNumbers eh ep ev k
+
+module _ (s : List ℕ) (l : Lent) (limit : ℕ) {a : Ran} (answer : a ≡ runCall small s l limit .answer) where
+  pub run-fit : limit ≤ 65535 → RunFits a
+  run-fit most = fits-of answer RunFits (run-fits s l limit (omega (arith, most)))
+
+  pub run-tells : {h p v : List ℕ} {w : ℕ} → h ≡ runCall small s l limit .lent .head → p ≡ runCall small s l limit .lent .procs → v ≡ runCall small s l limit .lent .vars → w ≡ word (runNumbers a) → RunTells s l limit w h p v
+  run-tells eh ep ev k = tells-of answer runNumbers eh ep ev k
 
 module _ (s : List ℕ) (l : Lent) (x : ℕ) {a : Valued} (told : a ≡ valueCall small s l x) where
   pub value-fit : ValueFits a
