@@ -23,7 +23,7 @@
 
 enum { SUCCEEDED = 0, FAILED = 1, WAITS = 2, NO_ROOM = 3, REFUSED = 4, NO_GOOD = 5 };
 enum { FREE = 0, KEY = 1, PLACE = 2, FIELDS = 3 };
-enum { MOST_RECORDS = 5, LINE_ROOM = 200, SLICE = 50, SLICE_LIMIT = 65535 };
+enum { MOST_RECORDS = 5, LAST_RECORD = 9999, LINE_ROOM = 200, SLICE = 50, SLICE_LIMIT = 65535 };
 
 /* Bytes of the tables, as docs/LAYOUT.md has them. */
 enum { HEAD_PROCESSES = 0, HEAD_VARIABLES = 2, HEAD_STEPS = 6 };
@@ -222,9 +222,9 @@ static void look_ahead(struct arrival *next)
         if (line[strspn(line, " \t\r\n")] == '\0' || line[0] == '#')
             continue;
         next->steps = 0;
-        got = sscanf(line, "%u %199s %u %u %1s", &next->record, field, &next->value, &next->steps, rest);
+        got = sscanf(line, "%9u %199s %9u %9u %1s", &next->record, field, &next->value, &next->steps, rest);
         next->field = got >= 3 ? field_of(field) : (unsigned)FIELDS;
-        if (got > 4 || next->field == FIELDS || next->record == 0)
+        if (got > 4 || next->field == FIELDS || next->record < 1 || next->record > LAST_RECORD)
             printf("not an arrival: %s", line);
         else
             next->pending = 1;
