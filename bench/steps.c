@@ -52,10 +52,18 @@ static uint64_t both(unsigned limit)
     return a;
 }
 
+/* Sets one byte of the first ones to a number below the top. */
+static void damage(struct random *random, uint8_t *bytes, unsigned first, unsigned top)
+{
+    uint8_t byte = (uint8_t)random_below(random, top);
+
+    bytes[random_below(random, first)] = byte;
+}
+
 /* A run in random slices, with supplies when it waits and sometimes before, and at the end with a byte damaged. */
 static void compare(struct random *random)
 {
-    unsigned slices, end, rows;
+    unsigned slices, end, rows, variable;
 
     if (rissobarm_refusal(rissobarm_start(IMAGE, TABLES(&ours))) != RISSOBARM_ACCEPTED)
         return;
@@ -63,16 +71,17 @@ static void compare(struct random *random)
         end = rissobarm_end(both(random_once(random, 4) ? (unsigned)LIMIT : random_below(random, 40)));
         if (end == RISSOBARM_END_ROOM || end == RISSOBARM_END_SUCCESS || end == RISSOBARM_END_FAILURE)
             break;
+        variable = random_below(random, 5);
         if (end == RISSOBARM_END_WAITING || random_once(random, 3))
-            sink = rissobarm_supply(IMAGE, TABLES(&ours), random_below(random, 16), random_below(random, 3));
+            sink = rissobarm_supply(IMAGE, TABLES(&ours), variable, random_below(random, 3));
     }
     rows = processes(&ours);
     for (slices = 0; slices < 4; slices++) {
-        ours.procs[random_below(random, RISSOBARM_PROCESS_ROW * rows)] = (uint8_t)random_below(random, 9);
+        damage(random, ours.procs, RISSOBARM_PROCESS_ROW * rows, 9);
         if (random_once(random, 3))
-            ours.vars[random_below(random, 64)] = (uint8_t)random_below(random, 4);
+            damage(random, ours.vars, 64, 4);
         if (random_once(random, 6))
-            ours.head[random_below(random, 10)] = (uint8_t)random_below(random, 20);
+            damage(random, ours.head, sizeof ours.head, 20);
         both(random_below(random, 40));
     }
 }
