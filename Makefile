@@ -1,5 +1,8 @@
 # `make run` does the main job; `make test` runs everything that the gate runs.
-.PHONY: run test
+# `make soak MINUTES=20` drives archive and reference side by side; `make faults` shows that the driver finds planted faults.
+.PHONY: run test soak faults
+
+MINUTES = 20
 
 run:
 	@echo "The runner program is not there yet: only the definitions are." >&2
@@ -7,3 +10,10 @@ run:
 
 test:
 	@bash .ci/run
+
+soak:
+	@tests/soak $(MINUTES) $(SEED)
+
+faults:
+	@tests/install
+	@tests/faults
