@@ -31,7 +31,7 @@ bool bed_open(struct bed *bed)
     for (k = 0; k < LENT_ROWS; k++)
         if (!row_open(&bed->lent[k]))
             return false;
-    return row_open(&bed->image);
+    return row_open(&bed->image) && row_open(&bed->wide);
 }
 
 /* The archive's tables become the reference's. */
@@ -63,6 +63,7 @@ void bed_begin(struct bed *bed, const struct story *story)
                       ? ref_refused(verdict.refusal, verdict.offset)
                       : ref_accepted(bed->program.relation_count, bed->program.clause_count, 0);
     row_place(&bed->image, story->image.length, standing);
+    row_place(&bed->wide, 0, standing);
     memcpy(bed->image.bytes, story->image.bytes, story->image.length);
     memset(&bed->ours, MEANINGLESS, sizeof bed->ours);
     for (k = 0; k < LENT_ROWS; k++)
@@ -144,6 +145,8 @@ static bool same_guards(struct bed *bed)
     for (k = 0; k < LENT_ROWS; k++)
         if (!row_guarded(&bed->lent[k]))
             return bed_fault(bed, "bytes beside row %u were written", k);
+    if (!row_guarded(&bed->wide))
+        return bed_fault(bed, "bytes beside the watched rows were written");
     if (!row_guarded(&bed->image) || memcmp(bed->image.bytes, bed->source->bytes, bed->source->length) != 0)
         return bed_fault(bed, "the image or bytes beside it were written");
     return true;

@@ -12,6 +12,7 @@ enum { FAULT_ROOM = 400 };
 struct bed {
     struct row image;              /* the archive's */
     struct row lent[LENT_ROWS];    /* the archive's */
+    struct row wide;               /* rows of processes to be watched, more than a table has */
     struct rows ours;              /* the reference's */
     struct rows before;            /* both sides' before the last call */
     size_t sizes[LENT_ROWS];       /* the lengths that the next call is lent */

@@ -21,6 +21,25 @@ bool go(struct journey *journey, unsigned kind, uint32_t a, uint32_t b)
 
 /* ---- numbers */
 
+/* A number from the count on: right there, further away, or below it but for a high byte. */
+static uint32_t far_number(struct random *random, unsigned count)
+{
+    uint32_t within = random_below(random, count + 1);
+
+    switch (random_below(random, 6)) {
+    case 0:
+        return UINT32_MAX - random_below(random, 2);
+    case 1:
+        return 65536 * (1 + random_below(random, 65535)) + within;
+    case 2:
+        return (count / 256 + 1 + random_below(random, 3)) * 256 + within;
+    case 3:
+        return count + random_below(random, 600);
+    default:
+        return count + random_below(random, 3);
+    }
+}
+
 /* A process that can move, where one is found from a random place on; else any number about the count. */
 static uint32_t draw_process(struct journey *journey)
 {
@@ -30,8 +49,8 @@ static uint32_t draw_process(struct journey *journey)
                          bed->ours.vars, RISSOBARM_VARS_SIZE };
     unsigned count = process_count(&bed->ours), from, k;
 
-    if (random_once(journey->random, 200))
-        return random_once(journey->random, 2) ? UINT32_MAX : count + random_below(journey->random, 600);
+    if (random_once(journey->random, 100))
+        return far_number(journey->random, count);
     if (bed_broken(bed)->count > 0 || random_once(journey->random, 12))
         return random_below(journey->random, count + 1);
     ref_decode(&lent, &tables);
@@ -47,8 +66,7 @@ static uint32_t draw_variable(struct journey *journey)
     unsigned count = bed_accepts(journey->bed) ? journey->bed->program.goal_variables : 0;
 
     if (count == 0 || random_once(journey->random, 24))
-        return random_once(journey->random, 4) ? UINT32_MAX - random_below(journey->random, 2)
-                                               : count + random_below(journey->random, 3);
+        return far_number(journey->random, count);
     return random_below(journey->random, count);
 }
 
@@ -105,6 +123,9 @@ static bool go_watch(struct journey *journey)
 
     if (random_once(journey->random, 2))
         return go(journey, WATCHES, full, 0);
+    if (random_once(journey->random, 2))
+        return go(journey, WATCHES, random_below(journey->random, random_once(journey->random, 2) ? 100 : WIDEST),
+                  1 + random_bits(journey->random) / 2);
     return go(journey, WATCHES, random_below(journey->random, used < full ? used + 25 : full), 0);
 }
 

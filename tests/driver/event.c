@@ -25,13 +25,13 @@ void event_print(const struct event *event)
         break;
     case SUPPLIES:
     case RUNS:
+    case WATCHES:
     case LEGALS:
     case SCATTERS:
         printf("  %s %u %u\n", name, event->a, event->b);
         break;
     case STEPS:
     case VALUES:
-    case WATCHES:
         printf("  %s %u\n", name, event->a);
         break;
     default:

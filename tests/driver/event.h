@@ -17,7 +17,7 @@ enum event_kind {
     RUNS,     /* a the limit, b whether turns are made beside it */
     SUPPLIES, /* a the variable, b the value */
     VALUES,   /* a the variable */
-    WATCHES,  /* a the length of the row */
+    WATCHES,  /* a the length of the row: the process table or, with b, rows by chance from the seed b */
     CALLS,
     SIZES = CALLS, /* the next call is lent a row with the length a */
     POKES,    /* the byte at a of a row becomes b */
@@ -33,7 +33,7 @@ struct event {
     uint32_t b;
 };
 
-enum { STORY_ROOM = 4096 };
+enum { STORY_ROOM = 4096, WIDEST = 60000 };
 
 struct story {
     struct image image;

@@ -52,5 +52,5 @@ bool row_guarded(const struct row *row)
 
 uint8_t *row_of_length(const struct row *row, size_t length)
 {
-    return row->standing == LAST && length > row->length ? row->bytes - (length - row->length) : row->bytes;
+    return row->standing == LAST ? row->room + ROW_ROOM - length : row->bytes;
 }

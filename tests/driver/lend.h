@@ -27,7 +27,7 @@ void row_place(struct row *row, size_t length, enum standing standing);
 /* Whether the guard bytes are as they were written. */
 bool row_guarded(const struct row *row);
 
-/* Where a row of another length begins that can be read over all of it: inside the row, or with guard bytes in it. */
+/* Where a row of another length begins that stands so: a part of the row, or the row with guard bytes beside it. */
 uint8_t *row_of_length(const struct row *row, size_t length);
 
 #endif

@@ -262,6 +262,8 @@ void plan_any(struct image *image, struct random *random)
         plan_of_loops(image, random);
     else if (way < 14)
         plan_of_notes(image, random);
+    else if (way == 14 && random_once(random, 8))
+        image_by_recipe(image, random, &full_recipe);
     else
         plan_in_style(image, random, &styles[way % STYLES]);
 }

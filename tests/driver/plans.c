@@ -13,9 +13,10 @@ const struct style styles[STYLES] = {
     { "blocks", 3, 2, 4, 8, 8, 3, 3, 6, 1, 1, 3, 4, 2, 8, 1 },
     { "broad", 6, 4, 6, 4, 4, 8, 3, 9, 3, 5, 8, 5, 4, 6, 0 },
     { "equations", 1, 2, 8, 2, 8, 16, 2, 12, 2, 4, 8, 6, 13, 4, 1 },
+    { "large", 32, 3, 6, 4, 5, 6, 3, 9, 2, 3, 6, 4, 4, 8, 1 },
 };
 
-enum { IS_EQUALITY = 255, A_VARIABLE = 32768 };
+enum { IS_EQUALITY = 255, A_VARIABLE = 32768, MOST_CLAUSES = 64 };
 
 static bool often(struct random *random, unsigned sixteenths)
 {
@@ -127,7 +128,7 @@ static void put_clause(struct image *image, struct random *random, const struct 
 
 void plan_in_style(struct image *image, struct random *random, const struct style *style)
 {
-    unsigned relations = 1 + up_to(random, style, style->relations - 1), r, c, clauses;
+    unsigned relations = 1 + up_to(random, style, style->relations - 1), left = MOST_CLAUSES, r, c, clauses;
     struct goal_style goal = { 0, 0, relations, style };
 
     image->length = 0;
@@ -141,6 +142,8 @@ void plan_in_style(struct image *image, struct random *random, const struct styl
     }
     for (r = 0; r < relations; r++) {
         clauses = up_to(random, style, style->clauses);
+        clauses = clauses < left ? clauses : left;
+        left -= clauses;
         for (c = 0; c < clauses; c++)
             put_clause(image, random, style, r, relations, c > 0 && often(random, style->opens));
     }

@@ -26,7 +26,7 @@ struct style {
     uint8_t down;      /* whether clauses call later relations only */
 };
 
-enum { STYLES = 10 };
+enum { STYLES = 11 };
 
 extern const struct style styles[STYLES];
 
