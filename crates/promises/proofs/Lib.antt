@@ -1,0 +1,3 @@
+-- The demands, tied to the calls.
+pub mod Fours
+pub mod Codec

@@ -1,0 +1,2 @@
+-- The demands over the calls as a C program sees them: words and rows of bytes.
+pub mod Outcomes
