@@ -3,3 +3,7 @@ pub mod Fours
 pub mod Codec
 pub mod Words
 pub mod Loaded
+pub mod Whose
+pub mod Entry
+pub mod Giving
+pub mod Demand1
