@@ -60,14 +60,14 @@ module _ (l : Lent) (t : Tables) (f : Fours (t .state)) (rows : length (t .state
 
 -- ---- good tables in bytes of the full size
 
-full-sizes : (lim : Limits) (l : Lent) → fullSize lim l ≡ true → (length (l .head) ≡ 10) × (length (l .procs) ≡ lim .procs * 24) × (length (l .vars) ≡ lim .vars * 4)
+pub full-sizes : (lim : Limits) (l : Lent) → fullSize lim l ≡ true → (length (l .head) ≡ 10) × (length (l .procs) ≡ lim .procs * 24) × (length (l .vars) ≡ lim .vars * 4)
 unfolding fullSize
 full-sizes lim l e =
     let x = and-true (eqb (length (l .head)) 10) (eqb (length (l .procs)) (lim .procs * 24) && eqb (length (l .vars)) (lim .vars * 4)) e in
     let y = and-true (eqb (length (l .procs)) (lim .procs * 24)) (eqb (length (l .vars)) (lim .vars * 4)) (x .1) in
     (eqb-true (length (l .head)) 10 (x .0), eqb-true (length (l .procs)) (lim .procs * 24) (y .0), eqb-true (length (l .vars)) (lim .vars * 4) (y .1))
 
-sizes-full : (lim : Limits) (l : Lent) → length (l .head) ≡ 10 → length (l .procs) ≡ lim .procs * 24 → length (l .vars) ≡ lim .vars * 4 → fullSize lim l ≡ true
+pub sizes-full : (lim : Limits) (l : Lent) → length (l .head) ≡ 10 → length (l .procs) ≡ lim .procs * 24 → length (l .vars) ≡ lim .vars * 4 → fullSize lim l ≡ true
 unfolding fullSize
 sizes-full lim l a b c = rw (eq-eqb (length (l .head)) 10 a, eq-eqb (length (l .procs)) (lim .procs * 24) b, eq-eqb (length (l .vars)) (lim .vars * 4) c)
 

@@ -132,7 +132,7 @@ step-numbered (no-rule-for i h n) = (omega arith, omega arith)
 step-numbered (no-room-for i h n) = (omega arith, omega arith)
 
 module _ (s : List ℕ) (l : Lent) (p : ℕ) where
-  step-as : {r c : ℕ} → LetIn s l r c → {a : Stepping} → stepTables small (programOf s r c) (tablesIn l) p ≡ a → stepCall small s l p ≡ stepAnswer a l
+  pub step-as : {r c : ℕ} → LetIn s l r c → {a : Stepping} → stepTables small (programOf s r c) (tablesIn l) p ≡ a → stepCall small s l p ≡ stepAnswer a l
   step-as i e = step-let s l i p ∙ ap (λ (x : Stepping). stepAnswer x l) e
 
   pub step-refused : {n o : ℕ} → StepRefused s l p n o → stepCall small s l p ≡ record { answer = Unmoved (refusal n o); lent = l }
@@ -169,7 +169,7 @@ turn-numbered (nobody i h) = (omega arith, omega arith)
 turn-numbered (no-room-in-turn i h n) = (omega arith, omega arith)
 
 module _ (s : List ℕ) (l : Lent) where
-  turn-as : {r c : ℕ} → LetIn s l r c → {a : Stepping} → turnTables small (programOf s r c) (tablesIn l) ≡ a → turnCall small s l ≡ stepAnswer a l
+  pub turn-as : {r c : ℕ} → LetIn s l r c → {a : Stepping} → turnTables small (programOf s r c) (tablesIn l) ≡ a → turnCall small s l ≡ stepAnswer a l
   turn-as i e = turn-let s l i ∙ ap (λ (x : Stepping). stepAnswer x l) e
 
   turn-nobody : {r c : ℕ} → LetIn s l r c → turnFor (programOf s r c) (tablesIn l) ≡ Nothing → turnTables small (programOf s r c) (tablesIn l) ≡ unmade 10
@@ -181,7 +181,7 @@ module _ (s : List ℕ) (l : Lent) where
   turn-step {r} {c} {p} i u =
       turn-as i (turn-is small (programOf s r c) (tablesIn l) p (of-turn (programOf s r c) (tablesIn l) (let-ok s l i) p u)) ∙ sym (step-let s l i p)
 
-  turn-there : {r c p : ℕ} → LetIn s l r c → Turn (programOf s r c) (tablesIn l) p → p < procCount (l .head)
+  pub turn-there : {r c p : ℕ} → LetIn s l r c → Turn (programOf s r c) (tablesIn l) p → p < procCount (l .head)
   turn-there {r} {c} {p} i u =
       let pr : Program = programOf s r c in
       let ok = let-ok s l i in
@@ -261,7 +261,7 @@ supply-numbered (no-constant i h g) = (omega arith, omega arith)
 supply-numbered (has-constant i h g x) = (omega arith, omega arith)
 
 module _ (s : List ℕ) (l : Lent) (v k : ℕ) where
-  supply-as : {r c : ℕ} → LetIn s l r c → {a : Supplying} → supplyTables (programOf s r c) (tablesIn l) v k ≡ a → supplyCall small s l v k ≡ supplyAnswer a l
+  pub supply-as : {r c : ℕ} → LetIn s l r c → {a : Supplying} → supplyTables (programOf s r c) (tablesIn l) v k ≡ a → supplyCall small s l v k ≡ supplyAnswer a l
   supply-as i e = supply-let s l i v k ∙ ap (λ (x : Supplying). supplyAnswer x l) e
 
   pub supply-refused : {n o : ℕ} → SupplyRefused s l v k n o → supplyCall small s l v k ≡ record { answer = Ungiven (refusal n o); lent = l }
@@ -297,7 +297,7 @@ value-numbered (value-away a) = let b = away-numbered a in (b .0, omega (arith, 
 value-numbered (no-variable-seen i h) = (omega arith, omega arith)
 
 module _ (s : List ℕ) (l : Lent) (v : ℕ) where
-  value-as : {r c : ℕ} → LetIn s l r c → {a : Looking} → valueTables (programOf s r c) (tablesIn l) v ≡ a → valueCall small s l v ≡ valueAnswer a
+  pub value-as : {r c : ℕ} → LetIn s l r c → {a : Looking} → valueTables (programOf s r c) (tablesIn l) v ≡ a → valueCall small s l v ≡ valueAnswer a
   value-as i e = value-let s l i v ∙ ap (λ (x : Looking). valueAnswer x) e
 
   pub value-refused : {n o : ℕ} → ValueRefused s l v n o → valueCall small s l v ≡ Unvalued (refusal n o)

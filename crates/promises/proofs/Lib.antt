@@ -7,3 +7,4 @@ pub mod Whose
 pub mod Entry
 pub mod Giving
 pub mod Demand1
+pub mod Demand2

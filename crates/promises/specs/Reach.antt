@@ -3,10 +3,22 @@ use mathlib.Core.Path.{_≡_}
 use mathlib.Core.List.{List}
 use Prim.Native.Nat.{suc, ℕ}
 use Rattle.parlog.specs.Codes.{dormant}
+use Rattle.parlog.specs.Limits.{small}
+use Rattle.parlog.specs.Load.{loadOf}
 use Rattle.parlog.specs.Notions.{HasMode}
-use Rattle.parlog.specs.Tables.{Lent, markerLast}
+use Rattle.parlog.specs.Program.{programOf}
+use Rattle.parlog.specs.Tables.{freshTables, Lent, markerLast, startedLent, tablesIn}
+use Rattle.parlog.specs.declared.Loaded.the-variants.{Accepted}
 use Rattle.promises.specs.Outcomes.{refusalIn, RunMeets, StartMeets, StepMeets, SupplyMeets, TurnMeets}
 use Rattle.promises.specs.Refusals.{stateIn}
+
+-- Tables 2: the bytes of a fresh start of the image s: they hold the tables of a start, and zeros in every unused row
+pub record Begins (s : List ℕ) (l : Lent) : Type 0 where
+  pub relations : ℕ
+  pub clauses : ℕ
+  pub image : loadOf s ≡ Accepted relations clauses
+  pub read : tablesIn l ≡ freshTables (programOf s relations clauses)
+  pub bytes : l ≡ startedLent small (programOf s relations clauses)
 
 -- Tables 2: bytes that a start of the image s wrote, then any outcomes of steps by number, turns, runs and supplies, refused ones too
 pub data Came (s : List ℕ) : Lent → Type 0 where
