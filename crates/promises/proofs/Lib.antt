@@ -8,3 +8,6 @@ pub mod Entry
 pub mod Giving
 pub mod Demand1
 pub mod Demand2
+pub mod Arrive
+pub mod Demand3
+pub mod Once

@@ -22,11 +22,11 @@ pub record Begins (s : List ℕ) (l : Lent) : Type 0 where
 
 -- Tables 2: bytes that a start of the image s wrote, then any outcomes of steps by number, turns, runs and supplies, refused ones too
 pub data Came (s : List ℕ) : Lent → Type 0 where
-  by-start : {l l′ : Lent} {w : ℕ} → StartMeets s l w l′ → refusalIn w ≡ 0 → Came s l′
-  by-step : {l l′ : Lent} {w : ℕ} (p : ℕ) → Came s l → StepMeets s l p w l′ → Came s l′
-  by-turn : {l l′ : Lent} {w : ℕ} → Came s l → TurnMeets s l w l′ → Came s l′
-  by-run : {l l′ : Lent} {w : ℕ} (limit : ℕ) → Came s l → RunMeets s l limit w l′ → Came s l′
-  by-supply : {l l′ : Lent} {w : ℕ} (v k : ℕ) → Came s l → SupplyMeets s l v k w l′ → Came s l′
+  from-start : {l l′ : Lent} {w : ℕ} → StartMeets s l w l′ → refusalIn w ≡ 0 → Came s l′
+  then-step : {l l′ : Lent} {w : ℕ} (p : ℕ) → Came s l → StepMeets s l p w l′ → Came s l′
+  then-turn : {l l′ : Lent} {w : ℕ} → Came s l → TurnMeets s l w l′ → Came s l′
+  then-run : {l l′ : Lent} {w : ℕ} (limit : ℕ) → Came s l → RunMeets s l limit w l′ → Came s l′
+  then-supply : {l l′ : Lent} {w : ℕ} (v k : ℕ) → Came s l → SupplyMeets s l v k w l′ → Came s l′
 
 -- turn calls and supplies, each from the bytes that the one before left
 pub data Follow (s : List ℕ) : Lent → Type 0 where

@@ -1,0 +1,35 @@
+-- Only one result: two outcomes of a call from the same image and the same bytes, each meeting its contract, are equal.
+use mathlib.Core.Path.{_∙_, _≡_, sym}
+use mathlib.Core.List.{List}
+use Prim.Native.Nat.{ℕ}
+use Rattle.parlog.specs.Tables.{Lent}
+use Rattle.promises.proofs.Entry.{same-lent}
+use Rattle.promises.specs.Outcomes.{LoadMeets, RunMeets, StartMeets, StepMeets, SupplyMeets, TurnMeets, ValueMeets, WatchMeets}
+
+module _ (s : List ℕ) where
+  pub once-load : {w w′ : ℕ} → LoadMeets s w → LoadMeets s w′ → w ≡ w′
+  once-load a b = a .answer ∙ sym (b .answer)
+
+module _ (s : List ℕ) (l : Lent) {w w′ : ℕ} {l′ l″ : Lent} where
+  pub once-start : StartMeets s l w l′ → StartMeets s l w′ l″ → (w ≡ w′) × (l′ ≡ l″)
+  once-start a b = (a .answer ∙ sym (b .answer), same-lent l′ l″ (a .head ∙ sym (b .head)) (a .procs ∙ sym (b .procs)) (a .vars ∙ sym (b .vars)))
+
+  pub once-step : {p : ℕ} → StepMeets s l p w l′ → StepMeets s l p w′ l″ → (w ≡ w′) × (l′ ≡ l″)
+  once-step a b = (a .answer ∙ sym (b .answer), same-lent l′ l″ (a .head ∙ sym (b .head)) (a .procs ∙ sym (b .procs)) (a .vars ∙ sym (b .vars)))
+
+  pub once-turn : TurnMeets s l w l′ → TurnMeets s l w′ l″ → (w ≡ w′) × (l′ ≡ l″)
+  once-turn a b = (a .answer ∙ sym (b .answer), same-lent l′ l″ (a .head ∙ sym (b .head)) (a .procs ∙ sym (b .procs)) (a .vars ∙ sym (b .vars)))
+
+  pub once-run : {limit : ℕ} → RunMeets s l limit w l′ → RunMeets s l limit w′ l″ → (w ≡ w′) × (l′ ≡ l″)
+  once-run a b = (a .answer ∙ sym (b .answer), same-lent l′ l″ (a .head ∙ sym (b .head)) (a .procs ∙ sym (b .procs)) (a .vars ∙ sym (b .vars)))
+
+  pub once-supply : {v k : ℕ} → SupplyMeets s l v k w l′ → SupplyMeets s l v k w′ l″ → (w ≡ w′) × (l′ ≡ l″)
+  once-supply a b = (a .answer ∙ sym (b .answer), same-lent l′ l″ (a .head ∙ sym (b .head)) (a .procs ∙ sym (b .procs)) (a .vars ∙ sym (b .vars)))
+
+module _ (s : List ℕ) (l : Lent) (v : ℕ) where
+  pub once-value : {w w′ : ℕ} → ValueMeets s l v w → ValueMeets s l v w′ → w ≡ w′
+  once-value a b = a .answer ∙ sym (b .answer)
+
+module _ (rows : List ℕ) where
+  pub once-watch : {w w′ : ℕ} → WatchMeets rows w → WatchMeets rows w′ → w ≡ w′
+  once-watch a b = a .answer ∙ sym (b .answer)
