@@ -71,26 +71,33 @@ pub sizes-full : (lim : Limits) (l : Lent) → length (l .head) ≡ 10 → lengt
 unfolding fullSize
 sizes-full lim l a b c = rw (eq-eqb (length (l .head)) 10 a, eq-eqb (length (l .procs)) (lim .procs * 24) b, eq-eqb (length (l .vars)) (lim .vars * 4) c)
 
-module _ (lim : Limits) (pr : Program) (l : Lent) (t : Tables) (full : fullSize lim l ≡ true) (f : Fours (t .state)) (ok : tablesOk lim pr t ≡ true) where
+module _ (lim : Limits) (pr : Program) (l : Lent) (t : Tables) (full : fullSize lim l ≡ true) (ok : tablesOk lim pr t ≡ true) where
   kept : stateOk lim pr (t .state) ≡ true
   unfolding tablesOk
   kept = and-true (stateOk lim pr (t .state)) (ltb (t .last) (length (t .state .procs))) ok .0
 
-  rows-fit : length (t .state .procs) * 24 ≤ length (l .procs)
+  pub rows-fit : length (t .state .procs) * 24 ≤ length (l .procs)
   rows-fit = let k = assume-counts lim pr (t .state) kept in omega (arith, full-sizes lim l full .1, k .1)
 
-  cells-fit : length (t .state .vars) * 4 ≤ length (l .vars)
+  pub cells-fit : length (t .state .vars) * 4 ≤ length (l .vars)
   cells-fit = let k = assume-counts lim pr (t .state) kept in omega (arith, full-sizes lim l full .2, k .3)
 
+module _ (lim : Limits) (pr : Program) (l : Lent) (t : Tables) (full : fullSize lim l ≡ true) (f : Fours (t .state)) (ok : tablesOk lim pr t ≡ true) where
+  abbrev rows-there : length (t .state .procs) * 24 ≤ length (l .procs)
+  rows-there = rows-fit lim pr l t full ok
+
+  abbrev cells-there : length (t .state .vars) * 4 ≤ length (l .vars)
+  cells-there = cells-fit lim pr l t full ok
+
   pub put-read : tablesIn (putTables l t) ≡ t
-  put-read = read-back l t f rows-fit cells-fit
+  put-read = read-back l t f rows-there cells-there
 
   put-full : fullSize lim (putTables l t) ≡ true
   put-full =
-      let a = sizes-kept l t f rows-fit cells-fit in
+      let a = sizes-kept l t f rows-there cells-there in
       let b = full-sizes lim l full in
       sizes-full lim (putTables l t) (a .0) (a .1 ∙ b .1) (a .2 ∙ b .2)
 
   pub put-good : lentOk lim pr (putTables l t) ≡ true
   unfolding lentOk
-  put-good = rw (put-full, cells-known l t f rows-fit cells-fit, put-read, ok)
+  put-good = rw (put-full, cells-known l t f rows-there cells-there, put-read, ok)

@@ -2,7 +2,8 @@
 use mathlib.Core.Path.{_∙_, _≡_, refl, sym}
 use mathlib.Core.Bool.{_&&_, Bool, false, true}
 use mathlib.Core.List.{List}
-use Prim.Native.Nat.{_≤_, ℕ}
+use Prim.Native.Nat.{_*_, _≤_, ℕ}
+use lib.ListN.{length}
 use native.Mathlib.Omega.{arith}
 use Rattle.parlog.proofs.Bools.{and-true}
 use Rattle.parlog.specs.Calls.{enter, enterBy, entered, enterLoaded, Entry, runCall, runEntry, stepAnswer, stepCall, supplyAnswer, supplyCall, turnCall, turned-away, valueAnswer, valueCall}
@@ -20,7 +21,7 @@ use Rattle.parlog.specs.declared.Refusal.{Refusal}
 use Rattle.parlog.specs.declared.Stepped.the-variants.{Unmoved}
 use Rattle.parlog.specs.declared.Supplied.the-variants.{Ungiven}
 use Rattle.parlog.specs.declared.Valued.the-variants.{Unvalued}
-use Rattle.promises.proofs.Codec.{put-good, put-read}
+use Rattle.promises.proofs.Codec.{cells-fit, put-good, put-read, rows-fit}
 use Rattle.promises.proofs.Fours.{Fours}
 use Rattle.promises.proofs.Loaded.{refused-number}
 use Rattle.promises.specs.Moves.{Holds}
@@ -140,6 +141,19 @@ module _ (s : List ℕ) (l : Lent) where
     pub let-full : fullSize small l ≡ true
     unfolding lentOk
     let-full = and-true (fullSize small l) (every (cellKnown (l .vars)) (varCount (l .head)) && tablesOk small (programOf s r c) (tablesIn l)) (i .tables) .0
+
+    pub let-cells : every (cellKnown (l .vars)) (varCount (l .head)) ≡ true
+    unfolding lentOk
+    let-cells =
+        let pr : Program = programOf s r c in
+        and-true (every (cellKnown (l .vars)) (varCount (l .head))) (tablesOk small pr (tablesIn l))
+        (and-true (fullSize small l) (every (cellKnown (l .vars)) (varCount (l .head)) && tablesOk small pr (tablesIn l)) (i .tables) .1) .0
+
+    pub rows-in : length (tablesIn l .state .procs) * 24 ≤ length (l .procs)
+    rows-in = rows-fit small (programOf s r c) l (tablesIn l) let-full let-ok
+
+    pub cells-in : length (tablesIn l .state .vars) * 4 ≤ length (l .vars)
+    cells-in = cells-fit small (programOf s r c) l (tablesIn l) let-full let-ok
 
     pub let-count : procsIn (tablesIn l) ≡ procCount (l .head)
     unfolding tablesIn

@@ -11,3 +11,4 @@ pub mod Demand2
 pub mod Arrive
 pub mod Demand3
 pub mod Once
+pub mod RunTurns

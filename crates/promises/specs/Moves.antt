@@ -26,6 +26,7 @@ use Rattle.parlog.specs.declared.Term.{Term}
 use Rattle.parlog.specs.declared.Term.the-variants.{Var}
 use Rattle.promises.specs.Outcomes.{firstIn, largeIn, refusalIn, secondIn, TurnMeets}
 use Rattle.promises.specs.Refusals.{CanMove, LacksRoom, stateIn}
+use Rattle.rows.specs.Rows.{Bytes}
 
 -- Turns 3: the tables after a step of p that left the state s′
 abbrev pub afterStep : Tables → ℕ → State → Tables
@@ -80,6 +81,12 @@ pub record RunsExactly (pr : Program) (l : Lent) (limit w : ℕ) (l′ : Lent) :
   pub runs : Runs limit small pr (tablesIn l) run
   pub ran : Ran-to l run w l′
   pub only : (x : Running) → Runs limit small pr (tablesIn l) x → Ran-to l x w l′
+
+-- each number that is lent is a byte: what the type of a lent row says
+pub record AllBytes (l : Lent) : Type 0 where
+  pub head : Bytes (l .head)
+  pub procs : Bytes (l .procs)
+  pub vars : Bytes (l .vars)
 
 -- n turn calls one after the other, each of them made, none of them after the goal's end
 pub data Turns (s : List ℕ) : Lent → ℕ → Lent → Type 0 where
