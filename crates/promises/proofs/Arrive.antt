@@ -15,13 +15,14 @@ use Rattle.parlog.specs.Load.{loadOf, refusal}
 use Rattle.parlog.specs.Program.{Program, programOf}
 use Rattle.parlog.specs.Run.{given, made, runTables, Stepping, stepTables, Supplying, supplyTables, turnTables, ungiven, unmade}
 use Rattle.parlog.specs.TableRules.{tablesOk}
-use Rattle.parlog.specs.Tables.{at, Lent, putTables, startedLent, Tables, tablesIn}
+use Rattle.parlog.specs.Tables.{at, freshTables, Lent, putTables, Tables, tablesIn}
 use Rattle.parlog.specs.declared.Loaded.the-variants.{Accepted}
 use Rattle.parlog.specs.declared.Move.{Move}
 use Rattle.promises.proofs.Demand1.{step-as, supply-as, turn-as}
-use Rattle.promises.proofs.Demand2.{demand-2-start, holds-in, image-sane, started-let, started-read}
+use Rattle.promises.proofs.Demand2.{demand-2-start, holds-in, image-sane}
 use Rattle.promises.proofs.Entry.{let-ok, put-holds, put-let, run-let, same-lent}
 use Rattle.promises.proofs.Fours.{Fours, fours-in, fours-run, fours-step, fours-supply, fours-turn}
+use Rattle.promises.proofs.Keeping.{kept-start}
 use Rattle.promises.proofs.Words.{moved-told, refused-told}
 use Rattle.promises.specs.Moves.{Holds}
 use Rattle.promises.specs.Outcomes.{refusalIn, RunMeets, StartMeets, StepMeets, SupplyMeets, TurnMeets}
@@ -126,8 +127,8 @@ arrive-start s l w l′ meets z r c e =
     let q : Accepted (b .relations) (b .clauses) ≡ Accepted r c = sym (b .image) ∙ e in
     let x : b .relations ≡ r = cc in
     let y : b .clauses ≡ c = cc in
-    let k : l′ ≡ startedLent small (programOf s r c) = rw (x, y) at (b .bytes) in
-    rw k (record { enters = started-let s e; reached = rw (started-read s e) at-start })
+    let k : tablesIn l′ ≡ freshTables (programOf s r c) = rw (x, y) at (b .read) in
+    record { enters = kept-start s l w l′ meets z e; reached = rw k at-start }
 
 -- THE LAW: bytes that came are let in and reached, for the counts that a load of the image tells
 pub came-arrived : (s : List ℕ) (r c : ℕ) → loadOf s ≡ Accepted r c → {l : Lent} → Came s l → Arrived s l r c

@@ -8,6 +8,7 @@ pub mod Entry
 pub mod Giving
 pub mod Demand1
 pub mod Demand2
+pub mod Keeping
 pub mod Arrive
 pub mod Demand3
 pub mod Once
