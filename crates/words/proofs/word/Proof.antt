@@ -1,10 +1,10 @@
 use mathlib.Core.Path.{refl}
 use borrow.Author.Needs.{needs}
 use Rattle.parlog.specs.Numbers.{word}
-use Rattle.capi.proofs.word.Statement.{statement}
-use Rattle.capi.proofs.word.Tie as tie
-use Rattle.capi.proofs.word.Reads as reads
-use Rattle.capi.proofs.word.Lts as lts
+use Rattle.words.proofs.word.Statement.{statement}
+use Rattle.words.proofs.word.Tie as tie
+use Rattle.words.proofs.word.Reads as reads
+use Rattle.words.proofs.word.Lts as lts
 
 returns : tie.Need-returns
 unfolding word
