@@ -50,7 +50,7 @@ module _ (s : List ℕ) (r c : ℕ) (l : Lent) (a : Arrived s l r c) where
 
   module _ (p w : ℕ) (l′ : Lent) (meets : StepMeets s l p w l′) where
     step-lent : {x : Stepping} → stepTables small pr (tablesIn l) p ≡ x → l′ ≡ stepAnswer x l .lent
-    step-lent {x} e = let q = step-as s l p i e in same-lent l′ (stepAnswer x l .lent) (meets .head ∙ rw q) (meets .procs ∙ rw q) (meets .vars ∙ rw q)
+    step-lent {x} e = let q = step-as s l p i e in same-lent l′ (stepAnswer x l .lent) (meets .contract .head ∙ rw q) (meets .contract .procs ∙ rw q) (meets .contract .vars ∙ rw q)
 
     pub arrive-step : Arrived s l′ r c
     arrive-step = go (stepTables small pr (tablesIn l) p) refl
@@ -65,16 +65,16 @@ module _ (s : List ℕ) (r c : ℕ) (l : Lent) (a : Arrived s l r c) where
 
   module _ (w : ℕ) (l′ : Lent) (meets : TurnMeets s l w l′) where
     turn-lent : {x : Stepping} → turnTables small pr (tablesIn l) ≡ x → l′ ≡ stepAnswer x l .lent
-    turn-lent {x} e = let q = turn-as s l i e in same-lent l′ (stepAnswer x l .lent) (meets .head ∙ rw q) (meets .procs ∙ rw q) (meets .vars ∙ rw q)
+    turn-lent {x} e = let q = turn-as s l i e in same-lent l′ (stepAnswer x l .lent) (meets .contract .head ∙ rw q) (meets .contract .procs ∙ rw q) (meets .contract .vars ∙ rw q)
 
     pub turn-holds : {m : Move} {t : Tables} → turnTables small pr (tablesIn l) ≡ made m t → Holds l t l′ × (refusalIn w ≡ 0)
     turn-holds {m} {t} e = (
       holds-in s l i t l′ (fours-turn small pr (tablesIn l) (fours-in l) m t e) (turn-keeps small pr (image-sane s l i) (tablesIn l) t m (let-ok s l i) e) (turn-lent e),
-      moved-told w m (meets .answer ∙ rw (turn-as s l i e)) .accepted,
+      moved-told w m (meets .contract .answer ∙ rw (turn-as s l i e)) .accepted,
     )
 
     pub turn-stays : {k : ℕ} → turnTables small pr (tablesIn l) ≡ unmade k → k ≤ 255 → (l′ ≡ l) × (refusalIn w ≡ k)
-    turn-stays {k} e h = (turn-lent e, refused-told w (refusal k 0) h (meets .answer ∙ rw (turn-as s l i e)) .0)
+    turn-stays {k} e h = (turn-lent e, refused-told w (refusal k 0) h (meets .contract .answer ∙ rw (turn-as s l i e)) .0)
 
     pub arrive-turn : Arrived s l′ r c
     arrive-turn = go (turnTables small pr (tablesIn l)) refl
@@ -92,13 +92,13 @@ module _ (s : List ℕ) (r c : ℕ) (l : Lent) (a : Arrived s l r c) where
       let t : Tables = runTables limit small pr (tablesIn l) .tables in
       let q = run-let s l i limit in
       arrive-put l′ t (fours-run small pr (tablesIn l) (fours-in l) limit) (run-keeps small pr (image-sane s l i) limit (tablesIn l) (let-ok s l i))
-      (run-reached small pr limit (a .reached)) (same-lent l′ (putTables l t) (meets .head ∙ rw q) (meets .procs ∙ rw q) (meets .vars ∙ rw q))
+      (run-reached small pr limit (a .reached)) (same-lent l′ (putTables l t) (meets .contract .head ∙ rw q) (meets .contract .procs ∙ rw q) (meets .contract .vars ∙ rw q))
 
   -- ---- a supply
 
   module _ (v k w : ℕ) (l′ : Lent) (meets : SupplyMeets s l v k w l′) where
     supply-lent : {x : Supplying} → supplyTables pr (tablesIn l) v k ≡ x → l′ ≡ supplyAnswer x l .lent
-    supply-lent {x} e = let q = supply-as s l v k i e in same-lent l′ (supplyAnswer x l .lent) (meets .head ∙ rw q) (meets .procs ∙ rw q) (meets .vars ∙ rw q)
+    supply-lent {x} e = let q = supply-as s l v k i e in same-lent l′ (supplyAnswer x l .lent) (meets .contract .head ∙ rw q) (meets .contract .procs ∙ rw q) (meets .contract .vars ∙ rw q)
 
     four-given : {u : ℕ} {t : Tables} → supplyTables pr (tablesIn l) v k ≡ given u t → Fours (t .state)
     four-given {u} {t} e =

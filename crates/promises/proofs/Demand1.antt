@@ -73,10 +73,10 @@ bad-is (bad-image e) = e
 module _ (s : List ℕ) (w : ℕ) (meets : LoadMeets s w) where
   -- Refusals 19: the counts of an accepted image
   pub load-counts : {r c : ℕ} → loadOf s ≡ Accepted r c → (refusalIn w ≡ 0) × (firstIn w ≡ r) × (secondIn w ≡ c)
-  load-counts {r} {c} e = let a = accepted-few s e in accepted-told w r c (omega (arith, a .0)) (omega (arith, a .1)) (meets .answer ∙ rw e)
+  load-counts {r} {c} e = let a = accepted-few s e in accepted-told w r c (omega (arith, a .0)) (omega (arith, a .1)) (meets .contract ∙ rw e)
 
   pub demand-1-load : RefusesBy (BadImage s) w
-  demand-1-load = refuses-by w (λ n o b. bad-numbered b) (λ n o b. meets .answer ∙ rw (bad-is b)) (go (loadOf s) refl)
+  demand-1-load = refuses-by w (λ n o b. bad-numbered b) (λ n o b. meets .contract ∙ rw (bad-is b)) (go (loadOf s) refl)
     where
       go : (a : Loaded) → loadOf s ≡ a → Answered (BadImage s) w
       go (Refused f) e = a-refusal (bad-image e)
@@ -111,17 +111,17 @@ module _ (s : List ℕ) (l : Lent) where
 
   module _ (w : ℕ) (l′ : Lent) (meets : StartMeets s l w l′) where
     start-word : (n o : ℕ) → StartRefused s l n o → w ≡ word (refusedAs (refusal n o))
-    start-word n o y = let e = start-refused {n = n} {o = o} y in meets .answer ∙ rw e
+    start-word n o y = let e = start-refused {n = n} {o = o} y in meets .contract .answer ∙ rw e
 
     start-kept : (n o : ℕ) → StartRefused s l n o → l′ ≡ l
-    start-kept n o y = let e = start-refused {n = n} {o = o} y in same-lent l′ l (meets .head ∙ rw e) (meets .procs ∙ rw e) (meets .vars ∙ rw e)
+    start-kept n o y = let e = start-refused {n = n} {o = o} y in same-lent l′ l (meets .contract .head ∙ rw e) (meets .contract .procs ∙ rw e) (meets .contract .vars ∙ rw e)
 
     pub demand-1-start : Refusing (StartRefused s l) l w l′
     demand-1-start = refusing w (λ n o y. start-numbered y) start-word (go starting-so) start-kept
       where
         go : Start → Answered (StartRefused s l) w
         go (is-refused y) = a-refusal y
-        go (is-begun e h) = no-refusal (begun-told w (meets .answer ∙ rw (start-begun e h)))
+        go (is-begun e h) = no-refusal (begun-told w (meets .contract .answer ∙ rw (start-begun e h)))
 
 -- ---- step
 
@@ -150,13 +150,13 @@ module _ (s : List ℕ) (l : Lent) (p : ℕ) where
         go (too-high h) e = a-refusal (no-process i (rw (← let-count s l i) h))
         go (is-still h n) e = a-refusal (no-rule-for i (rw (← let-count s l i) h) n)
         go (is-full h n) e = a-refusal (no-room-for i (rw (← let-count s l i) h) n)
-        go (goes {m} h x f) e = no-refusal (moved-told w m (meets .answer ∙ rw (step-as i e)) .accepted)
+        go (goes {m} h x f) e = no-refusal (moved-told w m (meets .contract .answer ∙ rw (step-as i e)) .accepted)
 
     step-word : (n o : ℕ) → StepRefused s l p n o → w ≡ word (refusedAs (refusal n o))
-    step-word n o y = let e = step-refused {n = n} {o = o} y in meets .answer ∙ rw e
+    step-word n o y = let e = step-refused {n = n} {o = o} y in meets .contract .answer ∙ rw e
 
     step-kept : (n o : ℕ) → StepRefused s l p n o → l′ ≡ l
-    step-kept n o y = let e = step-refused {n = n} {o = o} y in same-lent l′ l (meets .head ∙ rw e) (meets .procs ∙ rw e) (meets .vars ∙ rw e)
+    step-kept n o y = let e = step-refused {n = n} {o = o} y in same-lent l′ l (meets .contract .head ∙ rw e) (meets .contract .procs ∙ rw e) (meets .contract .vars ∙ rw e)
 
     pub demand-1-step : Refusing (StepRefused s l p) l w l′
     demand-1-step = refusing w (λ n o y. step-numbered y) step-word (step-answered (door s l)) step-kept
@@ -196,7 +196,7 @@ module _ (s : List ℕ) (l : Lent) where
     pub turn-meets-step : {r c p : ℕ} → LetIn s l r c → Turn (programOf s r c) (tablesIn l) p → StepMeets s l p w l′
     turn-meets-step i u =
         let e = turn-step i u in
-        record { answer = meets .answer ∙ rw e; head = meets .head ∙ rw e; procs = meets .procs ∙ rw e; vars = meets .vars ∙ rw e }
+        record { contract = record { answer = meets .contract .answer ∙ rw e; head = meets .contract .head ∙ rw e; procs = meets .contract .procs ∙ rw e; vars = meets .contract .vars ∙ rw e } }
 
     turn-answered : Door s l → Answered (TurnRefused s l) w
     turn-answered (away a) = a-refusal (turn-away a)
@@ -219,10 +219,10 @@ module _ (s : List ℕ) (l : Lent) where
         by (At p) e = let u = turn-of (programOf s r c) t (let-ok s l i) p e in go p u (step-answered s l p w l′ (turn-meets-step i u) (inside i))
 
     turn-word : (n o : ℕ) → TurnRefused s l n o → w ≡ word (refusedAs (refusal n o))
-    turn-word n o y = let e = turn-refused {n = n} {o = o} y in meets .answer ∙ rw e
+    turn-word n o y = let e = turn-refused {n = n} {o = o} y in meets .contract .answer ∙ rw e
 
     turn-kept : (n o : ℕ) → TurnRefused s l n o → l′ ≡ l
-    turn-kept n o y = let e = turn-refused {n = n} {o = o} y in same-lent l′ l (meets .head ∙ rw e) (meets .procs ∙ rw e) (meets .vars ∙ rw e)
+    turn-kept n o y = let e = turn-refused {n = n} {o = o} y in same-lent l′ l (meets .contract .head ∙ rw e) (meets .contract .procs ∙ rw e) (meets .contract .vars ∙ rw e)
 
     pub demand-1-turn : Refusing (TurnRefused s l) l w l′
     demand-1-turn = refusing w (λ n o y. turn-numbered y) turn-word (turn-answered (door s l)) turn-kept
@@ -238,10 +238,10 @@ module _ (s : List ℕ) (l : Lent) (limit : ℕ) where
 
   module _ (w : ℕ) (l′ : Lent) (meets : RunMeets s l limit w l′) where
     run-word : (n o : ℕ) → RunRefused s l n o → w ≡ word (refusedAs (refusal n o))
-    run-word n o y = let e = run-refused {n = n} {o = o} y in meets .answer ∙ rw e
+    run-word n o y = let e = run-refused {n = n} {o = o} y in meets .contract .answer ∙ rw e
 
     run-kept : (n o : ℕ) → RunRefused s l n o → l′ ≡ l
-    run-kept n o y = let e = run-refused {n = n} {o = o} y in same-lent l′ l (meets .head ∙ rw e) (meets .procs ∙ rw e) (meets .vars ∙ rw e)
+    run-kept n o y = let e = run-refused {n = n} {o = o} y in same-lent l′ l (meets .contract .head ∙ rw e) (meets .contract .procs ∙ rw e) (meets .contract .vars ∙ rw e)
 
     pub demand-1-run : Refusing (RunRefused s l) l w l′
     demand-1-run = refusing w (λ n o y. run-numbered y) run-word (go (door s l)) run-kept
@@ -250,7 +250,7 @@ module _ (s : List ℕ) (l : Lent) (limit : ℕ) where
         go (away a) = a-refusal (run-away a)
         go (inside {r} {c} i) =
             let x : Running = runTables limit small (programOf s r c) (tablesIn l) in
-            no-refusal (ended-told w (x .end) (x .moves) (meets .answer ∙ rw (run-let s l i limit)) .0)
+            no-refusal (ended-told w (x .end) (x .moves) (meets .contract .answer ∙ rw (run-let s l i limit)) .0)
 
 -- ---- supply
 
@@ -279,13 +279,13 @@ module _ (s : List ℕ) (l : Lent) (v k : ℕ) where
         go (not-there h) e = a-refusal (no-variable i h)
         go (too-large h g) e = a-refusal (no-constant i h g)
         go (is-constant h g x) e = a-refusal (has-constant i h g x)
-        go (is-taken {u} h g x f) e = no-refusal (given-told w u (meets .answer ∙ rw (supply-as i e)))
+        go (is-taken {u} h g x f) e = no-refusal (given-told w u (meets .contract .answer ∙ rw (supply-as i e)))
 
     supply-word : (n o : ℕ) → SupplyRefused s l v k n o → w ≡ word (refusedAs (refusal n o))
-    supply-word n o y = let e = supply-refused {n = n} {o = o} y in meets .answer ∙ rw e
+    supply-word n o y = let e = supply-refused {n = n} {o = o} y in meets .contract .answer ∙ rw e
 
     supply-kept : (n o : ℕ) → SupplyRefused s l v k n o → l′ ≡ l
-    supply-kept n o y = let e = supply-refused {n = n} {o = o} y in same-lent l′ l (meets .head ∙ rw e) (meets .procs ∙ rw e) (meets .vars ∙ rw e)
+    supply-kept n o y = let e = supply-refused {n = n} {o = o} y in same-lent l′ l (meets .contract .head ∙ rw e) (meets .contract .procs ∙ rw e) (meets .contract .vars ∙ rw e)
 
     pub demand-1-supply : Refusing (SupplyRefused s l v k) l w l′
     demand-1-supply = refusing w (λ n o y. supply-numbered y) supply-word (supply-answered (door s l)) supply-kept
@@ -306,7 +306,7 @@ module _ (s : List ℕ) (l : Lent) (v : ℕ) where
 
   module _ (w : ℕ) (meets : ValueMeets s l v w) where
     value-word : (n o : ℕ) → ValueRefused s l v n o → w ≡ word (refusedAs (refusal n o))
-    value-word n o y = let e = value-refused {n = n} {o = o} y in meets .answer ∙ rw e
+    value-word n o y = let e = value-refused {n = n} {o = o} y in meets .contract ∙ rw e
 
     pub demand-1-value : RefusesBy (ValueRefused s l v) w
     demand-1-value = refuses-by w (λ n o y. value-numbered y) value-word (go (door s l))
@@ -314,5 +314,5 @@ module _ (s : List ℕ) (l : Lent) (v : ℕ) where
         go : Door s l → Answered (ValueRefused s l v) w
         go (away a) = a-refusal (value-away a)
         go (inside {r} {c} i) = split (ltb v (programOf s r c .goalVars))
-            (λ e. no-refusal (term-told w (value (stateIn l .vars) (Var v)) (meets .answer ∙ rw (value-as i (look-sees (programOf s r c) (tablesIn l) (let-ok s l i) v (ltb-true v (programOf s r c .goalVars) e)))) .0))
+            (λ e. no-refusal (term-told w (value (stateIn l .vars) (Var v)) (meets .contract ∙ rw (value-as i (look-sees (programOf s r c) (tablesIn l) (let-ok s l i) v (ltb-true v (programOf s r c .goalVars) e)))) .0))
             (λ e. a-refusal (no-variable-seen i (ltb-false v (programOf s r c .goalVars) e)))

@@ -51,7 +51,7 @@ module _ (s : List ℕ) (l : Lent) {r c : ℕ} (i : LetIn s l r c) where
 
   module _ (p w : ℕ) (l′ : Lent) (meets : StepMeets s l p w l′) (h : p < procCount (l .head)) where
     refused-as : (k : ℕ) → k ≤ 255 → stepTables small pr (tablesIn l) p ≡ unmade k → refusalIn w ≡ k
-    refused-as k small-k e = refused-told w (refusal k 0) small-k (meets .answer ∙ rw (step-as s l p i e)) .0
+    refused-as k small-k e = refused-told w (refusal k 0) small-k (meets .contract .answer ∙ rw (step-as s l p i e)) .0
 
     shows-made : {m : Move} {s′ : State} → Rule pr (stateIn l) p m s′ → Fits small s′ → stepTables small pr (tablesIn l) p ≡ made m (afterStep (tablesIn l) p s′) → Shows pr l p m s′ w l′
     shows-made {m} {s′} x f e =
@@ -60,9 +60,9 @@ module _ (s : List ℕ) (l : Lent) {r c : ℕ} (i : LetIn s l r c) where
         record {
           holds = x;
           fits = f;
-          tells = moved-told w m (meets .answer ∙ rw q);
+          tells = moved-told w m (meets .contract .answer ∙ rw q);
           tables = holds-in t l′ (fours-step small pr (tablesIn l) (fours-in l) p m t e) (step-keeps small pr image-sane (tablesIn l) t p m (let-ok s l i) e)
-              (same-lent l′ (putTables l t) (meets .head ∙ rw q) (meets .procs ∙ rw q) (meets .vars ∙ rw q));
+              (same-lent l′ (putTables l t) (meets .contract .head ∙ rw q) (meets .contract .procs ∙ rw q) (meets .contract .vars ∙ rw q));
         }
 
     full-not : {m : Move} {s′ : State} → Rule pr (stateIn l) p m s′ → Fits small s′ → LacksRoom pr (stateIn l) p → ⊥
@@ -117,13 +117,13 @@ module _ (s : List ℕ) (l : Lent) {r c : ℕ} (i : LetIn s l r c) where
     ran-so =
         let x : Running = runTables limit small pr (tablesIn l) in
         let q = run-let s l i limit in
-        let a = ended-told w (x .end) (x .moves) (meets .answer ∙ rw q) in
+        let a = ended-told w (x .end) (x .moves) (meets .contract .answer ∙ rw q) in
         record {
           accepted = a .0;
           end = a .1;
           count = a .2;
           tables = holds-in (x .tables) l′ (fours-run small pr (tablesIn l) (fours-in l) limit) (run-keeps small pr image-sane limit (tablesIn l) (let-ok s l i))
-              (same-lent l′ (putTables l (x .tables)) (meets .head ∙ rw q) (meets .procs ∙ rw q) (meets .vars ∙ rw q));
+              (same-lent l′ (putTables l (x .tables)) (meets .contract .head ∙ rw q) (meets .contract .procs ∙ rw q) (meets .contract .vars ∙ rw q));
         }
 
     -- demand 2: a run is repeated moves, with their count, and stops where it must
@@ -139,9 +139,9 @@ module _ (s : List ℕ) (l : Lent) {r c : ℕ} (i : LetIn s l r c) where
 
   module _ (v k w : ℕ) (l′ : Lent) (meets : SupplyMeets s l v k w l′) where
     by-offer : {a : Supplying} → Offer pr (tablesIn l) (let-ok s l i) v k a → supplyTables pr (tablesIn l) v k ≡ a → refusalIn w ≡ 0 → Supplies l v k w l′
-    by-offer (not-there h) e z = let g = refused-told w (refusal 12 0) (omega arith) (meets .answer ∙ rw (supply-as s l v k i e)) .0 in absurd (omega arith)
-    by-offer (too-large h g) e z = let g = refused-told w (refusal 14 0) (omega arith) (meets .answer ∙ rw (supply-as s l v k i e)) .0 in absurd (omega arith)
-    by-offer (is-constant h g x) e z = let g = refused-told w (refusal 13 0) (omega arith) (meets .answer ∙ rw (supply-as s l v k i e)) .0 in absurd (omega arith)
+    by-offer (not-there h) e z = let g = refused-told w (refusal 12 0) (omega arith) (meets .contract .answer ∙ rw (supply-as s l v k i e)) .0 in absurd (omega arith)
+    by-offer (too-large h g) e z = let g = refused-told w (refusal 14 0) (omega arith) (meets .contract .answer ∙ rw (supply-as s l v k i e)) .0 in absurd (omega arith)
+    by-offer (is-constant h g x) e z = let g = refused-told w (refusal 13 0) (omega arith) (meets .contract .answer ∙ rw (supply-as s l v k i e)) .0 in absurd (omega arith)
     by-offer (is-taken {u} h g x f) e z =
         let t : Tables = supplied (tablesIn l) u k in
         let q = supply-as s l v k i e in
@@ -151,7 +151,7 @@ module _ (s : List ℕ) (l : Lent) {r c : ℕ} (i : LetIn s l r c) where
           value = x;
           free = f;
           tables = holds-in t l′ (fours-supply (tablesIn l) t (fours-in l) u k refl) (supply-keeps small pr (tablesIn l) t v k u (let-ok s l i) e)
-              (same-lent l′ (putTables l t) (meets .head ∙ rw q) (meets .procs ∙ rw q) (meets .vars ∙ rw q));
+              (same-lent l′ (putTables l t) (meets .contract .head ∙ rw q) (meets .contract .procs ∙ rw q) (meets .contract .vars ∙ rw q));
         }
 
     -- a supply that is not refused binds the value of v
@@ -164,7 +164,7 @@ module _ (s : List ℕ) (l : Lent) {r c : ℕ} (i : LetIn s l r c) where
     demand-2-value h =
         let a = look-value pr (tablesIn l) (let-ok s l i) v in
         let q = value-as s l v i (look-sees pr (tablesIn l) (let-ok s l i) v h) in
-        let b = term-told w (a .to) (meets .answer ∙ rw (q, look-is pr (tablesIn l) (let-ok s l i) v)) in
+        let b = term-told w (a .to) (meets .contract ∙ rw (q, look-is pr (tablesIn l) (let-ok s l i) v)) in
         record { accepted = b .0; value = a .to; leads = a .leads; ends = a .ends; sort = b .1; number = b .2 }
 
 -- ---- a start
@@ -202,5 +202,5 @@ demand-2-start s l w l′ meets z = go (starting-so s l)
     go (is-refused y) = let g = demand-1-start s l w l′ meets .by in let a = g .given y .0 in let b = g .numbered y .0 in absurd (omega arith)
     go (is-begun {r} {c} e h) =
         let q = start-begun s l e h in
-        let k : l′ ≡ startedLent small (programOf s r c) = same-lent l′ (startedLent small (programOf s r c)) (meets .head ∙ rw q) (meets .procs ∙ rw q) (meets .vars ∙ rw q) in
+        let k : l′ ≡ startedLent small (programOf s r c) = same-lent l′ (startedLent small (programOf s r c)) (meets .contract .head ∙ rw q) (meets .contract .procs ∙ rw q) (meets .contract .vars ∙ rw q) in
         record { relations = r; clauses = c; image = e; read = rw k (started-read s e); bytes = k }

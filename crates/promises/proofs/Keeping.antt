@@ -41,27 +41,27 @@ module _ (s : List ℕ) (l : Lent) {r c : ℕ} (i : LetIn s l r c) where
       let q = step-let s l i p in
       let x : Stepping = stepTables small pr (tablesIn l) p in
       stepped-in l′ x (λ m t e. (fours-step small pr (tablesIn l) (fours-in l) p m t e, step-keeps small pr (image-sane s l i) (tablesIn l) t p m (let-ok s l i) e))
-      (same-lent l′ (stepAnswer x l .lent) (meets .head ∙ rw q) (meets .procs ∙ rw q) (meets .vars ∙ rw q))
+      (same-lent l′ (stepAnswer x l .lent) (meets .contract .head ∙ rw q) (meets .contract .procs ∙ rw q) (meets .contract .vars ∙ rw q))
 
   pub kept-turn : (w : ℕ) (l′ : Lent) → TurnMeets s l w l′ → LetIn s l′ r c
   kept-turn w l′ meets =
       let q = turn-let s l i in
       let x : Stepping = turnTables small pr (tablesIn l) in
       stepped-in l′ x (λ m t e. (fours-turn small pr (tablesIn l) (fours-in l) m t e, turn-keeps small pr (image-sane s l i) (tablesIn l) t m (let-ok s l i) e))
-      (same-lent l′ (stepAnswer x l .lent) (meets .head ∙ rw q) (meets .procs ∙ rw q) (meets .vars ∙ rw q))
+      (same-lent l′ (stepAnswer x l .lent) (meets .contract .head ∙ rw q) (meets .contract .procs ∙ rw q) (meets .contract .vars ∙ rw q))
 
   pub kept-run : (limit w : ℕ) (l′ : Lent) → RunMeets s l limit w l′ → LetIn s l′ r c
   kept-run limit w l′ meets =
       let q = run-let s l i limit in
       let t : Tables = runTables limit small pr (tablesIn l) .tables in
       held-in l′ t (fours-run small pr (tablesIn l) (fours-in l) limit) (run-keeps small pr (image-sane s l i) limit (tablesIn l) (let-ok s l i))
-      (same-lent l′ (putTables l t) (meets .head ∙ rw q) (meets .procs ∙ rw q) (meets .vars ∙ rw q))
+      (same-lent l′ (putTables l t) (meets .contract .head ∙ rw q) (meets .contract .procs ∙ rw q) (meets .contract .vars ∙ rw q))
 
   pub kept-supply : (v k w : ℕ) (l′ : Lent) → SupplyMeets s l v k w l′ → LetIn s l′ r c
   kept-supply v k w l′ meets = go (supplyTables pr (tablesIn l) v k) refl
     where
       left : {x : Supplying} → supplyTables pr (tablesIn l) v k ≡ x → l′ ≡ supplyAnswer x l .lent
-      left {x} e = let q = supply-as s l v k i e in same-lent l′ (supplyAnswer x l .lent) (meets .head ∙ rw q) (meets .procs ∙ rw q) (meets .vars ∙ rw q)
+      left {x} e = let q = supply-as s l v k i e in same-lent l′ (supplyAnswer x l .lent) (meets .contract .head ∙ rw q) (meets .contract .procs ∙ rw q) (meets .contract .vars ∙ rw q)
 
       go : (x : Supplying) → supplyTables pr (tablesIn l) v k ≡ x → LetIn s l′ r c
       go (ungiven n) e = same-in l′ (left e)

@@ -13,3 +13,4 @@ pub mod Arrive
 pub mod Demand3
 pub mod Once
 pub mod RunTurns
+pub mod Watching

@@ -8,28 +8,28 @@ use Rattle.promises.specs.Outcomes.{LoadMeets, RunMeets, StartMeets, Ste
 
 module _ (s : List ℕ) where
   pub once-load : {w w′ : ℕ} → LoadMeets s w → LoadMeets s w′ → w ≡ w′
-  once-load a b = a .answer ∙ sym (b .answer)
+  once-load a b = a .contract ∙ sym (b .contract)
 
 module _ (s : List ℕ) (l : Lent) {w w′ : ℕ} {l′ l″ : Lent} where
   pub once-start : StartMeets s l w l′ → StartMeets s l w′ l″ → (w ≡ w′) × (l′ ≡ l″)
-  once-start a b = (a .answer ∙ sym (b .answer), same-lent l′ l″ (a .head ∙ sym (b .head)) (a .procs ∙ sym (b .procs)) (a .vars ∙ sym (b .vars)))
+  once-start a b = (a .contract .answer ∙ sym (b .contract .answer), same-lent l′ l″ (a .contract .head ∙ sym (b .contract .head)) (a .contract .procs ∙ sym (b .contract .procs)) (a .contract .vars ∙ sym (b .contract .vars)))
 
   pub once-step : {p : ℕ} → StepMeets s l p w l′ → StepMeets s l p w′ l″ → (w ≡ w′) × (l′ ≡ l″)
-  once-step a b = (a .answer ∙ sym (b .answer), same-lent l′ l″ (a .head ∙ sym (b .head)) (a .procs ∙ sym (b .procs)) (a .vars ∙ sym (b .vars)))
+  once-step a b = (a .contract .answer ∙ sym (b .contract .answer), same-lent l′ l″ (a .contract .head ∙ sym (b .contract .head)) (a .contract .procs ∙ sym (b .contract .procs)) (a .contract .vars ∙ sym (b .contract .vars)))
 
   pub once-turn : TurnMeets s l w l′ → TurnMeets s l w′ l″ → (w ≡ w′) × (l′ ≡ l″)
-  once-turn a b = (a .answer ∙ sym (b .answer), same-lent l′ l″ (a .head ∙ sym (b .head)) (a .procs ∙ sym (b .procs)) (a .vars ∙ sym (b .vars)))
+  once-turn a b = (a .contract .answer ∙ sym (b .contract .answer), same-lent l′ l″ (a .contract .head ∙ sym (b .contract .head)) (a .contract .procs ∙ sym (b .contract .procs)) (a .contract .vars ∙ sym (b .contract .vars)))
 
   pub once-run : {limit : ℕ} → RunMeets s l limit w l′ → RunMeets s l limit w′ l″ → (w ≡ w′) × (l′ ≡ l″)
-  once-run a b = (a .answer ∙ sym (b .answer), same-lent l′ l″ (a .head ∙ sym (b .head)) (a .procs ∙ sym (b .procs)) (a .vars ∙ sym (b .vars)))
+  once-run a b = (a .contract .answer ∙ sym (b .contract .answer), same-lent l′ l″ (a .contract .head ∙ sym (b .contract .head)) (a .contract .procs ∙ sym (b .contract .procs)) (a .contract .vars ∙ sym (b .contract .vars)))
 
   pub once-supply : {v k : ℕ} → SupplyMeets s l v k w l′ → SupplyMeets s l v k w′ l″ → (w ≡ w′) × (l′ ≡ l″)
-  once-supply a b = (a .answer ∙ sym (b .answer), same-lent l′ l″ (a .head ∙ sym (b .head)) (a .procs ∙ sym (b .procs)) (a .vars ∙ sym (b .vars)))
+  once-supply a b = (a .contract .answer ∙ sym (b .contract .answer), same-lent l′ l″ (a .contract .head ∙ sym (b .contract .head)) (a .contract .procs ∙ sym (b .contract .procs)) (a .contract .vars ∙ sym (b .contract .vars)))
 
 module _ (s : List ℕ) (l : Lent) (v : ℕ) where
   pub once-value : {w w′ : ℕ} → ValueMeets s l v w → ValueMeets s l v w′ → w ≡ w′
-  once-value a b = a .answer ∙ sym (b .answer)
+  once-value a b = a .contract ∙ sym (b .contract)
 
 module _ (rows : List ℕ) where
   pub once-watch : {w w′ : ℕ} → WatchMeets rows w → WatchMeets rows w′ → w ≡ w′
-  once-watch a b = a .answer ∙ sym (b .answer)
+  once-watch a b = a .contract ∙ sym (b .contract)

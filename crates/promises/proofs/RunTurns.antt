@@ -93,7 +93,7 @@ module _ (s : List ℕ) (r c : ℕ) where
   pr = programOf s r c
 
   turn-outcome : (l : Lent) → LetIn s l r c → {m : Move} {u : Tables} → turnTables small pr (tablesIn l) ≡ made m u → TurnMeets s l (word (stepNumbers (Moved m))) (putTables l u)
-  turn-outcome l i e = let q = turn-as s l i e in record { answer = rw q; head = rw q; procs = rw q; vars = rw q }
+  turn-outcome l i e = let q = turn-as s l i e in record { contract = record { answer = rw q; head = rw q; procs = rw q; vars = rw q } }
 
   turns-from : {t t′ : Tables} {n : ℕ} → Repeats small pr t n t′ → (l : Lent) → LetIn s l r c → tablesIn l ≡ t → putTables l t ≡ l → Turns s l n (putTables l t′)
   turns-from no-more l i e same = rw same no-turn

@@ -15,7 +15,7 @@ use Rattle.parlog.specs.declared.Stepped.the-variants.{Moved}
 use Rattle.parlog.specs.declared.Supplied.the-variants.{Given}
 use Rattle.parlog.specs.declared.Term.{Term}
 use Rattle.parlog.specs.declared.Term.the-variants.{Const, Var}
-use Rattle.promises.specs.Moves.{Tells}
+use Rattle.promises.specs.Moves.{MoveTold}
 use Rattle.promises.specs.Outcomes.{firstIn, largeIn, refusalIn, secondIn}
 
 -- ---- the parts of a word
@@ -134,7 +134,7 @@ module _ (w : ℕ) where
   pub refused-told : (f : Refusal) → f .number ≤ 255 → w ≡ word (refusedAs f) → (refusalIn w ≡ f .number) × (largeIn w ≡ f .offset)
   refused-told f h e = rw e (refusal-of (refusedAs f) h (omega arith) (omega arith), large-of (refusedAs f) h (omega arith) (omega arith))
 
-  pub moved-told : (m : Move) → w ≡ word (stepNumbers (Moved m)) → Tells m w
+  pub moved-told : (m : Move) → w ≡ word (stepNumbers (Moved m)) → MoveTold m w
   moved-told m e =
       let n : Numbers = stepNumbers (Moved m) in
       rw e (record {

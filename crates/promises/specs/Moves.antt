@@ -1,13 +1,15 @@
 -- Demand 2 of an outcome: a step made is the move of the rules, a run is repeated moves, a supply binds a value.
 use mathlib.Core.Path.{_≡_}
-use mathlib.Core.Logic.{_↔_, _⊎_}
+use mathlib.Core.Logic.{_↔_, _≢_, _⊎_}
 use mathlib.Core.Bool.{false}
 use mathlib.Core.List.{List}
-use Prim.Native.Nat.{suc, ℕ}
+use Prim.Native.Nat.{_/_, _<_, suc, ℕ}
+use lib.ListN.{length}
 use Rattle.load.proofs.Accepted.{accepted}
 use Rattle.load.proofs.Turn.{ends}
 use Rattle.parlog.proofs.Repeated.{runs}
 use Rattle.parlog.proofs.Shape.{tells}
+use Rattle.parlog.specs.Codes.{modeCode, suspended}
 use Rattle.parlog.specs.Delta.{only}
 use Rattle.parlog.specs.Demands.{Ended-at, Runs}
 use Rattle.parlog.specs.Limits.{small}
@@ -18,7 +20,7 @@ use Rattle.parlog.specs.Program.{Program}
 use Rattle.parlog.specs.Relation.{Fits, Rule}
 use Rattle.parlog.specs.Rules.{fits, room, still}
 use Rattle.parlog.specs.Run.{counted, goalEnded, Running, supplied}
-use Rattle.parlog.specs.Tables.{bindingOf, Lent, putTables, State, Tables, tablesIn}
+use Rattle.parlog.specs.Tables.{bindingOf, Lent, processAt, putTables, State, Tables, tablesIn}
 use Rattle.parlog.specs.Unify.{value}
 use Rattle.parlog.specs.declared.Binding.the-variants.{Free}
 use Rattle.parlog.specs.declared.Move.{Move}
@@ -38,7 +40,7 @@ pub record Holds (l : Lent) (t : Tables) (l′ : Lent) : Type 0 where
   pub bytes : l′ ≡ putTables l t
 
 -- Turns 9: the word of a step made: the rule, and what it touched
-pub record Tells (m : Move) (w : ℕ) : Type 0 where
+pub record MoveTold (m : Move) (w : ℕ) : Type 0 where
   pub accepted : refusalIn w ≡ 0
   pub rule : firstIn w ≡ ruleNumber m
   pub sort : secondIn w ≡ touched m .sort
@@ -48,7 +50,7 @@ pub record Tells (m : Move) (w : ℕ) : Type 0 where
 pub record Shows (pr : Program) (l : Lent) (p : ℕ) (m : Move) (s′ : State) (w : ℕ) (l′ : Lent) : Type 0 where
   pub holds : Rule pr (stateIn l) p m s′
   pub fits : Fits small s′
-  pub tells : Tells m w
+  pub tells : MoveTold m w
   pub tables : Holds l (afterStep (tablesIn l) p s′) l′
 
 -- some rule moved p
@@ -111,3 +113,11 @@ pub record Sees (l : Lent) (v w : ℕ) : Type 0 where
   pub ends : Ended-at (stateIn l .vars) value
   pub sort : firstIn w ≡ termNumbers value .a
   pub number : largeIn w ≡ termNumbers value .c
+
+-- ---- a watch
+
+-- Turns 5: the lowest number of a row that is suspended, or none; whatever the rows hold
+pub data Watched (rows : List ℕ) (w : ℕ) : Type 0 where
+  one-waits : {i : ℕ} → i < length rows / 24 → processAt rows i .mode ≡ modeCode suspended → ((j : ℕ) → j < i → processAt rows j .mode ≢ modeCode suspended)
+      → firstIn w ≡ 1 → largeIn w ≡ i → Watched rows w
+  none-waits : ((j : ℕ) → j < length rows / 24 → processAt rows j .mode ≢ modeCode suspended) → firstIn w ≡ 0 → Watched rows w
