@@ -1,14 +1,16 @@
 -- Demand 2: a step, by number or by turn, is exactly the move of the rules, and a run is repeated moves.
-use mathlib.Core.Path.{_∙_, _≡_, refl}
+use mathlib.Core.Path.{_∙_, _≡_, ap, refl}
 use mathlib.Core.Logic.{inl, inr}
 use mathlib.Core.Bool.{true}
 use mathlib.Core.List.{List}
 use Prim.Native.Nat.{_*_, _<_, _≤_, ℕ}
+use lib.ListN.{getD, length}
 use native.Mathlib.Omega.{arith}
 use Rattle.load.proofs.Sanity.{accepted-sane}
 use Rattle.parlog.proofs.Exact.{at-most-one}
 use Rattle.parlog.proofs.Kept.{fresh-keeps, run-keeps, step-keeps, supply-keeps}
 use Rattle.parlog.proofs.Repeated.{runs, runs-only}
+use Rattle.parlog.proofs.Rows.{rows-length, written-past}
 use Rattle.parlog.proofs.Sane.{Sane}
 use Rattle.parlog.specs.Limits.{small}
 use Rattle.parlog.specs.Load.{loadOf, refusal}
@@ -16,7 +18,7 @@ use Rattle.parlog.specs.Program.{Program, programOf}
 use Rattle.parlog.specs.Relation.{Fits, Rule}
 use Rattle.parlog.specs.Run.{made, Running, runTables, Stepping, stepTables, supplied, Supplying, supplyTables, unmade}
 use Rattle.parlog.specs.TableRules.{fullSize, stateOk, tablesOk}
-use Rattle.parlog.specs.Tables.{at, cellSize, freshTables, headSize, Lent, procCount, putTables, rowSize, startedLent, State, Tables, tablesIn, zeros}
+use Rattle.parlog.specs.Tables.{at, bindingBytes, cellSize, freshTables, headSize, Lent, procCount, processBytes, putTables, rowsBytes, rowSize, startedLent, State, Tables, tablesIn, zeros}
 use Rattle.parlog.specs.declared.Loaded.the-variants.{Accepted}
 use Rattle.parlog.specs.declared.Move.{Move}
 use Rattle.promises.proofs.Codec.{put-good, put-read, sizes-full}
@@ -31,7 +33,8 @@ use Rattle.promises.specs.Moves.{afterStep, Holds, MovesExactly, Ran-to,
 use Rattle.promises.specs.Outcomes.{refusalIn, RunMeets, StartMeets, StepMeets, SupplyMeets, TurnMeets, ValueMeets}
 use Rattle.promises.specs.Reach.{Begins}
 use Rattle.promises.specs.Refusals.{CanMove, LacksRoom, LetIn, stateIn, Turn}
-use Rattle.rows.proofs.Laws.{zeros-length}
+use Rattle.rows.proofs.Laws.{row-length, zeros-length}
+use Rattle.vars.proofs.Laws.{cell-length}
 
 module _ (s : List ℕ) (l : Lent) {r c : ℕ} (i : LetIn s l r c) where
   abbrev pr : Program
@@ -204,3 +207,22 @@ demand-2-start s l w l′ meets z = go (starting-so s l)
         let q = start-begun s l e h in
         let k : l′ ≡ startedLent small (programOf s r c) = same-lent l′ (startedLent small (programOf s r c)) (meets .contract .head ∙ rw q) (meets .contract .procs ∙ rw q) (meets .contract .vars ∙ rw q) in
         record { relations = r; clauses = c; image = e; read = rw k (started-read s e); bytes = k }
+
+-- ---- bytes past what a call writes
+
+module _ (l : Lent) (t : Tables) where
+  procs-behind : (j : ℕ) → length (t .state .procs) * 24 ≤ j → getD (putTables l t .procs) j 0 ≡ getD (l .procs) j 0
+  unfolding putTables
+  procs-behind j h = written-past (rowsBytes processBytes (t .state .procs)) (l .procs) j (omega (arith, rows-length processBytes 24 row-length (t .state .procs)))
+
+  vars-behind : (j : ℕ) → length (t .state .vars) * 4 ≤ j → getD (putTables l t .vars) j 0 ≡ getD (l .vars) j 0
+  unfolding putTables
+  vars-behind j h = written-past (rowsBytes bindingBytes (t .state .vars)) (l .vars) j (omega (arith, rows-length bindingBytes 4 cell-length (t .state .vars)))
+
+  module _ (l′ : Lent) (h : Holds l t l′) where
+    -- Refusals 23: they stay, in the row of processes and in the row of variables
+    pub behind-procs : (j : ℕ) → length (t .state .procs) * 24 ≤ j → getD (l′ .procs) j 0 ≡ getD (l .procs) j 0
+    behind-procs j u = ap (λ (x : Lent). getD (x .procs) j 0) (h .bytes) ∙ procs-behind j u
+
+    pub behind-vars : (j : ℕ) → length (t .state .vars) * 4 ≤ j → getD (l′ .vars) j 0 ≡ getD (l .vars) j 0
+    behind-vars j u = ap (λ (x : Lent). getD (x .vars) j 0) (h .bytes) ∙ vars-behind j u
