@@ -1,9 +1,14 @@
 /*
  * The PARLOG process machine as a C library: link librissobarm.a (x86-64 Linux).
  *
+ * A plan is an image, a row of bytes. A run of it lives in three byte rows that the caller lends to each call: a head, the
+ * process table and the variable table (docs/LAYOUT.md has every byte). Between two calls the rows are the whole run: a
+ * copy of them is a copy of the run. Calls take what they are lent in the order image, head, procs, vars, then numbers.
+ *
  * A byte row is lent as a pointer and its length. The pointer is never null, not even for a length of 0, and the row
  * is readable (and writable where it is not const) over the whole length. Rows lent to one call do not overlap.
  * No call keeps a pointer, allocates memory or fails in any other way than by a refusal in its answer.
+ * A call writes only rows that are not const here. A refused call leaves every lent byte as it was.
  */
 #ifndef RISSOBARM_H
 #define RISSOBARM_H
@@ -18,9 +23,21 @@ extern "C" {
 /* ---- sizes and limits ---- */
 
 enum {
-    RISSOBARM_IMAGE_LIMIT = 32768,  /* bytes of an image */
-    RISSOBARM_RELATION_LIMIT = 32,  /* relations of an image */
-    RISSOBARM_CLAUSE_LIMIT = 64     /* clauses of an image */
+    RISSOBARM_IMAGE_LIMIT = 32768,   /* bytes of an image */
+    RISSOBARM_RELATION_LIMIT = 32,   /* relations of an image */
+    RISSOBARM_CLAUSE_LIMIT = 64,     /* clauses of an image */
+    RISSOBARM_CONSTANT_LIMIT = 32767 /* the highest constant */
+};
+
+/* The three rows of a run; a row that is lent with another length is refused 8. */
+enum {
+    RISSOBARM_PROCESS_LIMIT = 512,   /* rows of the process table */
+    RISSOBARM_VARIABLE_LIMIT = 1024, /* rows of the variable table */
+    RISSOBARM_PROCESS_ROW = 24,      /* bytes of a process row */
+    RISSOBARM_VARIABLE_ROW = 4,      /* bytes of a variable row */
+    RISSOBARM_HEAD_SIZE = 10,        /* bytes of the head */
+    RISSOBARM_PROCS_SIZE = RISSOBARM_PROCESS_LIMIT * RISSOBARM_PROCESS_ROW,
+    RISSOBARM_VARS_SIZE = RISSOBARM_VARIABLE_LIMIT * RISSOBARM_VARIABLE_ROW
 };
 
 /* ---- refusal numbers ---- */
@@ -43,12 +60,79 @@ enum {
     RISSOBARM_CONST = 14    /* the value is no constant of an image */
 };
 
+/* ---- rules: what a step did ---- */
+
+enum {
+    RISSOBARM_RULE_READY = 1, /* a ready process becomes starting */
+    RISSOBARM_RULE_WAKE = 2,  /* a suspended process becomes starting, since a variable that it noted is bound */
+    RISSOBARM_RULE_STOP = 3,  /* process 0 has reported and becomes dormant: the goal has ended */
+    RISSOBARM_RULE_AND_PAR_START = 4,
+    RISSOBARM_RULE_AND_PAR_SUCCESS = 5,
+    RISSOBARM_RULE_AND_PAR_FAILURE = 6,
+    RISSOBARM_RULE_AND_SEQ_START = 7,
+    RISSOBARM_RULE_AND_SEQ_NEXT = 8, /* the stage is done and dropped */
+    RISSOBARM_RULE_AND_SEQ_SUCCESS = 9,
+    RISSOBARM_RULE_AND_SEQ_FAILURE = 10,
+    RISSOBARM_RULE_OR_PAR_START = 11,
+    RISSOBARM_RULE_OR_PAR_SPAWN = 12, /* a process is made for the committed body */
+    RISSOBARM_RULE_OR_PAR_SUCCESS = 13,
+    RISSOBARM_RULE_OR_PAR_FAILURE = 14,
+    RISSOBARM_RULE_SEQ_SEARCH_NO_CLAUSE = 15,
+    RISSOBARM_RULE_SEQ_SEARCH_START = 16,
+    RISSOBARM_RULE_SEQ_SEARCH_NEXT = 17, /* the block failed and the next one is tried */
+    RISSOBARM_RULE_SEQ_SEARCH_SUCCESS = 18,
+    RISSOBARM_RULE_SEQ_SEARCH_FAILURE = 19,
+    RISSOBARM_RULE_OR_SEARCH_START = 20,
+    RISSOBARM_RULE_OR_SEARCH_COMMIT = 21,
+    RISSOBARM_RULE_OR_SEARCH_FAILURE = 22,
+    RISSOBARM_RULE_TRY_CLAUSE_START = 23,
+    RISSOBARM_RULE_TRY_CLAUSE_SUCCESS = 24,
+    RISSOBARM_RULE_TRY_CLAUSE_FAILURE = 25,
+    RISSOBARM_RULE_INPUT_MATCH_SUCCESS = 26,
+    RISSOBARM_RULE_INPUT_MATCH_FAILURE = 27,
+    RISSOBARM_RULE_INPUT_MATCH_SUSPEND = 28,
+    RISSOBARM_RULE_GUARD_EVAL_EMPTY = 29,
+    RISSOBARM_RULE_GUARD_EVAL_START = 30,
+    RISSOBARM_RULE_GUARD_EVAL_SUCCESS = 31,
+    RISSOBARM_RULE_GUARD_EVAL_FAILURE = 32,
+    RISSOBARM_RULE_EQUATE_SUCCESS = 33,
+    RISSOBARM_RULE_EQUATE_FAILURE = 34,
+    RISSOBARM_RULE_EQUATE_SUSPEND = 35,
+    RISSOBARM_RULE_COUNT = 35
+};
+
+/* What a step touched first. */
+enum {
+    RISSOBARM_TOUCHED_PROCESS = 0, /* a process made, or the one that moved */
+    RISSOBARM_TOUCHED_VARIABLE = 1 /* a variable bound or noted */
+};
+
+/* ---- ends: why a run stopped ---- */
+
+enum {
+    RISSOBARM_END_SUCCESS = 1, /* the goal has ended in success */
+    RISSOBARM_END_FAILURE = 2, /* the goal has ended in failure */
+    RISSOBARM_END_WAITING = 3, /* nothing can move before a value is supplied */
+    RISSOBARM_END_ROOM = 4,    /* the next step does not fit into the tables */
+    RISSOBARM_END_BUDGET = 5   /* the limit is used up */
+};
+
+/* ---- sorts: what a variable's value is ---- */
+
+enum {
+    RISSOBARM_SORT_CONSTANT = 1, /* a constant */
+    RISSOBARM_SORT_VARIABLE = 2  /* an unbound variable */
+};
+
 /* ---- answers ---- */
 
 /*
  * Every call answers one 64-bit number. Bits 0-7 hold the refusal number, 0 when the call is accepted. Refusals 1 to 7
  * hold the offset of the refused record in bits 32-63 (0 for LONG, the image's length for NOGOAL). What an accepted
  * call answers stands at the call. Every bit that is not named is 0.
+ *
+ * Every call that takes an image tests it first, as the load does, and may refuse with 1 to 7. Then come the lent rows:
+ * 8 when one is not of its full length or, in every call but the start, when they are no tables of a run of that image.
  */
 
 /* The refusal number of any answer; RISSOBARM_ACCEPTED for none. */
@@ -78,6 +162,124 @@ static inline unsigned rissobarm_relations(uint64_t answer)
 static inline unsigned rissobarm_clauses(uint64_t answer)
 {
     return (unsigned)(answer >> 16 & 255);
+}
+
+/* ---- start ---- */
+
+/*
+ * Begins a run: fills all three rows, whatever they held. Process 0 has the goal, the goal's variables are 0 upward and
+ * unbound, and unused rows hold zeros. Accepted: 0. Refused: 1 to 8, and 8 only for a length.
+ */
+uint64_t rissobarm_start(const uint8_t *image, size_t image_len, uint8_t *head, size_t head_len,
+                         uint8_t *procs, size_t procs_len, uint8_t *vars, size_t vars_len);
+
+/* ---- step and turn ---- */
+
+/*
+ * Makes the move of one process, told by its number. Accepted: the rule in bits 8-15, in bits 16-23 what it touched (a
+ * process or a variable), its number in bits 32-63. Refused: 1 to 11.
+ */
+uint64_t rissobarm_step(const uint8_t *image, size_t image_len, uint8_t *head, size_t head_len,
+                        uint8_t *procs, size_t procs_len, uint8_t *vars, size_t vars_len,
+                        uint32_t process);
+
+/*
+ * Makes the move of the process whose turn it is: the first that can move after the one last stepped. Answers as a step
+ * does. Refused: 1 to 8; 10 when nothing can move; 11 when there is no room for that process's move.
+ */
+uint64_t rissobarm_turn(const uint8_t *image, size_t image_len, uint8_t *head, size_t head_len,
+                        uint8_t *procs, size_t procs_len, uint8_t *vars, size_t vars_len);
+
+/* The rule of an accepted step or turn, 1 to RISSOBARM_RULE_COUNT. */
+static inline unsigned rissobarm_rule(uint64_t answer)
+{
+    return (unsigned)(answer >> 8 & 255);
+}
+
+/* What an accepted step or turn touched: RISSOBARM_TOUCHED_PROCESS or RISSOBARM_TOUCHED_VARIABLE. */
+static inline unsigned rissobarm_touched_sort(uint64_t answer)
+{
+    return (unsigned)(answer >> 16 & 255);
+}
+
+/* The number of the process or variable that an accepted step or turn touched. */
+static inline uint32_t rissobarm_touched(uint64_t answer)
+{
+    return (uint32_t)(answer >> 32);
+}
+
+/* ---- run ---- */
+
+/*
+ * Makes turns until the goal has ended, nothing can move, the limit is used up, or there is no room: the first of these
+ * that holds, in that order, also with limit 0. Accepted: the end in bits 8-15, the steps made by this call in bits
+ * 32-63. Refused: 1 to 8; want of room is an end here, with every step before it kept.
+ */
+uint64_t rissobarm_run(const uint8_t *image, size_t image_len, uint8_t *head, size_t head_len,
+                       uint8_t *procs, size_t procs_len, uint8_t *vars, size_t vars_len,
+                       uint16_t limit);
+
+/* The end of an accepted run, RISSOBARM_END_SUCCESS to RISSOBARM_END_BUDGET. */
+static inline unsigned rissobarm_end(uint64_t answer)
+{
+    return (unsigned)(answer >> 8 & 255);
+}
+
+/* The steps that an accepted run made. */
+static inline uint32_t rissobarm_steps(uint64_t answer)
+{
+    return (uint32_t)(answer >> 32);
+}
+
+/* ---- supply and value ---- */
+
+/*
+ * Binds the value of a goal variable to a constant, between any two steps; it is no step, so that head and processes stay
+ * as they are. Accepted: 0. Refused: 1 to 8, 12, 14, 13, tested in this order.
+ */
+uint64_t rissobarm_supply(const uint8_t *image, size_t image_len, const uint8_t *head, size_t head_len,
+                          const uint8_t *procs, size_t procs_len, uint8_t *vars, size_t vars_len,
+                          uint32_t variable, uint32_t value);
+
+/*
+ * Gives the value of a goal variable: the constant or unbound variable that its bindings lead to. Accepted: the sort in
+ * bits 8-15, the number of the constant or variable in bits 32-63. Refused: 1 to 8, 12.
+ */
+uint64_t rissobarm_value(const uint8_t *image, size_t image_len, const uint8_t *head, size_t head_len,
+                         const uint8_t *procs, size_t procs_len, const uint8_t *vars, size_t vars_len,
+                         uint32_t variable);
+
+/* The sort of an accepted value: RISSOBARM_SORT_CONSTANT or RISSOBARM_SORT_VARIABLE. */
+static inline unsigned rissobarm_value_sort(uint64_t answer)
+{
+    return (unsigned)(answer >> 8 & 255);
+}
+
+/* The constant or variable of an accepted value. */
+static inline uint32_t rissobarm_value_number(uint64_t answer)
+{
+    return (uint32_t)(answer >> 32);
+}
+
+/* ---- watch ---- */
+
+/*
+ * For operators: the lowest number of a suspended process among the whole rows of procs, used or not. Takes any row of
+ * any length, looks at modes alone and refuses nothing. Accepted: 1 in bits 8-15 and the number in bits 32-63 when there
+ * is one, else 0.
+ */
+uint64_t rissobarm_watch(const uint8_t *procs, size_t procs_len);
+
+/* Whether a watch found a suspended process: 1 or 0. */
+static inline unsigned rissobarm_watch_found(uint64_t answer)
+{
+    return (unsigned)(answer >> 8 & 255);
+}
+
+/* The number of the process that a watch found. */
+static inline uint32_t rissobarm_watch_number(uint64_t answer)
+{
+    return (uint32_t)(answer >> 32);
 }
 
 #ifdef __cplusplus

@@ -45,7 +45,8 @@ pub fn stepped(
     if !plan::fits(PROCS, VARS, n, m, plan) {
         return Stepped::Unmoved(machine::refusal(11));
     }
-    let steps = count(head::marker_steps(head));
+    let made = head::marker_steps(head);
+    let steps = count(made);
     let mv = plan.mv;
     plan::write(procs, n, vars, m, p, plan);
     head::put_head(head, n + plan.count, m + plan.fresh, p, steps);

@@ -129,6 +129,7 @@ module _ {M : Type 1} (𝓤 : URA M) (H : Heap 𝓤) (A : Atoms 𝓤) (W : Given
   Slice = at-slice T.the-row x (sliceVal (b, o) n ∷ [])
 
   exits : (r : Found) → r ≡ watchOf ys → Is F.the-row r (found-val r ∷ []) → ent 𝓤 (⋆ 𝓤 H A (‵ (flft κ q) ∷ ‵ Shared ∷ ‵ Fixed ∷ ‵ Slice ∷ [])) (Post (found-val r))
+  unfolding watchOf
   exits r e is =
       qed W (‵ (flft κ q) ∷ ‵ Shared ∷ ‵ Fixed ∷ ‵ Slice ∷ []) ∵
       suffices ! _ (ends-at 𝓤 H A watch.ended stayed (watch.clauses 𝓤 H A at-mem run) W (((κ, tt), (q, tt), tt, a, vals), tt) (found-val r) r (tt, tt) (tt, tt)) $ says ! e $

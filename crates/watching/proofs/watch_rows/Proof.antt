@@ -1,6 +1,7 @@
 use Prim.Native.Nat.{_-_, _/_, _≤_}
 use borrow.Author.Needs.{needs}
 use native.Mathlib.Omega.{arith}
+use Rattle.parlog.specs.Run.{watchOf}
 use Rattle.parlog.specs.Tables.{procsOf}
 use Rattle.watching.proofs.Turns.{rows-end, rows-hit, rows-next}
 use Rattle.watching.proofs.Watched.{Quiet, quiet-start}
@@ -14,6 +15,7 @@ abbrev μ-loop : tie.MeasureT-loop
 μ-loop procs n q₀ q = n - q
 
 pub watch-rows-spec : {M : Type 1} → statement M
+unfolding watchOf
 watch-rows-spec =
     tie.close
     (tie.spec
