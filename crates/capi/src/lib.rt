@@ -1,26 +1,9 @@
 // What a C program calls: numbers and byte rows alone. Each answer is one word.
 use parlog::Loaded;
-use parlog::Refusal;
 ghost use mathlib.Core.Path.{_≡_};
-ghost use Prim.Native.Nat.{_≤_};
-ghost use Rattle.parlog.specs.Numbers.{word, refusedAs, loadNumbers};
+ghost use Rattle.capi.specs.Tells.{RunTells, StartTells, StepTells, SupplyTells, TurnTells, ValueTells, WatchTells};
 ghost use Rattle.parlog.specs.Load.{loadOf};
-
-// The numbers of an answer as one word.
-fn word(refused: usize, a: usize, b: usize, c: usize) -> u64
-    requires { ⌜ (refused ≤ 255) × (a ≤ 255) × (b ≤ 255) × (c ≤ 4294967295) ⌝ }
-    ensures { λ r. ⌜ r ≡ word (record { refused = refused; a = a; b = b; c = c }) ⌝ }
-{
-    (refused + 256 * a + 65536 * b + 4294967296 * c) as u64
-}
-
-// A refusal as one word.
-fn refused(r: Refusal) -> u64
-    requires { ⌜ r .offset ≤ 4294967295 ⌝ }
-    ensures { λ w. ⌜ w ≡ word (refusedAs r) ⌝ }
-{
-    word(r.number as usize, 0, 0, r.offset)
-}
+ghost use Rattle.parlog.specs.Numbers.{loadNumbers, word};
 
 // Tests an image: its relation and clause counts, or the first refusal.
 #[no_mangle]
@@ -30,7 +13,105 @@ pub extern "C" fn rissobarm_load(image: &[u8]) -> u64
     let l = load::load(image);
     let Loaded::Accepted(relations, clauses) = l else {
         let r = load::refusal(l);
-        return refused(r);
+        return words::refused(r);
     };
-    word(0, relations, clauses, 0)
+    words::word(0, relations, clauses, 0)
+}
+
+// Writes the tables of a run that has not moved yet.
+#[no_mangle]
+pub extern "C" fn rissobarm_start(
+    image: &[u8],
+    head: &mut [u8],
+    procs: &mut [u8],
+    vars: &mut [u8],
+) -> u64
+    ensures { λ r. ⌜ StartTells (now (image .entry)) (record { head = now (head .entry); procs = now (procs .entry); vars = now (vars .entry) }) r (now (head .exit)) (now (procs .exit)) (now (vars .exit)) ⌝ }
+{
+    let a = machine::start(image, head, procs, vars);
+    words::start_word(a)
+}
+
+// Makes the step of one process.
+#[no_mangle]
+pub extern "C" fn rissobarm_step(
+    image: &[u8],
+    head: &mut [u8],
+    procs: &mut [u8],
+    vars: &mut [u8],
+    process: u32,
+) -> u64
+    ensures { λ r. ⌜ StepTells (now (image .entry)) (record { head = now (head .entry); procs = now (procs .entry); vars = now (vars .entry) }) process r (now (head .exit)) (now (procs .exit)) (now (vars .exit)) ⌝ }
+{
+    let a = step::step(image, head, procs, vars, process);
+    words::step_word(a)
+}
+
+// Makes the step of the first process that can move after the one stepped last.
+#[no_mangle]
+pub extern "C" fn rissobarm_turn(
+    image: &[u8],
+    head: &mut [u8],
+    procs: &mut [u8],
+    vars: &mut [u8],
+) -> u64
+    ensures { λ r. ⌜ TurnTells (now (image .entry)) (record { head = now (head .entry); procs = now (procs .entry); vars = now (vars .entry) }) r (now (head .exit)) (now (procs .exit)) (now (vars .exit)) ⌝ }
+{
+    let a = run::turn(image, head, procs, vars);
+    words::step_word(a)
+}
+
+// Makes turns until the goal has ended, nothing can move, the limit is used up or a step has no room.
+#[no_mangle]
+pub extern "C" fn rissobarm_run(
+    image: &[u8],
+    head: &mut [u8],
+    procs: &mut [u8],
+    vars: &mut [u8],
+    limit: u16,
+) -> u64
+    ensures { λ r. ⌜ RunTells (now (image .entry)) (record { head = now (head .entry); procs = now (procs .entry); vars = now (vars .entry) }) limit r (now (head .exit)) (now (procs .exit)) (now (vars .exit)) ⌝ }
+{
+    let a = run::run(image, head, procs, vars, limit);
+    words::run_word(a)
+}
+
+// Binds the value of a goal variable to a constant.
+#[no_mangle]
+pub extern "C" fn rissobarm_supply(
+    image: &[u8],
+    head: &[u8],
+    procs: &[u8],
+    vars: &mut [u8],
+    variable: u32,
+    value: u32,
+) -> u64
+    ensures { λ r. ⌜ SupplyTells (now (image .entry)) (record { head = now (head .entry); procs = now (procs .entry); vars = now (vars .entry) }) variable value r (now (head .entry)) (now (procs .entry)) (now (vars .exit)) ⌝ }
+{
+    let a = machine::supply(image, head, procs, vars, variable, value);
+    words::supply_word(a)
+}
+
+// The value of a goal variable.
+#[no_mangle]
+pub extern "C" fn rissobarm_value(
+    image: &[u8],
+    head: &[u8],
+    procs: &[u8],
+    vars: &[u8],
+    variable: u32,
+) -> u64
+    ensures { λ r. ⌜ ValueTells (now (image .entry)) (record { head = now (head .entry); procs = now (procs .entry); vars = now (vars .entry) }) variable r ⌝ }
+{
+    let a = machine::value(image, head, procs, vars, variable);
+    words::value_word(a)
+}
+
+// The lowest number of a suspended process, in any row of processes.
+#[no_mangle]
+pub extern "C" fn rissobarm_watch(procs: &[u8]) -> u64
+    ensures { λ r. ⌜ WatchTells (now (procs .entry)) r ⌝ }
+{
+    let a = watching::watch_rows(procs);
+    words::watch_word(a)
 }

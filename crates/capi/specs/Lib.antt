@@ -1,0 +1,2 @@
+-- What a C program is promised.
+pub mod Tells

@@ -1,0 +1,184 @@
+-- What a run comes to, by what its next turn is; and the loop of a run.
+use mathlib.Core.Path.{_∙_, _≡_, ap, refl}
+use mathlib.Core.Logic.{_≢_}
+use mathlib.Core.Bool.{Bool, false, not, true}
+use mathlib.Core.List.{List}
+use Prim.Native.Nat.{_*_, _+_, _-_, _<_, _≤_, suc, zero, ℕ}
+use lib.Dec.{eqb}
+use lib.ListN.{length}
+use native.Mathlib.Omega.{arith}
+use Rattle.head.proofs.Laws.{head-is}
+use Rattle.machine.specs.Entered.{Inside}
+use Rattle.parlog.proofs.Rows.{rows-length, written-in, written-is, written-length, written-past}
+use Rattle.parlog.specs.Codes.{isLive, resultOf}
+use Rattle.parlog.specs.Limits.{Limits, small}
+use Rattle.parlog.specs.Program.{Program, programOf}
+use Rattle.parlog.specs.Run.{endOf, goalEnded, goalResult, halt, made, runFrom, runStep, runTables, runTest, runTurn, stepTables, turnFor, unmade}
+use Rattle.parlog.specs.Tables.{at, bindingBytes, Lent, procCount, processBytes, putTables, rowsBytes, Tables, tablesIn, varCount, written}
+use Rattle.parlog.specs.declared.Binding.{Binding}
+use Rattle.parlog.specs.declared.End.{End}
+use Rattle.parlog.specs.declared.End.the-variants.{Budget, Failure, Room, Success, Waiting}
+use Rattle.parlog.specs.declared.Found.the-variants.{At, Nothing}
+use Rattle.parlog.specs.declared.Move.{Move}
+use Rattle.parlog.specs.declared.Process.{Process}
+use Rattle.parlog.specs.declared.Ran.the-variants.{Ended}
+use Rattle.rows.proofs.Exact.{table-bytes}
+use Rattle.rows.proofs.Laws.{row-length}
+use Rattle.rows.proofs.Tables.{procs-length, table-same}
+use Rattle.rows.specs.Rows.{Bytes}
+use Rattle.run.specs.Running.{Going, Grown, RanSays, WentSays, WentTo}
+use Rattle.run.specs.declared.Went.{Went}
+use Rattle.run.specs.declared.Went.the-variants.{On, Over}
+use Rattle.vars.proofs.Exact.{cells-bytes}
+use Rattle.vars.proofs.Laws.{cell-length}
+use Rattle.vars.proofs.Tables.{cells-same, vars-length}
+
+-- ---- the goal's process
+
+pub sleeps : {x mode : ℕ} → x ≡ mode → eqb x 0 ≡ not (isLive mode)
+sleeps {x} {mode} e = rw e (go (eqb mode 0))
+  where
+    go : (b : Bool) → b ≡ not (not b)
+    go true = refl
+    go false = refl
+
+pub end-one : (x : ℕ) → x ≡ 1 → Success ≡ endOf (resultOf x)
+unfolding resultOf
+end-one x e = rw e
+
+pub end-other : (x : ℕ) → x ≢ 1 → Failure ≡ endOf (resultOf x)
+unfolding resultOf
+end-other zero h = refl
+end-other (suc zero) h = absurd (h refl)
+end-other (suc (suc x)) h = refl
+
+-- ---- by the definitions
+
+module _ (lim : Limits) (pr : Program) (t : Tables) where
+  pub run-ended : (k n : ℕ) → goalEnded t ≡ true → runFrom k lim pr n t ≡ halt (goalResult t) n t
+  unfolding runFrom runTest
+  run-ended zero n e = rw e
+  run-ended (suc k) n e = rw e
+
+  module _ (e : goalEnded t ≡ false) where
+    pub run-waits : (k n : ℕ) → turnFor pr t ≡ Nothing → runFrom k lim pr n t ≡ halt Waiting n t
+    unfolding runFrom runTest runTurn
+    run-waits zero n f = rw (e, f)
+    run-waits (suc k) n f = rw (e, f)
+
+    module _ {p : ℕ} (f : turnFor pr t ≡ At p) where
+      pub run-spent : (n : ℕ) → runFrom 0 lim pr n t ≡ halt Budget n t
+      unfolding runFrom runTest runTurn
+      run-spent n = rw (e, f)
+
+      pub run-room : (k n : ℕ) {j : ℕ} → stepTables lim pr t p ≡ unmade j → runFrom (suc k) lim pr n t ≡ halt Room n t
+      unfolding runFrom runTest runTurn runStep
+      run-room k n g = rw (e, f, g)
+
+      pub run-goes : (k n : ℕ) {m : Move} {t′ : Tables} → stepTables lim pr t p ≡ made m t′ → runFrom (suc k) lim pr n t ≡ runFrom k lim pr (suc n) t′
+      unfolding runFrom runTest runTurn runStep
+      run-goes k n g = rw (e, f, g)
+
+-- ---- bytes written twice
+
+twice : (a b l : List ℕ) → length a ≤ length l → length b ≤ length l → length a ≤ length b → written b (written a l) ≡ written b l
+twice a b l ha hb h =
+    let n = written-length a l ha in
+    written-is b l (written b (written a l)) (written-length b (written a l) (omega arith) ∙ n) hb
+    (λ j u. written-in b (written a l) j u)
+    (λ j u. written-past b (written a l) j u ∙ written-past a l j (omega arith))
+
+rows-in : (ps : List Process) → length (rowsBytes processBytes ps) ≡ length ps * 24
+rows-in = rows-length processBytes 24 row-length
+
+cells-in : (vs : List Binding) → length (rowsBytes bindingBytes vs) ≡ length vs * 4
+cells-in = rows-length bindingBytes 4 cell-length
+
+-- how many rows the tables of these bytes have
+count-procs : (l : Lent) → length (tablesIn l .state .procs) ≡ procCount (l .head)
+unfolding tablesIn
+count-procs l = procs-length (l .procs) (procCount (l .head))
+
+count-vars : (l : Lent) → length (tablesIn l .state .vars) ≡ varCount (l .head)
+unfolding tablesIn
+count-vars l = vars-length (l .vars) (varCount (l .head))
+
+-- tables written over fewer of the same tables
+module _ {s : List ℕ} {r c : ℕ} (l₀ l l′ : Lent) (i₀ : Inside s r c l₀) (i : Inside s r c l) (i′ : Inside s r c l′) (a : Grown l₀ l) (b : Grown l l′) where
+  procs-over : l′ .procs ≡ putTables l₀ (tablesIn l′) .procs
+  unfolding putTables
+  procs-over =
+      let n₀ = i₀ .procs-size in
+      let n = rows-in (tablesIn l .state .procs) in
+      let n′ = rows-in (tablesIn l′ .state .procs) in
+      let k = count-procs l in
+      let k′ = count-procs l′ in
+      let m = i .procs-most in
+      let m′ = i′ .procs-most in
+      let g = b .more-procs in
+      b .procs ∙ rw (a .procs) (twice (rowsBytes processBytes (tablesIn l .state .procs)) (rowsBytes processBytes (tablesIn l′ .state .procs)) (l₀ .procs) (omega arith) (omega arith) (omega arith))
+
+  vars-over : l′ .vars ≡ putTables l₀ (tablesIn l′) .vars
+  unfolding putTables
+  vars-over =
+      let n₀ = i₀ .vars-size in
+      let n = cells-in (tablesIn l .state .vars) in
+      let n′ = cells-in (tablesIn l′ .state .vars) in
+      let k = count-vars l in
+      let k′ = count-vars l′ in
+      let m = i .vars-most in
+      let m′ = i′ .vars-most in
+      let g = b .more-vars in
+      b .vars ∙ rw (a .vars) (twice (rowsBytes bindingBytes (tablesIn l .state .vars)) (rowsBytes bindingBytes (tablesIn l′ .state .vars)) (l₀ .vars) (omega arith) (omega arith) (omega arith))
+
+  head-over : l′ .head ≡ putTables l₀ (tablesIn l′) .head
+  unfolding putTables
+  head-over = b .head
+
+  grown-then : Grown l₀ l′
+  grown-then = record { head = head-over; procs = procs-over; vars = vars-over; more-procs = let x = a .more-procs in let y = b .more-procs in omega arith; more-vars = let x = a .more-vars in let y = b .more-vars in omega arith }
+
+-- the same bytes hold their own tables
+grown-same : {s : List ℕ} {r c : ℕ} (l : Lent) → Inside s r c l → Bytes (l .head) → Bytes (l .procs) → Bytes (l .vars) → Grown l l
+grown-same l i hs ps vs = record { head = head-same; procs = procs-same; vars = vars-same; more-procs = omega arith; more-vars = omega arith }
+  where
+    head-same : l .head ≡ putTables l (tablesIn l) .head
+    head-same = unfold putTables tablesIn in (head-is (l .head) (i .head) hs ∙ rw (procs-length (l .procs) (procCount (l .head)), vars-length (l .vars) (varCount (l .head))))
+
+    procs-same : l .procs ≡ putTables l (tablesIn l) .procs
+    procs-same = unfold putTables tablesIn in (table-bytes (table-same (l .procs) (procCount (l .head))) ps (omega (arith, procs-length (l .procs) (procCount (l .head)), i .rows)))
+
+    vars-same : l .vars ≡ putTables l (tablesIn l) .vars
+    vars-same = unfold putTables tablesIn in (cells-bytes (cells-same (l .vars) (varCount (l .head))) (i .cells-known) vs (omega (arith, vars-length (l .vars) (varCount (l .head)), i .cells)))
+
+-- ---- the loop
+
+-- k less than the limit
+one-less : (limit k : ℕ) → k < limit → limit - k ≡ suc (limit - (k + 1))
+one-less limit k h = omega arith
+
+module _ (s : List ℕ) (r c : ℕ) (l₀ : Lent) (limit : ℕ) where
+  pub going-start : Inside s r c l₀ → Bytes (l₀ .head) → Bytes (l₀ .procs) → Bytes (l₀ .vars) → Going s r c l₀ l₀ limit 0
+  going-start i hs ps vs = record { inside = i; most = omega arith; rest = ap (λ (k : ℕ). runFrom k small (programOf s r c) 0 (tablesIn l₀)) (omega arith); holds = grown-same l₀ i hs ps vs }
+
+  module _ (i₀ : Inside s r c l₀) (l : Lent) (k : ℕ) (g : Going s r c l₀ l limit k) where
+    -- the run comes to this
+    comes-to : (e : End) → runFrom (limit - k) small (programOf s r c) k (tablesIn l) ≡ halt e k (tablesIn l) → RanSays s r c l₀ limit (Ended e k) l
+    comes-to e q =
+        let z : runTables limit small (programOf s r c) (tablesIn l₀) ≡ halt e k (tablesIn l) = unfold runTables in (g .rest ∙ q) in
+        record { answer = rw z; head = rw z (g .holds .head); procs = rw z (g .holds .procs); vars = rw z (g .holds .vars) }
+
+    pub going-on : k < limit → {w : Went} (l′ : Lent) → WentSays s r c l w l′ → w ≡ On → Going s r c l₀ l′ limit (k + 1)
+    going-on h l′ d e = let f : WentTo On (programOf s r c) l l′ = rw e at (d .went) in record {
+      inside = d .inside;
+      most = omega arith;
+      rest = g .rest ∙ ap (λ (x : ℕ). runFrom x small (programOf s r c) k (tablesIn l)) (one-less limit k h) ∙ f .0 (limit - (k + 1)) k ∙ ap (λ (x : ℕ). runFrom (limit - (k + 1)) small (programOf s r c) x (tablesIn l′)) (omega arith);
+      holds = grown-then l₀ l l′ i₀ (g .inside) (d .inside) (g .holds) (f .1);
+    }
+
+    pub going-over : k < limit → {w : Went} (l′ : Lent) → WentSays s r c l w l′ → {e : End} → w ≡ Over e → RanSays s r c l₀ limit (Ended e k) l′
+    going-over h l′ d {e} q = let f : WentTo (Over e) (programOf s r c) l l′ = rw q at (d .went) in
+        rw (f .1) (comes-to e (ap (λ (x : ℕ). runFrom x small (programOf s r c) k (tablesIn l)) (one-less limit k h) ∙ f .0 (limit - (k + 1)) k))
+
+    pub going-spent : limit ≤ k → {e : End} → ((n : ℕ) → runFrom 0 small (programOf s r c) n (tablesIn l) ≡ halt e n (tablesIn l)) → RanSays s r c l₀ limit (Ended e k) l
+    going-spent h {e} q = comes-to e (ap (λ (x : ℕ). runFrom x small (programOf s r c) k (tablesIn l)) (let m = g .most in omega arith) ∙ q k)

@@ -1,0 +1,2 @@
+-- What the turn and the run promise.
+pub mod Running

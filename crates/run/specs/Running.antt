@@ -1,0 +1,103 @@
+-- What a run promises: its answer, and each table afterwards, byte for byte; and what its parts do.
+use mathlib.Core.Path.{_≡_}
+use mathlib.Core.List.{List}
+use Prim.Native.Nat.{_*_, _-_, _<_, _≤_, suc, ℕ}
+use lib.ListN.{length}
+use Rattle.machine.specs.Entered.{Inside}
+use Rattle.parlog.specs.Calls.{runCall, stepAnswer, turnCall}
+use Rattle.parlog.specs.Limits.{small}
+use Rattle.parlog.specs.Program.{Program, programOf}
+use Rattle.parlog.specs.Run.{halt, made, runFrom, runTables, stepTables, turnTables, unmade}
+use Rattle.parlog.specs.Tables.{Lent, markerLast, procCount, putTables, tablesIn, varCount}
+use Rattle.parlog.specs.declared.End.{End}
+use Rattle.parlog.specs.declared.End.the-variants.{Room}
+use Rattle.parlog.specs.declared.Move.{Move}
+use Rattle.parlog.specs.declared.Ran.{Ran}
+use Rattle.parlog.specs.declared.Ran.the-variants.{Ended}
+use Rattle.parlog.specs.declared.Stepped.{Stepped}
+use Rattle.run.specs.declared.Went.{Went}
+use Rattle.run.specs.declared.Went.the-variants.{On, Over}
+
+-- ---- a turn
+
+-- what the search for whose turn it is may count on
+pub record Turning (h p v : List ℕ) : Type 0 where
+  pub head : 10 ≤ length h
+  pub rows : procCount h * 24 ≤ length p
+  pub procs-most : procCount h ≤ 512
+  pub cells : varCount h * 4 ≤ length v
+  pub vars-most : varCount h ≤ 1024
+  pub last : markerLast h < procCount h
+
+-- Turns 2: the turn in tables that keep the rules
+pub record TurnedIn (s : List ℕ) (r c : ℕ) (l : Lent) (a : Stepped) (h p v : List ℕ) : Type 0 where
+  pub answer : a ≡ stepAnswer (turnTables small (programOf s r c) (tablesIn l)) l .answer
+  pub head : h ≡ stepAnswer (turnTables small (programOf s r c) (tablesIn l)) l .lent .head
+  pub procs : p ≡ stepAnswer (turnTables small (programOf s r c) (tablesIn l)) l .lent .procs
+  pub vars : v ≡ stepAnswer (turnTables small (programOf s r c) (tablesIn l)) l .lent .vars
+
+-- ---- one turn of a run
+
+-- the bytes of one lend hold more of the same tables
+pub record Grown (l l′ : Lent) : Type 0 where
+  pub head : l′ .head ≡ putTables l (tablesIn l′) .head
+  pub procs : l′ .procs ≡ putTables l (tablesIn l′) .procs
+  pub vars : l′ .vars ≡ putTables l (tablesIn l′) .vars
+  pub more-procs : procCount (l .head) ≤ procCount (l′ .head)
+  pub more-vars : varCount (l .head) ≤ varCount (l′ .head)
+
+-- Turns 7: it ends here with nothing written, or the rest of the run begins where the step left the tables
+abbrev pub WentTo : Went → Program → Lent → Lent → Type 0
+WentTo (Over e) pr l l′ = ((k n : ℕ) → runFrom (suc k) small pr n (tablesIn l) ≡ halt e n (tablesIn l)) × (l′ ≡ l)
+WentTo On pr l l′ = ((k n : ℕ) → runFrom (suc k) small pr n (tablesIn l) ≡ runFrom k small pr (suc n) (tablesIn l′)) × Grown l l′
+
+-- one turn of a run that may make a move more
+pub record WentSays (s : List ℕ) (r c : ℕ) (l : Lent) (w : Went) (l′ : Lent) : Type 0 where
+  pub inside : Inside s r c l′
+  pub went : WentTo w (programOf s r c) l l′
+
+-- the step of process p: made, or refused with nothing written
+abbrev pub OneTo : Went → Program → Lent → ℕ → Lent → Type 0
+OneTo (Over e) pr l p l′ = (e ≡ Room) × ((k : ℕ) × (stepTables small pr (tablesIn l) p ≡ unmade k)) × (l′ ≡ l)
+OneTo On pr l p l′ = ((m : Move) × (stepTables small pr (tablesIn l) p ≡ made m (tablesIn l′))) × Grown l l′
+
+-- the step in a run
+pub record OneSays (s : List ℕ) (r c : ℕ) (l : Lent) (p : ℕ) (w : Went) (l′ : Lent) : Type 0 where
+  pub inside : Inside s r c l′
+  pub one : OneTo w (programOf s r c) l p l′
+
+-- Turns 7: the end of a run that may make no more moves
+abbrev pub StopSays : Lent → End → Type 0
+StopSays l e = (pr : Program) (n : ℕ) → runFrom 0 small pr n (tablesIn l) ≡ halt e n (tablesIn l)
+
+-- ---- the loop
+
+-- k moves of the run are made: what is left gives what the whole gives
+pub record Going (s : List ℕ) (r c : ℕ) (l₀ l : Lent) (limit k : ℕ) : Type 0 where
+  pub inside : Inside s r c l
+  pub most : k ≤ limit
+  pub rest : runFrom limit small (programOf s r c) 0 (tablesIn l₀) ≡ runFrom (limit - k) small (programOf s r c) k (tablesIn l)
+  pub holds : Grown l₀ l
+
+-- Turns 7, 8: a run in good tables
+pub record RanSays (s : List ℕ) (r c : ℕ) (l : Lent) (limit : ℕ) (a : Ran) (l′ : Lent) : Type 0 where
+  pub answer : a ≡ Ended (runTables limit small (programOf s r c) (tablesIn l) .end) (runTables limit small (programOf s r c) (tablesIn l) .moves)
+  pub head : l′ .head ≡ putTables l (runTables limit small (programOf s r c) (tablesIn l) .tables) .head
+  pub procs : l′ .procs ≡ putTables l (runTables limit small (programOf s r c) (tablesIn l) .tables) .procs
+  pub vars : l′ .vars ≡ putTables l (runTables limit small (programOf s r c) (tablesIn l) .tables) .vars
+
+-- ---- the calls
+
+-- Turns 2, Refusals 23: the turn
+pub record TurnSays (s : List ℕ) (l : Lent) (a : Stepped) (h p v : List ℕ) : Type 0 where
+  pub answer : a ≡ turnCall small s l .answer
+  pub head : h ≡ turnCall small s l .lent .head
+  pub procs : p ≡ turnCall small s l .lent .procs
+  pub vars : v ≡ turnCall small s l .lent .vars
+
+-- Turns 7, 8, Refusals 23: the run
+pub record RunSays (s : List ℕ) (l : Lent) (limit : ℕ) (a : Ran) (h p v : List ℕ) : Type 0 where
+  pub answer : a ≡ runCall small s l limit .answer
+  pub head : h ≡ runCall small s l limit .lent .head
+  pub procs : p ≡ runCall small s l limit .lent .procs
+  pub vars : v ≡ runCall small s l limit .lent .vars

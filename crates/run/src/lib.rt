@@ -1,0 +1,199 @@
+// A turn, and a run of turns, over lent bytes.
+use parlog::End;
+use parlog::Found;
+use parlog::Loaded;
+use parlog::Ran;
+use parlog::Stepped;
+ghost use mathlib.Core.Path.{_≡_};
+ghost use mathlib.Core.Bool.{not};
+ghost use Prim.Native.Nat.{_*_, _≤_, _<_};
+ghost use lib.ListN.{length};
+ghost use Rattle.machine.specs.Entered.{Inside};
+ghost use Rattle.parlog.specs.Calls.{stepAnswer};
+ghost use Rattle.parlog.specs.Codes.{isLive, resultOf};
+ghost use Rattle.parlog.specs.Limits.{small};
+ghost use Rattle.parlog.specs.Program.{Program, programOf};
+ghost use Rattle.parlog.specs.Run.{endOf, turnFor};
+ghost use Rattle.parlog.specs.Tables.{at, procCount, procsOf, tablesIn};
+ghost use Rattle.run.specs.Running.{OneSays, RanSays, RunSays, StopSays, Turning, TurnedIn, TurnSays, WentSays};
+
+// How one turn of a run went: a move more, or the run's end.
+pub enum Went {
+    On,
+    Over(End),
+}
+
+// The goal's process sleeps.
+fn ended(procs: &[u8], n: usize) -> bool
+    requires { ⌜ n * 24 ≤ length (now procs) ⌝ }
+    ensures { λ r. ⌜ r ≡ not (isLive (at (procsOf (now (procs .entry)) n) 0 .mode)) ⌝ }
+{
+    rows::mode_at(procs, n, 0) == 0
+}
+
+// The end that a result is.
+fn end_by(result: u8) -> End
+    ensures { λ r. ⌜ r ≡ endOf (resultOf result) ⌝ }
+{
+    if result == 1 {
+        return End::Success;
+    }
+    End::Failure
+}
+
+// What the goal's process had to tell.
+fn goal_end(procs: &[u8], n: usize) -> End
+    requires { ⌜ n * 24 ≤ length (now procs) ⌝ }
+    ensures { λ r. ⌜ r ≡ endOf (resultOf (at (procsOf (now (procs .entry)) n) 0 .result)) ⌝ }
+{
+    end_by(rows::result_at(procs, n, 0))
+}
+
+// ---- a turn
+
+// Whose turn it is; the notes are scratch.
+fn whose(head: &[u8], procs: &[u8], vars: &[u8], notes: &mut [u8]) -> Found
+    requires { ⌜ Turning (now head) (now procs) (now vars) × (length (now notes) ≡ 512) ⌝ }
+    ensures { λ r. ⌜ (length (now (notes .exit)) ≡ 512) × ((pr : Program) → r ≡ turnFor pr (tablesIn (record { head = now (head .entry); procs = now (procs .entry); vars = now (vars .entry) }))) ⌝ }
+{
+    let n = head::proc_count(head);
+    let m = head::var_count(head);
+    let last = head::marker_last(head);
+    turns::next(procs, n, vars, m, last, notes)
+}
+
+// The step of whose turn it is, in tables that keep the rules.
+fn turn_in(
+    image: &[u8],
+    rels: usize,
+    clauses: usize,
+    head: &mut [u8],
+    procs: &mut [u8],
+    vars: &mut [u8],
+) -> Stepped
+    requires { ⌜ Inside (now image) rels clauses (record { head = now head; procs = now procs; vars = now vars }) ⌝ }
+    ensures { λ r. ⌜ TurnedIn (now (image .entry)) rels clauses (record { head = now (head .entry); procs = now (procs .entry); vars = now (vars .entry) }) r (now (head .exit)) (now (procs .exit)) (now (vars .exit)) ⌝ }
+{
+    let mut notes = [0u8; 512];
+    let f = whose(head, procs, vars, &mut notes);
+    let Found::At(p) = f else {
+        return Stepped::Unmoved(machine::refusal(10));
+    };
+    step::stepped(image, rels, clauses, head, procs, vars, p)
+}
+
+// The turn: the step of the first process that can move after the one stepped last.
+pub fn turn(image: &[u8], head: &mut [u8], procs: &mut [u8], vars: &mut [u8]) -> Stepped
+    ensures { λ r. ⌜ TurnSays (now (image .entry)) (record { head = now (head .entry); procs = now (procs .entry); vars = now (vars .entry) }) r (now (head .exit)) (now (procs .exit)) (now (vars .exit)) ⌝ }
+{
+    let e = machine::enter(image, head, procs, vars);
+    let Loaded::Accepted(rels, clauses) = e else {
+        let r = load::refusal(e);
+        return Stepped::Unmoved(r);
+    };
+    turn_in(image, rels, clauses, head, procs, vars)
+}
+
+// ---- a run
+
+// The step of process p, whose turn it is: a move more, or no room for it.
+fn one(
+    image: &[u8],
+    rels: usize,
+    clauses: usize,
+    head: &mut [u8],
+    procs: &mut [u8],
+    vars: &mut [u8],
+    p: usize,
+) -> Went
+    requires { ⌜ Inside (now image) rels clauses (record { head = now head; procs = now procs; vars = now vars }) × (p < procCount (now head)) ⌝ }
+    ensures { λ r. ⌜ OneSays (now (image .entry)) rels clauses (record { head = now (head .entry); procs = now (procs .entry); vars = now (vars .entry) }) p r (record { head = now (head .exit); procs = now (procs .exit); vars = now (vars .exit) }) ⌝ }
+{
+    let a = step::stepped(image, rels, clauses, head, procs, vars, p);
+    match a {
+        Stepped::Moved(_) => Went::On,
+        Stepped::Unmoved(_) => Went::Over(End::Room),
+    }
+}
+
+// One turn of a run that may make a move more: its tests, then its step.
+fn go(
+    image: &[u8],
+    rels: usize,
+    clauses: usize,
+    head: &mut [u8],
+    procs: &mut [u8],
+    vars: &mut [u8],
+    notes: &mut [u8],
+) -> Went
+    requires { ⌜ Inside (now image) rels clauses (record { head = now head; procs = now procs; vars = now vars }) × (length (now notes) ≡ 512) ⌝ }
+    ensures { λ r. ⌜ WentSays (now (image .entry)) rels clauses (record { head = now (head .entry); procs = now (procs .entry); vars = now (vars .entry) }) r (record { head = now (head .exit); procs = now (procs .exit); vars = now (vars .exit) }) × (length (now (notes .exit)) ≡ 512) ⌝ }
+{
+    let n = head::proc_count(head);
+    if ended(procs, n) {
+        return Went::Over(goal_end(procs, n));
+    }
+    let f = whose(head, procs, vars, notes);
+    let Found::At(p) = f else {
+        return Went::Over(End::Waiting);
+    };
+    one(image, rels, clauses, head, procs, vars, p)
+}
+
+// The tests alone, where the limit is used up.
+fn stop(head: &[u8], procs: &[u8], vars: &[u8], notes: &mut [u8]) -> End
+    requires { ⌜ Turning (now head) (now procs) (now vars) × (length (now notes) ≡ 512) ⌝ }
+    ensures { λ r. ⌜ StopSays (record { head = now (head .entry); procs = now (procs .entry); vars = now (vars .entry) }) r ⌝ }
+{
+    let n = head::proc_count(head);
+    if ended(procs, n) {
+        return goal_end(procs, n);
+    }
+    let f = whose(head, procs, vars, notes);
+    match f {
+        Found::At(_) => End::Budget,
+        Found::Nothing => End::Waiting,
+    }
+}
+
+// A run in tables that keep the rules; every move keeps them, so no test is repeated.
+fn going(
+    image: &[u8],
+    rels: usize,
+    clauses: usize,
+    head: &mut [u8],
+    procs: &mut [u8],
+    vars: &mut [u8],
+    limit: usize,
+) -> Ran
+    requires { ⌜ Inside (now image) rels clauses (record { head = now head; procs = now procs; vars = now vars }) × (limit ≤ 65535) ⌝ }
+    ensures { λ r. ⌜ RanSays (now (image .entry)) rels clauses (record { head = now (head .entry); procs = now (procs .entry); vars = now (vars .entry) }) limit r (record { head = now (head .exit); procs = now (procs .exit); vars = now (vars .exit) }) ⌝ }
+{
+    let mut notes = [0u8; 512];
+    let mut k = 0;
+    while k < limit {
+        let w = go(image, rels, clauses, head, procs, vars, &mut notes);
+        match w {
+            Went::On => {
+                k += 1;
+            }
+            Went::Over(e) => {
+                return Ran::Ended(e, k);
+            }
+        }
+    }
+    let e = stop(head, procs, vars, &mut notes);
+    Ran::Ended(e, k)
+}
+
+// The run: turns until the goal has ended, nothing can move, the limit is used up or a step has no room.
+pub fn run(image: &[u8], head: &mut [u8], procs: &mut [u8], vars: &mut [u8], limit: u16) -> Ran
+    ensures { λ r. ⌜ RunSays (now (image .entry)) (record { head = now (head .entry); procs = now (procs .entry); vars = now (vars .entry) }) limit r (now (head .exit)) (now (procs .exit)) (now (vars .exit)) ⌝ }
+{
+    let e = machine::enter(image, head, procs, vars);
+    let Loaded::Accepted(rels, clauses) = e else {
+        let r = load::refusal(e);
+        return Ran::Unrun(r);
+    };
+    going(image, rels, clauses, head, procs, vars, limit as usize)
+}

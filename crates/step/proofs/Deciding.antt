@@ -1,0 +1,106 @@
+-- What is decided before a step is made: whether a rule applies, and whether there is room.
+use mathlib.Core.Path.{_∙_, _≡_, refl, sym}
+use mathlib.Core.Bool.{_&&_, Bool, false, true}
+use mathlib.Core.List.{List}
+use Prim.Native.Nat.{_*_, _+_, _<_, _≤_, ℕ}
+use lib.Dec.{ltb}
+use lib.ListN.{length}
+use borrow.Author.Tests.{le-ltb, lt-ltb}
+use native.Mathlib.Omega.{arith}
+use native.Mathlib.Numerals.{add-one}
+use Rattle.load.proofs.Accepted.{accepted}
+use Rattle.load.proofs.Heads.{accepted-heads}
+use Rattle.load.proofs.Sanity.{accepted-sane}
+use Rattle.machine.specs.Entered.{Inside}
+use Rattle.moves.proofs.Legal.{legal, right-sized}
+use Rattle.moves.specs.Legal.{Legal}
+use Rattle.parlog.proofs.Bools.{and-true}
+use Rattle.parlog.specs.Limits.{small}
+use Rattle.parlog.specs.Program.{Program, programOf}
+use Rattle.parlog.specs.Rules.{fits, move, ruleOf, withRoom}
+use Rattle.parlog.specs.Run.{counted, made, procsIn, stepBy, stepped, stepTables, unmade}
+use Rattle.parlog.specs.Scan.{every}
+use Rattle.parlog.specs.TableRules.{cellKnown, fullSize, lentOk, stateOk, tablesOk}
+use Rattle.parlog.specs.Tables.{at, Lent, procCount, procsOf, tablesIn, varCount}
+use Rattle.plan.proofs.Plans.{applied-none, applied-some, fits-is, fits-procs, fits-vars}
+use Rattle.plan.specs.Plans.{appliedOf, deltaOf, fitsIn, stateIn, Within}
+use Rattle.plan.specs.declared.Plan.{Plan}
+use Rattle.rows.proofs.Tables.{procs-length}
+use Rattle.step.specs.Stepping.{stepIn}
+use Rattle.vars.proofs.Tables.{vars-length}
+
+-- ---- what a mover may count on
+
+-- what fits is within the limits
+pub room-for : (n m : ℕ) (pl : Plan) {b : Bool} → b ≡ fitsIn 512 1024 n m pl → b ≡ true → (n + pl .count ≤ 512) × (m + pl .fresh ≤ 1024)
+room-for n m pl eb q = (fits-procs 512 1024 n m pl (sym eb ∙ q), fits-vars 512 1024 n m pl (sym eb ∙ q))
+
+module _ (s : List ℕ) (r c : ℕ) (l : Lent) (i : Inside s r c l) where
+  abbrev pr : Program
+  pr = programOf s r c
+
+  pub tables-good : tablesOk small pr (tablesIn l) ≡ true
+  unfolding lentOk
+  tables-good =
+      let a = and-true (fullSize small l) (every (cellKnown (l .vars)) (varCount (l .head)) && tablesOk small pr (tablesIn l)) (i .good) in
+      and-true (every (cellKnown (l .vars)) (varCount (l .head))) (tablesOk small pr (tablesIn l)) (a .1) .1
+
+  state-good : stateOk small pr (tablesIn l .state) ≡ true
+  unfolding tablesOk
+  state-good = and-true (stateOk small pr (tablesIn l .state)) (ltb (tablesIn l .last) (length (tablesIn l .state .procs))) tables-good .0
+
+  -- every process may move
+  pub may-move : (p : ℕ) → p < procCount (l .head) → {n m : ℕ} → n ≡ procCount (l .head) → m ≡ varCount (l .head) → Legal pr (stateIn (l .procs) n (l .vars) m) p
+  unfolding tablesIn
+  may-move p h en em =
+      rw (en, em) (legal small pr (tablesIn l .state) (accepted-sane s r c (i .loaded)) (accepted-heads s r c (i .loaded)) (right-sized s r c (accepted s r c (i .loaded)) (i .clauses))
+      state-good p (omega (arith, procs-length (l .procs) (procCount (l .head)), h)) (omega (arith, vars-length (l .vars) (varCount (l .head)), i .vars-most)))
+
+  -- what fits can be written
+  pub may-write : (n m : ℕ) (pl : Plan) {b : Bool} → b ≡ fitsIn 512 1024 n m pl → b ≡ true → Within m (pl .changes .count) (pl .changes .list)
+      → ((n + pl .count) * 24 ≤ length (l .procs)) × ((m + pl .fresh) * 4 ≤ length (l .vars)) × Within (m + pl .fresh) (pl .changes .count) (pl .changes .list)
+  may-write n m pl eb q w =
+      let f = room-for n m pl eb q in
+      (omega (arith, i .procs-size, f .0), omega (arith, i .vars-size, f .1), λ j u. let x = w j u in (omega (arith, x .0), x .1))
+
+-- ---- the decision
+
+module _ (s : List ℕ) (r c : ℕ) (l : Lent) (p : ℕ) (h : p < procCount (l .head)) {n m : ℕ} (en : n ≡ procCount (l .head)) (em : m ≡ varCount (l .head))
+    (pl : Plan) (is : appliedOf pl ≡ ruleOf (programOf s r c) (stateIn (l .procs) n (l .vars) m) p) where
+  rule-is : ruleOf (programOf s r c) (tablesIn l .state) p ≡ appliedOf pl
+  unfolding tablesIn
+  rule-is = sym (rw (en, em) at is)
+
+  there : ltb p (procsIn (tablesIn l)) ≡ true
+  unfolding tablesIn
+  there = lt-ltb p (length (procsOf (l .procs) (procCount (l .head)))) (omega (arith, procs-length (l .procs) (procCount (l .head)), h))
+
+  step-by : stepIn s r c l p ≡ stepBy (withRoom small (tablesIn l .state) (appliedOf pl)) (tablesIn l) p
+  unfolding stepTables move
+  step-by = rw (there, rule-is)
+
+  room-is : fitsIn 512 1024 n m pl ≡ fits small (tablesIn l .state) (deltaOf pl)
+  unfolding small tablesIn
+  room-is =
+      let a = procs-length (l .procs) (procCount (l .head)) in
+      let b = vars-length (l .vars) (varCount (l .head)) in
+      rw (en, em) (rw (a, b) at (fits-is small (tablesIn l .state) pl))
+
+  -- 10: no rule applies
+  pub step-still : pl .acts ≡ false → stepIn s r c l p ≡ unmade 10
+  step-still e = step-by ∙ rw (applied-none pl e) (unfold stepBy in refl)
+
+  module _ (e : pl .acts ≡ true) {b : Bool} (eb : b ≡ fitsIn 512 1024 n m pl) where
+    -- 11: there is no room for what it makes
+    pub step-full : b ≡ false → stepIn s r c l p ≡ unmade 11
+    step-full q = step-by ∙ rw (applied-some pl e, sym room-is ∙ sym eb ∙ q) (unfold stepBy in refl)
+
+    pub step-made : b ≡ true → stepIn s r c l p ≡ made (pl .mv) (stepped (tablesIn l) p (deltaOf pl))
+    step-made q = step-by ∙ rw (applied-some pl e, sym room-is ∙ sym eb ∙ q) (unfold stepBy in refl)
+
+-- one step more
+pub count-more : (k : ℕ) → k < 4294967295 → k + 1 ≡ counted k
+count-more k h = rw (lt-ltb k 4294967295 h) (add-one k)
+
+pub count-most : (k : ℕ) → 4294967295 ≤ k → k ≡ counted k
+count-most k h = rw (le-ltb k 4294967295 h)

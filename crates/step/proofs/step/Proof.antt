@@ -1,0 +1,30 @@
+use native.Mathlib.Omega.{arith}
+use Rattle.step.proofs.Stepping.{step-done, step-nobody, step-refused}
+use Rattle.machine.proofs.Entering.{inside-of}
+use borrow.Author.Needs.{needs}
+use Rattle.step.proofs.step.Statement.{statement}
+use Rattle.step.proofs.step.Tie as tie
+
+pub step-spec : {M : Type 1} → statement M
+step-spec =
+    tie.close
+    (tie.spec
+    (λ c κs. search needs)
+    (λ c. search needs)
+    (λ c. search needs)
+    (λ c κs. search needs)
+    (λ c. search needs)
+    (λ c. search needs)
+    (λ c. search needs)
+    (λ c. step-refused _ _ _ (c .before .before .before .enter .ensures) (c .before .enum-told .given .1) (c .refusal .ensures))
+    (λ c κs. let i = inside-of _ _ (c .before .before .before .before .enter .ensures) (c .before .before .e .given .1) in omega (arith, i .head))
+    (λ c κs. search needs)
+    (λ c. search needs)
+    (λ c. search needs)
+    (λ c. search needs)
+    (λ c. step-nobody _ _ _ (c .before .before .before .before .before .before .before .enter .ensures) (c .before .before .before .before .before .e .given .1) (c .before .before .proc-count .ensures .0) (c .before .if1 .taken) (c .refusal2 .ensures))
+    (λ c κs. let i = inside-of _ _ (c .before .before .before .before .before .before .before .before .before .enter .ensures) (c .before .before .before .before .before .before .before .e .given .1) in (i, omega (arith, (c .before .before .before .before .proc-count .ensures .0), (c .before .before .before .if1 .left))))
+    (λ c. search needs)
+    (λ c. search needs)
+    (λ c. search needs)
+    (λ c. step-done _ _ _ (c .before .before .before .before .before .before .before .before .before .before .before .before .before .before .before .before .enter .ensures) (c .before .before .before .before .before .before .before .before .before .before .before .before .before .before .e .given .1) (c .before .before .before .before .before .before .stepped .ensures)))

@@ -1,0 +1,2 @@
+-- What a step promises.
+pub mod Stepping

@@ -1,0 +1,3 @@
+-- The laws of the marker beside the counts.
+pub mod Marked
+pub mod Core

@@ -1,0 +1,3 @@
+-- What a turn with the marker beside the counts promises.
+pub mod Away
+pub mod Turned

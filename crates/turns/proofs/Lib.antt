@@ -1,0 +1,4 @@
+pub mod Small
+pub mod Fold
+pub mod Laws
+pub mod Order

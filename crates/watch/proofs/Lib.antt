@@ -1,0 +1,2 @@
+-- What the watch's contract comes to.
+pub mod Answers

@@ -1,0 +1,3 @@
+-- The laws of the watch.
+pub mod Watched
+pub mod Turns

@@ -1,0 +1,4 @@
+-- The laws of words.
+pub mod Laws
+pub mod Moves
+pub mod Fitting

@@ -1,0 +1,2 @@
+-- What an answer must keep to fit into a word.
+pub mod Fits

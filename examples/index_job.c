@@ -1,0 +1,340 @@
+/*
+ * An index job: runs a plan whose records are fetched, normalised and placed, while their values still arrive.
+ *
+ *   index_job IMAGE RECORDS [SLICE] <ARRIVALS
+ *
+ * IMAGE is a file (build one with plan.c), RECORDS how many records its goal places, SLICE the most steps of one run
+ * call (default 50). The goal's variables stand as index.plan says: for record r, from 1 on, 3(r - 1) is the place that is
+ * free before it, the next one its key, the one after that its place. An arrival is a line
+ *
+ *   RECORD FIELD VALUE [STEPS]            FIELD is free, key or place; # begins a comment
+ *
+ * and comes in when that many steps are made (0 without the number), or earlier when the run waits: then nothing else
+ * can happen. Lines come in as they stand, one read ahead.
+ *
+ * Ends with 0 where the goal succeeded, 1 failed, 2 still waits when no arrival is left, 3 has no room, 4 where a call was
+ * refused that had to be accepted, 5 where the arguments or a file are no good. A refused arrival is told and left out.
+ */
+#include "rissobarm.h"
+
+#include <stdio.h>
+#include <stdlib.h>
+#include <string.h>
+
+enum { SUCCEEDED = 0, FAILED = 1, WAITS = 2, NO_ROOM = 3, REFUSED = 4, NO_GOOD = 5 };
+enum { FREE = 0, KEY = 1, PLACE = 2, FIELDS = 3 };
+enum { MOST_RECORDS = 5, LAST_RECORD = 9999, LINE_ROOM = 200, SLICE = 50, SLICE_LIMIT = 65535 };
+
+/* Bytes of the tables, as docs/LAYOUT.md has them. */
+enum { HEAD_PROCESSES = 0, HEAD_VARIABLES = 2, HEAD_STEPS = 6 };
+enum { ROW_TAG = 0, ROW_NOTE_COUNT = 3, ROW_PARENT = 4, ROW_LITERAL = 11, ROW_FOUND = 13, ROW_NOTES = 16 };
+
+static const char *const field_names[FIELDS] = { "free", "key", "place" };
+
+/* A plan, the tables of its run, and what is known of it. */
+struct job {
+    uint8_t image[RISSOBARM_IMAGE_LIMIT + 1];
+    size_t length;
+    uint8_t head[RISSOBARM_HEAD_SIZE];
+    uint8_t procs[RISSOBARM_PROCS_SIZE];
+    uint8_t vars[RISSOBARM_VARS_SIZE];
+    unsigned records;
+    unsigned slice;
+    int placed[MOST_RECORDS]; /* whether its place was told */
+};
+
+/* A value from outside; there is none when it is not pending. */
+struct arrival {
+    int pending;
+    unsigned record, field, value;
+    unsigned steps; /* not before so many */
+};
+
+#define IMAGE(job) (job)->image, (job)->length
+#define TABLES(job) (job)->head, sizeof (job)->head, (job)->procs, sizeof (job)->procs, (job)->vars, sizeof (job)->vars
+
+/* ---- refusals in words ---- */
+
+static const char *refusal_words(unsigned refusal)
+{
+    static const char *const words[] = {
+        "accepted",
+        "LONG, the image is over 32,768 bytes",
+        "CUT, a record does not end where the image says",
+        "KIND, a record is of no known kind or out of order",
+        "BODY, a number in a record is out of range, or its fields do not fill it",
+        "NAME, a record names what is not there, or a clause is out of place",
+        "MANY, one relation or clause too many",
+        "NOGOAL, the image has no goal",
+        "STATE, the tables are not those of a run of this image",
+        "NODE, there is no such process",
+        "STILL, no rule applies",
+        "ROOM, the move needs more rows than are left",
+        "NOVAR, the goal has no such variable",
+        "BOUND, that variable has its value already",
+        "CONST, the value is over 32,767"
+    };
+
+    return refusal < sizeof words / sizeof words[0] ? words[refusal] : "a refusal that this job does not know";
+}
+
+/* Where the image is refused, the offset tells the record. */
+static void say_refusal(const char *call, uint64_t answer)
+{
+    unsigned refusal = rissobarm_refusal(answer);
+
+    printf("%s: refused %u", call, refusal);
+    if (refusal <= RISSOBARM_NOGOAL)
+        printf(" at %u", (unsigned)rissobarm_offset(answer));
+    printf(" (%s)\n", refusal_words(refusal));
+}
+
+/* ---- the tables ---- */
+
+static unsigned word_at(const uint8_t *bytes)
+{
+    return bytes[0] + 256u * bytes[1];
+}
+
+static unsigned steps_made(const struct job *job)
+{
+    return word_at(job->head + HEAD_STEPS) + 65536u * word_at(job->head + HEAD_STEPS + 2);
+}
+
+static const uint8_t *row_of(const struct job *job, unsigned process)
+{
+    return job->procs + process * RISSOBARM_PROCESS_ROW;
+}
+
+static const char *tag_name(unsigned tag)
+{
+    static const char *const names[] = { "and-par",    "and-seq",     "or-par",     "seq-search", "or-search",
+                                         "try-clause", "input-match", "guard-eval", "equate" };
+
+    return tag < sizeof names / sizeof names[0] ? names[tag] : "unknown";
+}
+
+/* The record that a process works for: the literal of the goal that the topmost process above it has. */
+static unsigned record_of(const struct job *job, unsigned process)
+{
+    while (word_at(row_of(job, process) + ROW_PARENT) != 0)
+        process = word_at(row_of(job, process) + ROW_PARENT);
+    return row_of(job, process)[ROW_LITERAL] + 1u;
+}
+
+/* ---- what is told ---- */
+
+/* Tells each place that has come out since the last look. */
+static void tell_places(struct job *job)
+{
+    unsigned r;
+
+    for (r = 0; r < job->records; r++) {
+        uint64_t value = rissobarm_value(IMAGE(job), TABLES(job), FIELDS * r + PLACE);
+
+        if (job->placed[r] || rissobarm_refusal(value) != RISSOBARM_ACCEPTED)
+            continue;
+        if (rissobarm_value_sort(value) != RISSOBARM_SORT_CONSTANT)
+            continue;
+        job->placed[r] = 1;
+        printf("step %u: record %u has place %u\n", steps_made(job), r + 1, (unsigned)rissobarm_value_number(value));
+    }
+}
+
+static int is_goal_variable(const struct job *job, unsigned variable)
+{
+    return variable <= FIELDS * job->records;
+}
+
+/* A suspended process that waits for a goal variable; 0 where it waits for values from inside the plan. */
+static int tell_suspended(const struct job *job, unsigned process)
+{
+    const uint8_t *row = row_of(job, process);
+    unsigned k, told = 0;
+
+    for (k = 0; k < row[ROW_NOTE_COUNT]; k++) {
+        unsigned variable = word_at(row + ROW_NOTES + 2 * k);
+
+        if (!is_goal_variable(job, variable))
+            continue;
+        if (told++ == 0)
+            printf("  process %u (%s, clause %u, record %u) waits for", process, tag_name(row[ROW_TAG]), row[ROW_FOUND],
+                   record_of(job, process));
+        printf(" %s of record %u", field_names[variable % FIELDS], variable / FIELDS + 1);
+    }
+    if (told > 0)
+        printf("\n");
+    return told > 0;
+}
+
+/* Every suspended process, found by watching the rows behind the one found last; then one step, which has to be refused. */
+static void tell_waiting(struct job *job)
+{
+    unsigned used = word_at(job->head + HEAD_PROCESSES), from = 0, first = 0, all = 0, told = 0;
+
+    printf("step %u: waiting\n", steps_made(job));
+    while (from < used) {
+        uint64_t seen = rissobarm_watch(row_of(job, from), (size_t)(used - from) * RISSOBARM_PROCESS_ROW);
+
+        if (!rissobarm_watch_found(seen))
+            break;
+        from += (unsigned)rissobarm_watch_number(seen);
+        if (all++ == 0)
+            first = from;
+        told += (unsigned)tell_suspended(job, from);
+        from++;
+    }
+    printf("  %u more wait for values from inside the plan\n", all - told);
+    if (all > 0) {
+        printf("  process %u, ", first);
+        say_refusal("stepped by number", rissobarm_step(IMAGE(job), TABLES(job), first));
+    }
+}
+
+/* Rows are never used twice in a run, so this is final: cut the plan into smaller ones. */
+static void tell_room(struct job *job)
+{
+    printf("step %u: no room, with %u processes and %u variables\n  ", steps_made(job),
+           word_at(job->head + HEAD_PROCESSES), word_at(job->head + HEAD_VARIABLES));
+    say_refusal("the next turn", rissobarm_turn(IMAGE(job), TABLES(job)));
+}
+
+/* ---- arrivals ---- */
+
+/* The field named, or FIELDS. */
+static unsigned field_of(const char *name)
+{
+    unsigned f = 0;
+
+    while (f < FIELDS && strcmp(field_names[f], name) != 0)
+        f++;
+    return f;
+}
+
+/* Reads the next arrival, if none is pending; a line that is none is told and passed over. */
+static void look_ahead(struct arrival *next)
+{
+    char line[LINE_ROOM], field[LINE_ROOM], rest[2];
+
+    while (!next->pending && fgets(line, sizeof line, stdin) != NULL) {
+        int got;
+
+        if (line[strspn(line, " \t\r\n")] == '\0' || line[0] == '#')
+            continue;
+        next->steps = 0;
+        got = sscanf(line, "%9u %199s %9u %9u %1s", &next->record, field, &next->value, &next->steps, rest);
+        next->field = got >= 3 ? field_of(field) : (unsigned)FIELDS;
+        if (got > 4 || next->field == FIELDS || next->record < 1 || next->record > LAST_RECORD)
+            printf("not an arrival: %s", line);
+        else
+            next->pending = 1;
+    }
+}
+
+/* A value comes in: a supply, between two run calls. */
+static void deliver(struct job *job, struct arrival *next)
+{
+    unsigned variable = FIELDS * (next->record - 1) + next->field;
+    uint64_t answer = rissobarm_supply(IMAGE(job), TABLES(job), variable, next->value);
+
+    printf("step %u: %s of record %u arrives as %u\n", steps_made(job), field_names[next->field], next->record,
+           next->value);
+    if (rissobarm_refusal(answer) != RISSOBARM_ACCEPTED)
+        say_refusal("  supply", answer);
+    next->pending = 0;
+}
+
+static void deliver_due(struct job *job, struct arrival *next)
+{
+    look_ahead(next);
+    while (next->pending && next->steps <= steps_made(job)) {
+        deliver(job, next);
+        look_ahead(next);
+    }
+}
+
+/* ---- the job ---- */
+
+/* What follows the end of one run call; -1 where the run goes on. */
+static int after_slice(struct job *job, struct arrival *next, unsigned end)
+{
+    switch (end) {
+    case RISSOBARM_END_SUCCESS:
+    case RISSOBARM_END_FAILURE:
+        printf("step %u: the goal has %s, with %u processes and %u variables\n", steps_made(job),
+               end == RISSOBARM_END_SUCCESS ? "succeeded" : "failed", word_at(job->head + HEAD_PROCESSES),
+               word_at(job->head + HEAD_VARIABLES));
+        return end == RISSOBARM_END_SUCCESS ? SUCCEEDED : FAILED;
+    case RISSOBARM_END_WAITING:
+        tell_waiting(job);
+        look_ahead(next);
+        if (!next->pending)
+            return WAITS;
+        deliver(job, next);
+        break;
+    case RISSOBARM_END_ROOM:
+        tell_room(job);
+        return NO_ROOM;
+    default: /* the slice is used up */
+        break;
+    }
+    deliver_due(job, next);
+    return -1;
+}
+
+static int work(struct job *job)
+{
+    struct arrival next = { 0, 0, 0, 0, 0 };
+    uint64_t answer = rissobarm_start(IMAGE(job), TABLES(job));
+    int how = -1;
+
+    if (rissobarm_refusal(answer) != RISSOBARM_ACCEPTED) {
+        say_refusal("start", answer);
+        return REFUSED;
+    }
+    while (how < 0) {
+        answer = rissobarm_run(IMAGE(job), TABLES(job), (uint16_t)job->slice);
+        if (rissobarm_refusal(answer) != RISSOBARM_ACCEPTED) {
+            say_refusal("run", answer);
+            return REFUSED;
+        }
+        tell_places(job);
+        how = after_slice(job, &next, rissobarm_end(answer));
+    }
+    return how;
+}
+
+/* Reads the image, one byte past the limit at most: that is enough to have it refused as LONG. */
+static int read_image(struct job *job, const char *path)
+{
+    FILE *file = fopen(path, "rb");
+
+    if (file == NULL)
+        return 0;
+    job->length = fread(job->image, 1, sizeof job->image, file);
+    return fclose(file) == 0;
+}
+
+int main(int count, char **words)
+{
+    static struct job job;
+    uint64_t answer;
+
+    if (count < 3 || count > 4 || !read_image(&job, words[1])) {
+        fprintf(stderr, "index_job IMAGE RECORDS [SLICE] <ARRIVALS\n");
+        return NO_GOOD;
+    }
+    job.records = (unsigned)strtoul(words[2], NULL, 10);
+    job.slice = count == 4 ? (unsigned)strtoul(words[3], NULL, 10) : (unsigned)SLICE;
+    if (job.records < 1 || job.records > MOST_RECORDS || job.slice < 1 || job.slice > SLICE_LIMIT) {
+        fprintf(stderr, "index_job: 1 to %d records, slices of 1 to %d steps\n", MOST_RECORDS, SLICE_LIMIT);
+        return NO_GOOD;
+    }
+    answer = rissobarm_load(IMAGE(&job));
+    if (rissobarm_refusal(answer) != RISSOBARM_ACCEPTED) {
+        say_refusal("load", answer);
+        return REFUSED;
+    }
+    printf("plan: %u relations, %u clauses\n", rissobarm_relations(answer), rissobarm_clauses(answer));
+    return work(&job);
+}
