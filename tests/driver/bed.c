@@ -72,6 +72,7 @@ void bed_begin(struct bed *bed, const struct story *story)
     full_sizes(bed);
     bed->straight = false;
     bed->changed = true;
+    bed->scattered = false;
     bed->fair = story->fair;
     bed->fault[0] = 0;
     fair_begin();
@@ -96,6 +97,7 @@ static bool change(struct bed *bed, const struct event *event)
     bed->straight = false;
     bed->changed = true;
     bed->known = false;
+    bed->scattered = event->kind == SCATTERS;
     if (event->kind == POKES) {
         row_bytes(&bed->ours, event->row)[event->a] = (uint8_t)event->b;
         bed->lent[event->row].bytes[event->a] = (uint8_t)event->b;

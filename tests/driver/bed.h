@@ -23,6 +23,7 @@ struct bed {
     bool known;                    /* whether that is known */
     bool straight;                 /* from a fresh start by calls alone */
     bool changed;                  /* changed by hand or by chance */
+    bool scattered;                /* by chance alone */
     bool fair;                     /* whether turns are watched */
     uint64_t wanted;               /* the reference's answer */
     uint64_t answer;               /* the archive's */

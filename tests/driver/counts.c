@@ -41,6 +41,7 @@ static const char *const features[FEATURES] = {
     "stuck runs with their grounds",
     "turns in which all were watched",
     "plans whose records were all placed",
+    "calls let in with tables of pure chance",
 };
 
 /* A line of the table; false where nothing was seen. */
@@ -118,9 +119,10 @@ static void tell_totals(void)
 {
     unsigned k;
 
-    printf("%" PRIu64 " cases, %" PRIu64 " images (%" PRIu64 " accepted), %" PRIu64 " steps one by one, %" PRIu64
-           " in runs, %" PRIu64 " calls let in with tables of chance\ncalls:",
-           counts.cases, counts.images, counts.accepted, counts.steps, counts.run_steps, counts.legal);
+    printf("%" PRIu64 " cases, %" PRIu64 " images (%" PRIu64 " accepted)\n", counts.cases, counts.images, counts.accepted);
+    printf("%" PRIu64 " calls let in with tables that no run made\n", counts.legal);
+    printf("%" PRIu64 " steps by number, %" PRIu64 " by turn, %" PRIu64 " in runs\ncalls:", counts.by_number,
+           counts.steps - counts.by_number, counts.run_steps);
     for (k = 0; k < CALLS; k++)
         printf(" %s %" PRIu64, event_name(k), counts.calls[k]);
     printf("\n");

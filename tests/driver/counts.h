@@ -27,6 +27,7 @@ enum feature {
     STUCK,
     SERVED,
     RECORDS_PLACED,
+    CHANCE_LET_IN,
     FEATURES
 };
 
@@ -36,6 +37,7 @@ struct counts {
     uint64_t accepted;              /* images that were loaded */
     uint64_t calls[CALLS];
     uint64_t steps;                 /* moves made one by one, by number or by turn */
+    uint64_t by_number;             /* those by number */
     uint64_t run_steps;             /* moves made inside runs */
     uint64_t refusals[REFUSAL_COUNT];
     uint64_t rules[RULE_COUNT];

@@ -164,6 +164,7 @@ bool properties_hold(struct bed *bed, const struct event *event)
     if (event->kind == STARTS) {
         bed->straight = true;
         bed->changed = false;
+        bed->scattered = false;
         fair_begin();
     }
     if (bed_broken(bed)->count > 0)

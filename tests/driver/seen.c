@@ -111,7 +111,10 @@ void seen(const struct bed *bed, const struct event *event, const struct entry *
         seen_refusal(bed, event, entry);
         return;
     }
-    if (entry->tested && event->kind > STARTS)
+    if (entry->tested && event->kind > STARTS) {
         counts.legal += bed->changed;
+        counts.features[CHANCE_LET_IN] += bed->scattered;
+    }
+    counts.by_number += event->kind == STEPS;
     seen_accepted(bed, event);
 }
