@@ -1,113 +1,82 @@
 // Reads an image from standard input, runs it and prints how it ended.
 use libc::STDIN_FILENO;
 use libc::STDOUT_FILENO;
-use parlog::End;
 use parlog::Loaded;
 use parlog::Ran;
-use parlog::Refusal;
-use parlog::Started;
 use parlog::Term;
-use parlog::Valued;
+ghost use mathlib.Core.Path.{_≡_};
+ghost use Prim.Native.Nat.{_*_, _≤_};
+ghost use lib.ListN.{length};
+ghost use Rattle.parlog.specs.Limits.{small};
+ghost use Rattle.parlog.specs.Load.{loadOf};
+ghost use Rattle.parlog.specs.Tables.{varsIn};
+ghost use Rattle.parlog.specs.Text.{runnerText, varLines};
+ghost use Rattle.parlog.specs.declared.Loaded.the-variants.{Accepted};
+ghost use Rattle.text.specs.Fronting.{Fronted};
 
+// The limit of the runner's one run.
 const LIMIT: u16 = 60000;
 
-fn text(bytes: &[u8]) {
-    io::write_all(STDOUT_FILENO, bytes);
-}
-
-fn number(n: u64) {
-    io::print_decimal(STDOUT_FILENO, n);
-}
-
-fn newline() {
-    text(b"\n");
-}
-
-// `refused N at OFFSET`
-fn print_refusal(r: Refusal) {
-    text(b"refused ");
-    number(r.number as u64);
-    text(b" at ");
-    number(r.offset as u64);
-    newline();
-}
-
-fn print_end(end: End) {
-    text(b"end ");
-    match end {
-        End::Success => text(b"success"),
-        End::Failure => text(b"failure"),
-        End::Waiting => text(b"waiting"),
-        End::Room => text(b"room"),
-        End::Budget => text(b"budget"),
+// The lines of the goal's variables at the buffer's end, from the last to the first.
+fn lines(vars: &[u8], n: usize, goal: usize, out: &mut [u8]) -> usize
+    requires { ⌜ (n * 4 ≤ length (now vars)) × (goal ≤ n) × (goal ≤ 255) × (length (now out) ≡ 16384) ⌝ }
+    ensures { λ r. ⌜ Fronted (now (out .entry)) 16384 12495 (varLines (varsIn (now (vars .entry)) n) 0 goal) (now (out .exit)) r ⌝ }
+{
+    let mut p = out.len();
+    let mut v = goal;
+    while 0 < v {
+        v -= 1;
+        let t = unify::value_of(vars, n, Term::Var(v as u32));
+        p = text::line(out, p, v, t);
     }
-    newline();
+    p
 }
 
-fn print_term(t: Term) {
-    match t {
-        Term::Const(c) => number(c as u64),
-        Term::Var(v) => {
-            text(b"_");
-            number(v as u64);
-        }
-    }
-}
-
-// One line for a goal variable; false where the goal has no such variable.
-fn print_var(image: &[u8], head: &[u8], procs: &[u8], vars: &[u8], variable: u32) -> bool {
-    let v = machine::value(image, head, procs, vars, variable);
-    let Valued::Value(t) = v else {
-        return false;
-    };
-    text(b"var ");
-    number(variable as u64);
-    text(b" = ");
-    print_term(t);
-    newline();
-    true
-}
-
-fn print_vars(image: &[u8], head: &[u8], procs: &[u8], vars: &[u8]) {
-    for v in 0u32..16 {
-        if !print_var(image, head, procs, vars, v) {
-            return;
-        }
-    }
-}
-
-// Starts and runs an accepted image over lent tables, and prints how that ended.
-fn play(image: &[u8], head: &mut [u8], procs: &mut [u8], vars: &mut [u8]) {
+// An accepted image started and run over lent tables, and the text of that.
+fn play(
+    image: &[u8],
+    rels: usize,
+    clauses: usize,
+    head: &mut [u8],
+    procs: &mut [u8],
+    vars: &mut [u8],
+    out: &mut [u8],
+) -> usize
+    requires { ⌜ (loadOf (now image) ≡ Accepted rels clauses) × (rels ≤ 32) × (clauses ≤ 64) × (length (now head) ≡ 10) × (length (now procs) ≡ 12288) × (length (now vars) ≡ 4096) × (length (now out) ≡ 16384) ⌝ }
+    ensures { λ r. ⌜ Fronted (now (out .entry)) 16384 12534 (runnerText small (now (image .entry))) (now (out .exit)) r ⌝ }
+{
+    let goal = prog::goal_vars(image, rels, clauses);
     let begun = machine::start(image, head, procs, vars);
-    let Started::Begun = begun else {
-        return;
-    };
     let ran = run::run(image, head, procs, vars, LIMIT);
     let Ran::Ended(end, steps) = ran else {
-        return;
+        return out.len();
     };
-    text(b"steps ");
-    number(steps as u64);
-    newline();
-    print_end(end);
-    print_vars(image, head, procs, vars);
+    let n = head::var_count(head);
+    let p = lines(vars, n, goal, out);
+    text::ran(out, p, end, steps)
 }
 
-fn answer(image: &[u8]) {
+// The text for an image, at the buffer's end: where it begins.
+fn answer(image: &[u8], out: &mut [u8]) -> usize
+    requires { ⌜ length (now out) ≡ 16384 ⌝ }
+    ensures { λ r. ⌜ Fronted (now (out .entry)) 16384 12534 (runnerText small (now (image .entry))) (now (out .exit)) r ⌝ }
+{
     let l = load::load(image);
-    let Loaded::Accepted(_, _) = l else {
+    let Loaded::Accepted(rels, clauses) = l else {
         let r = load::refusal(l);
-        print_refusal(r);
-        return;
+        return text::refused(out, r);
     };
     let mut head = [0u8; 10];
     let mut procs = [0u8; 12288];
     let mut vars = [0u8; 4096];
-    play(image, &mut head, &mut procs, &mut vars);
+    play(image, rels, clauses, &mut head, &mut procs, &mut vars, out)
 }
 
+// An image longer than the buffer is too long as far as it is read.
 fn main() {
     let mut bytes = io::large_buffer();
     let n = io::read_full(STDIN_FILENO, &mut bytes);
-    answer(&bytes[..n]);
+    let mut out = [0u8; 16384];
+    let p = answer(&bytes[..n], &mut out);
+    io::write_all(STDOUT_FILENO, &out[p..]);
 }
