@@ -1,0 +1,3 @@
+-- The laws of text written from the back.
+pub mod Laws
+pub mod Lines

@@ -1,0 +1,2 @@
+-- What a writer of the runner's text promises.
+pub mod Fronting
