@@ -1,7 +1,7 @@
 /*
- * A run of the machine in plain C, written to be fast: rows are read and written where they stand, the image is tested and
- * indexed once a call, the table rules are tested once a call, a turn is one pass over the rows with one note byte for each
- * parent, and a report climbs parents to find what is below it.
+ * A run and a supply of the machine in plain C, written to be fast: rows are read and written where they stand, the image is
+ * tested and indexed once a call, the table rules are tested once a call, a turn is one pass over the rows with one note byte
+ * for each parent, and a report climbs parents to find what is below it.
  */
 #include "machine.h"
 #include "checker.h"
@@ -14,7 +14,8 @@ enum { DORMANT, READY, STARTING, WAITING, REPORTING, SUSPENDED, MODES };
 enum { NONE, SUCCESS, FAILURE, RESULTS };
 enum { THE_GOAL, GUARD, BODY, KINDS };
 enum { UNBOUND, CONSTANT, VARIABLE };
-enum { END_SUCCESS = 1, END_FAILURE, END_WAITING, END_ROOM, END_BUDGET, STATE = 8 };
+enum { END_SUCCESS = 1, END_FAILURE, END_WAITING, END_ROOM, END_BUDGET };
+enum { STATE = 8, NOVAR = 12, BOUND, CONST };
 
 /* Bytes of a process row. */
 enum { TAG, MODE, RESULT, COUNT, PARENT, KIND = 6, CLAUSE, BASE, STAGE = 10, LITERAL, BLOCK, FOUND, FIRST, NOTES = 16 };
@@ -889,27 +890,37 @@ static unsigned go(struct run *r, unsigned limit, unsigned *made)
     }
 }
 
-uint64_t machine_run(const uint8_t *image, size_t image_len, uint8_t *head, size_t head_len,
-                     uint8_t *procs, size_t procs_len, uint8_t *vars, size_t vars_len,
-                     uint16_t limit)
+/* The tests of every call: the image, the sizes, the table rules. 0, or the refusal. */
+static uint64_t enter(struct run *r, const uint8_t *image, size_t image_len, const uint8_t *head, size_t head_len,
+                      size_t procs_len, size_t vars_len)
 {
-    struct run r;
     uint64_t loaded = checker_load(image, image_len);
-    unsigned end, made;
 
     if ((loaded & 255) != 0)
         return loaded;
     if (head_len != HEAD || procs_len != PROCESSES * ROW || vars_len != VARIABLES * 4)
         return STATE;
-    index_image(&r, image, image_len);
+    index_image(r, image, image_len);
+    r->count = word(head);
+    r->variables = word(head + 2);
+    r->last = word(head + 4);
+    r->steps = word(head + 6) | (uint32_t)word(head + 8) << 16;
+    return tables_good(r) ? 0 : STATE;
+}
+
+uint64_t machine_run(const uint8_t *image, size_t image_len, uint8_t *head, size_t head_len,
+                     uint8_t *procs, size_t procs_len, uint8_t *vars, size_t vars_len,
+                     uint16_t limit)
+{
+    struct run r;
+    uint64_t refusal;
+    unsigned end, made;
+
     r.procs = procs;
     r.vars = vars;
-    r.count = word(head);
-    r.variables = word(head + 2);
-    r.last = word(head + 4);
-    r.steps = word(head + 6) | (uint32_t)word(head + 8) << 16;
-    if (!tables_good(&r))
-        return STATE;
+    refusal = enter(&r, image, image_len, head, head_len, procs_len, vars_len);
+    if (refusal != 0)
+        return refusal;
     end = go(&r, limit, &made);
     put_word(head, r.count);
     put_word(head + 2, r.variables);
@@ -917,4 +928,32 @@ uint64_t machine_run(const uint8_t *image, size_t image_len, uint8_t *head, size
     put_word(head + 6, r.steps & 65535);
     put_word(head + 8, r.steps >> 16);
     return (uint64_t)end << 8 | (uint64_t)made << 32;
+}
+
+/* ---- the supply ---- */
+
+uint64_t machine_supply(const uint8_t *image, size_t image_len, const uint8_t *head, size_t head_len,
+                        const uint8_t *procs, size_t procs_len, uint8_t *vars, size_t vars_len,
+                        uint32_t variable, uint32_t constant)
+{
+    struct run r;
+    struct changes c = { 0, { 0 }, { 0 } };
+    uint64_t refusal;
+    uint32_t found;
+
+    r.procs = (uint8_t *)procs; /* no process is written */
+    r.vars = vars;
+    refusal = enter(&r, image, image_len, head, head_len, procs_len, vars_len);
+    if (refusal != 0)
+        return refusal;
+    if (variable >= r.goal_variables)
+        return NOVAR;
+    if (constant > 32767)
+        return CONST;
+    found = value(&r, &c, variable | IS_VARIABLE);
+    if (!(found & IS_VARIABLE))
+        return BOUND;
+    unify(&r, &c, found, constant);
+    bind(&r, &c);
+    return 0;
 }

@@ -1,4 +1,4 @@
-/* The run in plain C: the same lent bytes, the same answer as rissobarm_run. */
+/* The run and the supply in plain C: the same lent bytes, the same answers as rissobarm_run and rissobarm_supply. */
 #ifndef MACHINE_H
 #define MACHINE_H
 
@@ -8,5 +8,9 @@
 uint64_t machine_run(const uint8_t *image, size_t image_len, uint8_t *head, size_t head_len,
                      uint8_t *procs, size_t procs_len, uint8_t *vars, size_t vars_len,
                      uint16_t limit);
+
+uint64_t machine_supply(const uint8_t *image, size_t image_len, const uint8_t *head, size_t head_len,
+                        const uint8_t *procs, size_t procs_len, uint8_t *vars, size_t vars_len,
+                        uint32_t variable, uint32_t constant);
 
 #endif

@@ -1,0 +1,232 @@
+#!/usr/bin/env python3
+"""Tables and plot of measured ratios: report.py RESULTS.csv PLOT.svg PAGE.. writes the plot and sets the tables into the pages.
+
+A page has the lines <!-- measured: NAME --> and <!-- end -->, with NAME as summary or tables; what stands between them is replaced.
+A ratio is told as its median over the runs, and in brackets the least and the greatest of a run."""
+import csv
+import math
+import re
+import statistics
+import sys
+
+
+def read(path):
+    """For each thing measured (what, which, rows, bytes) the lines of all runs, in the order of the file."""
+    found = {}
+    with open(path, newline="") as file:
+        for line in csv.DictReader(file):
+            key = (line["what"], line["which"], int(line["rows"]), int(line["bytes"]))
+            found.setdefault(key, []).append(line)
+    return found
+
+
+def middle(lines, column="ratio"):
+    return statistics.median(float(line[column]) for line in lines)
+
+
+def ends(lines):
+    ratios = [float(line["ratio"]) for line in lines]
+    return min(ratios), max(ratios)
+
+
+def spread(lines):
+    return "%.2f (%.2f to %.2f)" % (middle(lines), *ends(lines))
+
+
+# ---- tables
+
+
+def table(title, head, rows):
+    """A table's lines, with a title where it has one."""
+    yield from [title, ""] if title else []
+    yield "| " + " | ".join(head) + " |"
+    yield "|" + "---|" * len(head)
+    for row in rows:
+        yield "| " + " | ".join(row) + " |"
+    yield ""
+
+
+def chosen(found, what, which=None):
+    return [(key, lines) for key, lines in found.items() if key[0] == what and which in (None, key[1])]
+
+
+def number(n):
+    return "{:,}".format(n)
+
+
+def load_tables(found):
+    yield from table("Load by sort of image", ["Image", "Bytes", "Ratio"],
+                     [[key[1], number(key[3]), spread(lines)] for key, lines in chosen(found, "load")])
+    rows = []
+    first = {}
+    for key, lines in chosen(found, "load by size"):
+        length = key[3] / first.setdefault(key[1], key[3])
+        rows.append([key[1], number(key[3]), spread(lines), "%.1f" % length,
+                     "%.1f" % middle(lines, "archive"), "%.1f" % middle(lines, "plain")])
+    yield from table("Load by image size; length and times as multiples of those at a sixteenth of the relations and clauses",
+                     ["Image", "Bytes", "Ratio", "Length", "Archive", "Plain C"], rows)
+
+
+def run_table(found):
+    yield from table("Run of a whole plan", ["Plan", "Bytes", "Rows at the end", "Ratio"],
+                     [[key[1], number(key[3]), str(key[2]), spread(lines)] for key, lines in chosen(found, "run")])
+
+
+def grid_table(found, what, title):
+    """Ratios by rows in use, with a column for each image size."""
+    keys = [key for key, _ in chosen(found, what)]
+    sizes = sorted({key[3] for key in keys})
+    yield from table(title, ["Rows"] + [number(size) + " bytes" for size in sizes],
+                     [[str(rows)] + [spread(found[what, "calls", rows, size]) for size in sizes]
+                      for rows in sorted({key[2] for key in keys})])
+
+
+def growth_table(found):
+    """How a step and a call grow with the rows, on the shortest and the longest image."""
+    keys = [key for key, _ in chosen(found, "step")]
+    sizes = sorted({key[3] for key in keys})
+    columns = [(what, size) for what in ("step", "call without a step") for size in (sizes[0], sizes[-1])]
+    yield from table("Times as multiples of those at 16 rows: archive, plain C",
+                     ["Rows"] + ["%s, %s bytes" % (what, number(size)) for what, size in columns],
+                     [[str(rows)] + ["%.1f, %.1f" % tuple(middle(found[what, "calls", rows, size], side)
+                                                          for side in ("archive", "plain")) for what, size in columns]
+                      for rows in sorted({key[2] for key in keys})])
+
+
+def tables(found):
+    yield "Of %d runs: the median, in brackets the least and the greatest." % max(map(len, found.values()))
+    yield ""
+    yield from load_tables(found)
+    yield from run_table(found)
+    yield from grid_table(found, "step", "A step, by rows in use and image size")
+    yield from grid_table(found, "call without a step", "A call without a step, by rows in use and image size")
+    yield from grid_table(found, "supply", "A supply, by rows in use and image size")
+    yield from growth_table(found)
+
+
+def summary(found):
+    """For each thing measured the least and the greatest median, the case of the greatest, and how many miss the target."""
+    rows = []
+    for what, target in (("load", 1.5), ("run", 2.0), ("step", 2.0), ("call without a step", 2.0), ("supply", None)):
+        cases = sorted((middle(lines), key) for key, lines in chosen(found, what))
+        ratio, (_, which, used, size) = cases[-1]
+        case = "%s, %s bytes" % ("%d rows" % used if which == "calls" and what != "run" else which, number(size))
+        missed = sum(ratio > target for ratio, _ in cases) if target else None
+        rows.append([what, "%.1f" % target if target else "none", "%.2f" % cases[0][0], "%.2f (%s)" % (ratio, case),
+                     "%d of %d" % (missed, len(cases)) if target else "-"])
+    yield from table("", ["What", "Target", "Least ratio", "Greatest ratio", "Over the target"], rows)
+
+
+def set_into(page, found):
+    """Sets what was measured between the marks of a page."""
+    with open(page) as file:
+        words = file.read()
+    for name, lines in (("summary", summary(found)), ("tables", tables(found))):
+        inside = "<!-- measured: %s -->\n\n" % name + "\n".join(lines) + "\n<!-- end -->"
+        words = re.sub("<!-- measured: %s -->.*?<!-- end -->" % name, lambda _: inside, words, flags=re.S)
+    with open(page, "w") as file:
+        file.write(words)
+
+
+# ---- plot
+
+WIDE, HIGH, TOP, LOW, HIGHEST = 230, 210, 82, 0.5, 64
+
+STYLE = """
+  text { font: 12px sans-serif; fill: #1f2328 } .name { font-weight: bold; font-size: 13px }
+  .page { fill: #ffffff } .grid { stroke: #d1d9e0 } .axis { stroke: #59636e; fill: none } .goal { stroke: #59636e; stroke-dasharray: 5 4 }
+  .s0 { stroke: #0072b2; fill: #0072b2 } .s1 { stroke: #c65102; fill: #c65102 }
+  .s2 { stroke: #00785a; fill: #00785a } .s3 { stroke: #a0468c; fill: #a0468c } polyline { fill: none !important; stroke-width: 2 }
+  @media (prefers-color-scheme: dark) {
+    text { fill: #e6edf3 } .page { fill: #0d1117 } .grid { stroke: #30363d } .axis, .goal { stroke: #9198a1 }
+    .s0 { stroke: #56b4e9; fill: #56b4e9 } .s1 { stroke: #ff9e4a; fill: #ff9e4a }
+    .s2 { stroke: #2fc79a; fill: #2fc79a } .s3 { stroke: #e08fd0; fill: #e08fd0 } }"""
+
+
+def log(low, high):
+    """Where a number stands between two others, by its logarithm."""
+    return lambda x: math.log(x / low) / math.log(high / low)
+
+
+def text(x, y, words, more=""):
+    return '<text x="%.1f" y="%.1f"%s>%s</text>' % (x, y, more and " " + more, words)
+
+
+def stroke(kind, x, y, to_x, to_y):
+    return '<line class="%s" x1="%.1f" y1="%.1f" x2="%.1f" y2="%.1f"/>' % (kind, x, y, to_x, to_y)
+
+
+def height(ratio):
+    if not LOW <= ratio <= HIGHEST:
+        sys.exit("report.py: the plot has no place for a ratio of %.2f" % ratio)
+    return TOP + HIGH * (1 - log(LOW, HIGHEST)(ratio))
+
+
+def axes(left, name, along, place, ticks, goal):
+    """The frame of one plot: ratios upward, what it is measured by along, and the ratio that is aimed at."""
+    yield text(left, 20, name, 'class="name"')
+    for ratio in (0.5, 1, 2, 4, 8, 16, 32, 64):
+        yield stroke("grid", left, height(ratio), left + WIDE, height(ratio))
+        yield text(left - 7, height(ratio) + 4, "%g" % ratio, 'text-anchor="end"')
+    for tick in ticks:
+        x = left + WIDE * place(tick)
+        yield stroke("axis", x, TOP + HIGH, x, TOP + HIGH + 5)
+        yield text(x, TOP + HIGH + 19, number(tick), 'text-anchor="middle"')
+    yield text(left + WIDE / 2, TOP + HIGH + 40, along, 'text-anchor="middle"')
+    yield '<path class="axis" d="M%.1f %.1fV%.1fH%.1f"/>' % (left, TOP, TOP + HIGH, left + WIDE)
+    yield stroke("goal", left, height(goal), left + WIDE, height(goal))
+    yield text(left + WIDE - 2, height(goal) + (-5 if goal == 2 else 14), "target %.1f" % goal, 'text-anchor="end"')
+
+
+def series(left, index, name, place, points):
+    """One line: its name above the plot, and for each place the median with the range of the runs."""
+    kind, x, y = "s%d" % index, left + index % 2 * 112, 42 + index // 2 * 20
+    yield '<polyline class="%s" points="%d,%d %d,%d"/>' % (kind, x, y - 4, x + 18, y - 4)
+    yield text(x + 24, y, name)
+    shown = [(left + WIDE * place(at), lines) for at, lines in points]
+    yield '<polyline class="%s" points="%s"/>' % (
+        kind, " ".join("%.1f,%.1f" % (at, height(middle(lines))) for at, lines in shown))
+    for at, lines in shown:
+        least, most = ends(lines)
+        yield stroke(kind, at, height(least), at, height(most))
+        yield '<circle class="%s" cx="%.1f" cy="%.1f" r="2.5"/>' % (kind, at, height(middle(lines)))
+
+
+def by_rows(found, left, what, name):
+    place = lambda rows: rows / 512
+    yield from axes(left, name, "process rows in use", place, (0, 128, 256, 384, 512), 2)
+    for index, size in enumerate(sorted({key[3] for key, _ in chosen(found, what)})):
+        points = [(key[2], lines) for key, lines in chosen(found, what) if key[3] == size]
+        yield from series(left, index, number(size) + " bytes", place, points)
+
+
+def by_size(found, left):
+    place = log(512, 32768)
+    yield from axes(left, "Load", "image size in bytes", place, (512, 2048, 8192, 32768), 1.5)
+    names = {"any relation": "any relation", "equalities": "equalities", "wild goal behind clauses": "refused at its goal"}
+    for index, (which, name) in enumerate(names.items()):
+        points = [(key[3], lines) for key, lines in chosen(found, "load by size", which)]
+        yield from series(left, index, name, place, points)
+
+
+def plot(found):
+    yield '<svg xmlns="http://www.w3.org/2000/svg" viewBox="0 0 905 345" role="img">'
+    yield "<title>Time of the archive over that of plain C</title><style>%s\n</style>" % STYLE
+    yield '<rect class="page" width="905" height="345"/>'
+    yield text(0, 0, "archive / plain C", 'transform="translate(16 %d) rotate(-90)" text-anchor="middle"' % (TOP + HIGH / 2))
+    yield from by_rows(found, 55, "step", "A step, by image size")
+    yield from by_rows(found, 350, "call without a step", "Call without a step, by image size")
+    yield from by_size(found, 645)
+    yield "</svg>"
+
+
+def main(results, picture, *pages):
+    found = read(results)
+    print("\n".join([*tables(found), *summary(found)]))
+    with open(picture, "w") as file:
+        file.write("\n".join(plot(found)) + "\n")
+    for page in pages:
+        set_into(page, found)
+
+
+main(*sys.argv[1:])

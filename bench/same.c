@@ -1,0 +1,187 @@
+/* The archive's load, run and supply beside the plain C ones: the same answers and the same bytes in every call. */
+#include "checker.h"
+#include "machine.h"
+#include "tables.h"
+
+#include <stdio.h>
+#include <string.h>
+
+enum { IMAGES = 120000, SMALL_PLANS = 20000, WHOLE_IMAGES = 4000, LIMIT = 60000 };
+
+static struct image image;
+static struct tables ours, theirs; /* of the archive, of the plain C */
+static unsigned runs, supplies, refused, differences;
+
+/* Notes what both answered and left. */
+static uint64_t seen(uint64_t a, uint64_t b)
+{
+    refused += rissobarm_refusal(a) != RISSOBARM_ACCEPTED;
+    differences += a != b || memcmp(&ours, &theirs, sizeof ours) != 0;
+    return a;
+}
+
+/* Both run from the same tables. */
+static uint64_t both_run(unsigned limit)
+{
+    uint64_t a, b;
+
+    theirs = ours;
+    runs++;
+    a = rissobarm_run(IMAGE, TABLES(&ours), (uint16_t)limit);
+    b = machine_run(IMAGE, TABLES(&theirs), (uint16_t)limit);
+    return seen(a, b);
+}
+
+/* Both supply a value to the same tables; now and then one that is too large, or for no variable. */
+static void both_supply(struct random *random)
+{
+    uint32_t variable = random_below(random, 5), value = random_below(random, 3);
+    uint64_t a, b;
+
+    if (random_once(random, 16))
+        value += 32767;
+    theirs = ours;
+    supplies++;
+    a = rissobarm_supply(IMAGE, TABLES(&ours), variable, value);
+    b = machine_supply(IMAGE, TABLES(&theirs), variable, value);
+    seen(a, b);
+}
+
+/* Sets one byte of the first ones to a number below the top. */
+static void damage(struct random *random, uint8_t *bytes, unsigned first, unsigned top)
+{
+    uint8_t byte = (uint8_t)random_below(random, top);
+
+    bytes[random_below(random, first)] = byte;
+}
+
+/* A run in random slices, with supplies when it waits and sometimes before, and at the end with a byte damaged. */
+static void compare(struct random *random)
+{
+    unsigned slices, end, rows;
+
+    if (rissobarm_refusal(rissobarm_start(IMAGE, TABLES(&ours))) != RISSOBARM_ACCEPTED)
+        return;
+    for (slices = 0; slices < 24; slices++) {
+        end = rissobarm_end(both_run(random_once(random, 4) ? (unsigned)LIMIT : random_below(random, 40)));
+        if (end == RISSOBARM_END_ROOM || end == RISSOBARM_END_SUCCESS || end == RISSOBARM_END_FAILURE)
+            break;
+        if (end == RISSOBARM_END_WAITING || random_once(random, 3))
+            both_supply(random);
+    }
+    rows = processes(&ours);
+    for (slices = 0; slices < 4; slices++) {
+        damage(random, ours.procs, RISSOBARM_PROCESS_ROW * rows, 9);
+        if (random_once(random, 3))
+            damage(random, ours.vars, 64, 4);
+        if (random_once(random, 6))
+            damage(random, ours.head, sizeof ours.head, 20);
+        both_supply(random);
+        both_run(random_below(random, 40));
+    }
+}
+
+static void put_small_term(struct random *random, unsigned variables)
+{
+    unsigned term = random_below(random, 3);
+
+    if (variables > 0 && random_below(random, 3) > 0)
+        term = 32768 + random_below(random, variables);
+    put_byte(&image, term % 256);
+    put_byte(&image, term / 256);
+}
+
+static void put_small_goal(struct random *random, const unsigned *arity, unsigned relations, unsigned variables)
+{
+    unsigned stages = random_below(random, 3), s, k, n;
+
+    put_byte(&image, stages);
+    for (s = 0; s < stages; s++) {
+        n = 1 + random_below(random, 3);
+        put_byte(&image, n);
+        for (; n > 0; n--) {
+            unsigned relation = random_below(random, relations + 1);
+            unsigned terms = relation < relations ? arity[relation] : 2;
+
+            put_byte(&image, relation < relations ? relation : 255);
+            put_byte(&image, terms);
+            for (k = 0; k < terms; k++)
+                put_small_term(random, variables);
+        }
+    }
+}
+
+/* A plan of few relations, terms and constants, so that much of it matches. */
+static void make_small(struct random *random)
+{
+    unsigned arity[4], relations = 1 + random_below(random, 4), k, c, v;
+
+    image.length = image.records = 0;
+    for (k = 0; k < relations; k++) {
+        record_begin(&image, 1);
+        put_byte(&image, arity[k] = random_below(random, 4));
+        for (c = 0; c < arity[k]; c++)
+            put_byte(&image, random_below(random, 2));
+        record_end(&image);
+    }
+    for (k = 0; k < relations; k++)
+        for (c = random_below(random, 4); c > 0; c--) {
+            int first = image.bytes[image.starts[image.records - 1] + 2] == 1 ||
+                        image.bytes[image.starts[image.records - 1] + 4] != k;
+
+            record_begin(&image, 2);
+            put_byte(&image, k);
+            put_byte(&image, arity[k]);
+            put_byte(&image, first ? 0 : random_below(random, 2));
+            put_byte(&image, v = random_below(random, 4));
+            for (unsigned a = 0; a < arity[k]; a++)
+                put_small_term(random, v);
+            put_small_goal(random, arity, relations, v);
+            put_small_goal(random, arity, relations, v);
+            record_end(&image);
+        }
+    record_begin(&image, 3);
+    put_byte(&image, v = random_below(random, 5));
+    put_small_goal(random, arity, relations, v);
+    record_end(&image);
+}
+
+/* Both loads on random images. */
+static unsigned loads_differ(void)
+{
+    struct random random = { 20011 };
+    unsigned k, differ = 0;
+
+    for (k = 0; k < IMAGES; k++) {
+        image_any(&image, &random);
+        differ += rissobarm_load(IMAGE) != checker_load(IMAGE);
+    }
+    printf("load: %d random images, %u differences\n", IMAGES, differ);
+    return differ;
+}
+
+/* Both runs and supplies on random plans. */
+static unsigned runs_differ(void)
+{
+    struct random random = { 90210 };
+    unsigned k;
+
+    for (k = 0; k < SMALL_PLANS; k++) {
+        make_small(&random);
+        compare(&random);
+    }
+    for (k = 0; k < WHOLE_IMAGES; k++) {
+        image_whole(&image, &random);
+        compare(&random);
+    }
+    printf("run and supply: %u runs and %u supplies on %d plans, %u of them refused, %u differences\n", runs, supplies,
+           SMALL_PLANS + WHOLE_IMAGES, refused, differences);
+    return differences;
+}
+
+int main(void)
+{
+    unsigned loads = loads_differ();
+
+    return loads + runs_differ() != 0;
+}
