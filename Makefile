@@ -1,10 +1,12 @@
 # `make run` does the main job; `make test` runs everything that the gate runs; `make install PREFIX=..` installs the library.
-.PHONY: run test install uninstall
+# `make soak MINUTES=20` drives archive and reference side by side; `make faults` shows that the driver finds planted faults.
+.PHONY: run test install uninstall soak faults
 
 VERSION = 0.1
 PREFIX = /usr/local
 DESTDIR =
 into = $(DESTDIR)$(PREFIX)
+MINUTES = 20
 
 # The first time this proves the runner and all that it stands on, which takes some minutes.
 run:
@@ -24,3 +26,10 @@ install:
 
 uninstall:
 	rm -f '$(into)/lib/librissobarm.a' '$(into)/include/rissobarm.h' '$(into)/lib/pkgconfig/rissobarm.pc'
+
+soak:
+	@tests/soak $(MINUTES) $(SEED)
+
+faults:
+	@tests/install
+	@tests/faults

@@ -8,7 +8,7 @@ use Rattle.capi.specs.Tells.{RunTells, StartTells, StepTells, SupplyTell
 use Rattle.load.specs.Fields.{refusalOf}
 use Rattle.machine.specs.Starting.{StartSays}
 use Rattle.machine.specs.Supplying.{SupplySays}
-use Rattle.parlog.specs.Calls.{runCall, turnCall, valueCall}
+use Rattle.parlog.specs.Calls.{valueCall}
 use Rattle.parlog.specs.Limits.{small}
 use Rattle.parlog.specs.Load.{loadOf}
 use Rattle.parlog.specs.Numbers.{loadNumbers, Numbers, refusedAs, runNumbers, startNumbers, stepNumbers, supplyNumbers, valueNumbers, watchNumbers, word}
@@ -24,6 +24,7 @@ use Rattle.parlog.specs.declared.Stepped.{Stepped}
 use Rattle.parlog.specs.declared.Supplied.{Supplied}
 use Rattle.parlog.specs.declared.Valued.{Valued}
 use Rattle.rows.proofs.Tables.{procs-length}
+use Rattle.run.specs.Running.{RunSays, TurnSays}
 use Rattle.step.specs.Stepping.{StepSays}
 use Rattle.words.proofs.Fitting.{run-fits, start-fits, step-fits, supply-fits, turn-fits, value-fits, watch-reached}
 use Rattle.words.specs.Fits.{reached, RunFits, StartFits, StepFits, SupplyFits, ValueFits}
@@ -62,26 +63,26 @@ module _ (s : List ℕ) (l : Lent) {h p v : List ℕ} where
     pub step-tells : {w : ℕ} → w ≡ word (stepNumbers a) → StepTells s l i w h p v
     step-tells k = tells-of (told .answer) stepNumbers (told .head) (told .procs) (told .vars) k
 
+  module _ {a : Stepped} (told : TurnSays s l a h p v) where
+    pub turn-fit : StepFits a
+    turn-fit = fits-of (told .answer) StepFits (turn-fits s l)
+
+    pub turn-tells : {w : ℕ} → w ≡ word (stepNumbers a) → TurnTells s l w h p v
+    turn-tells k = tells-of (told .answer) stepNumbers (told .head) (told .procs) (told .vars) k
+
+  module _ (limit : ℕ) {a : Ran} (told : RunSays s l limit a h p v) where
+    pub run-fit : limit ≤ 65535 → RunFits a
+    run-fit most = fits-of (told .answer) RunFits (run-fits s l limit (omega (arith, most)))
+
+    pub run-tells : {w : ℕ} → w ≡ word (runNumbers a) → RunTells s l limit w h p v
+    run-tells k = tells-of (told .answer) runNumbers (told .head) (told .procs) (told .vars) k
+
   module _ (x c : ℕ) {a : Supplied} (told : SupplySays s l x c a h p v) where
     pub supply-fit : SupplyFits a
     supply-fit = fits-of (told .answer) SupplyFits (supply-fits s l x c)
 
     pub supply-tells : {w : ℕ} → w ≡ word (supplyNumbers a) → SupplyTells s l x c w h p v
     supply-tells k = tells-of (told .answer) supplyNumbers (told .head) (told .procs) (told .vars) k
-
-module _ (s : List ℕ) (l : Lent) {a : Stepped} (answer : a ≡ turnCall small s l .answer) where
-  pub turn-fit : StepFits a
-  turn-fit = fits-of answer StepFits (turn-fits s l)
-
-  pub turn-tells : {h p v : List ℕ} {w : ℕ} → h ≡ turnCall small s l .lent .head → p ≡ turnCall small s l .lent .procs → v ≡ turnCall small s l .lent .vars → w ≡ word (stepNumbers a) → TurnTells s l w h p v
-  turn-tells eh ep ev k = tells-of answer stepNumbers eh ep ev k
-
-module _ (s : List ℕ) (l : Lent) (limit : ℕ) {a : Ran} (answer : a ≡ runCall small s l limit .answer) where
-  pub run-fit : limit ≤ 65535 → RunFits a
-  run-fit most = fits-of answer RunFits (run-fits s l limit (omega (arith, most)))
-
-  pub run-tells : {h p v : List ℕ} {w : ℕ} → h ≡ runCall small s l limit .lent .head → p ≡ runCall small s l limit .lent .procs → v ≡ runCall small s l limit .lent .vars → w ≡ word (runNumbers a) → RunTells s l limit w h p v
-  run-tells eh ep ev k = tells-of answer runNumbers eh ep ev k
 
 module _ (s : List ℕ) (l : Lent) (x : ℕ) {a : Valued} (told : a ≡ valueCall small s l x) where
   pub value-fit : ValueFits a

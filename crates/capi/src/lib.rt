@@ -1,7 +1,7 @@
 // What a C program calls: numbers and byte rows alone. Each answer is one word.
 use parlog::Loaded;
 ghost use mathlib.Core.Path.{_≡_};
-ghost use Rattle.capi.specs.Tells.{StartTells, StepTells, SupplyTells, ValueTells, WatchTells};
+ghost use Rattle.capi.specs.Tells.{RunTells, StartTells, StepTells, SupplyTells, TurnTells, ValueTells, WatchTells};
 ghost use Rattle.parlog.specs.Load.{loadOf};
 ghost use Rattle.parlog.specs.Numbers.{loadNumbers, word};
 
@@ -45,6 +45,35 @@ pub extern "C" fn rissobarm_step(
 {
     let a = step::step(image, head, procs, vars, process);
     words::step_word(a)
+}
+
+// Makes the step of the first process that can move after the one stepped last.
+#[no_mangle]
+pub extern "C" fn rissobarm_turn(
+    image: &[u8],
+    head: &mut [u8],
+    procs: &mut [u8],
+    vars: &mut [u8],
+) -> u64
+    ensures { λ r. ⌜ TurnTells (now (image .entry)) (record { head = now (head .entry); procs = now (procs .entry); vars = now (vars .entry) }) r (now (head .exit)) (now (procs .exit)) (now (vars .exit)) ⌝ }
+{
+    let a = run::turn(image, head, procs, vars);
+    words::step_word(a)
+}
+
+// Makes turns until the goal has ended, nothing can move, the limit is used up or a step has no room.
+#[no_mangle]
+pub extern "C" fn rissobarm_run(
+    image: &[u8],
+    head: &mut [u8],
+    procs: &mut [u8],
+    vars: &mut [u8],
+    limit: u16,
+) -> u64
+    ensures { λ r. ⌜ RunTells (now (image .entry)) (record { head = now (head .entry); procs = now (procs .entry); vars = now (vars .entry) }) limit r (now (head .exit)) (now (procs .exit)) (now (vars .exit)) ⌝ }
+{
+    let a = run::run(image, head, procs, vars, limit);
+    words::run_word(a)
 }
 
 // Binds the value of a goal variable to a constant.

@@ -9,6 +9,7 @@ ghost use Rattle.parlog.specs.Rules.{by-rule, no-rule};
 ghost use Rattle.parlog.specs.Tables.{goalSpot, procsOf, varsIn};
 ghost use Rattle.parlog.specs.Unify.{changed};
 ghost use Rattle.rows.specs.Rows.{Table};
+ghost use Rattle.tree.specs.Family.{Falls};
 ghost use Rattle.vars.specs.Cells.{Cells};
 ghost use Rattle.plan.specs.Plans.{appliedOf, Born, changesOf, cutBelow, deltaOf, fitsIn, napped, Of, procsAfter, sleptAt, stateIn, varsAfter, Within};
 use parlog::Change;
@@ -317,7 +318,7 @@ fn wide(v: u32) -> usize
 
 // Where `cut` says so, all below p fall asleep.
 fn cut_below(procs: &mut [u8], n: usize, p: usize, cut: bool)
-    requires { ⌜ n * 24 ≤ length (now procs) ⌝ }
+    requires { ⌜ (n * 24 ≤ length (now procs)) × (p < n) × Falls (procsOf (now procs) n) ⌝ }
     ensures { λ _. ⌜ Table (now (procs .entry)) (now (procs .exit)) (cutBelow cut (procsOf (now (procs .entry)) n) p) ⌝ }
 {
     if cut {
@@ -376,7 +377,7 @@ fn bind_all(vars: &mut [u8], m: usize, list: [Change; 4], k: usize)
 }
 
 fn write_procs(procs: &mut [u8], n: usize, p: usize, plan: Plan)
-    requires { ⌜ ((n + plan .count) * 24 ≤ length (now procs)) × (plan .count ≤ 12) × (p < n) ⌝ }
+    requires { ⌜ ((n + plan .count) * 24 ≤ length (now procs)) × (plan .count ≤ 12) × (p < n) × Falls (procsOf (now procs) n) ⌝ }
     ensures { λ _. ⌜ Table (now (procs .entry)) (now (procs .exit)) (procsAfter (procsOf (now (procs .entry)) n) p (deltaOf plan)) ⌝ }
 {
     let me = plan.me;
@@ -400,7 +401,7 @@ fn write_vars(vars: &mut [u8], m: usize, plan: Plan)
 
 // Carries a plan out.
 pub fn write(procs: &mut [u8], n: usize, vars: &mut [u8], m: usize, p: usize, plan: Plan)
-    requires { ⌜ ((n + plan .count) * 24 ≤ length (now procs)) × (plan .count ≤ 12) × (p < n) × ((m + plan .fresh) * 4 ≤ length (now vars)) × (plan .changes .count ≤ 4) × Within (m + plan .fresh) (plan .changes .count) (plan .changes .list) ⌝ }
+    requires { ⌜ ((n + plan .count) * 24 ≤ length (now procs)) × (plan .count ≤ 12) × (p < n) × Falls (procsOf (now procs) n) × ((m + plan .fresh) * 4 ≤ length (now vars)) × (plan .changes .count ≤ 4) × Within (m + plan .fresh) (plan .changes .count) (plan .changes .list) ⌝ }
     ensures { λ _. ⌜ Table (now (procs .entry)) (now (procs .exit)) (apply (stateIn (now (procs .entry)) n (now (vars .entry)) m) p (deltaOf plan) .procs) × Cells m (now (vars .entry)) (now (vars .exit)) (apply (stateIn (now (procs .entry)) n (now (vars .entry)) m) p (deltaOf plan) .vars) ⌝ }
 {
     write_procs(procs, n, p, plan);

@@ -15,6 +15,7 @@ use Rattle.machine.specs.Entered.{Inside}
 use Rattle.moves.proofs.Legal.{legal, right-sized}
 use Rattle.moves.specs.Legal.{Legal}
 use Rattle.parlog.proofs.Bools.{and-true}
+use Rattle.parlog.proofs.Steps.{steady-kept}
 use Rattle.parlog.specs.Limits.{small}
 use Rattle.parlog.specs.Program.{Program, programOf}
 use Rattle.parlog.specs.Rules.{fits, move, ruleOf, withRoom}
@@ -27,6 +28,7 @@ use Rattle.plan.specs.Plans.{appliedOf, deltaOf, fitsIn, stateIn, Within}
 use Rattle.plan.specs.declared.Plan.{Plan}
 use Rattle.rows.proofs.Tables.{procs-length}
 use Rattle.step.specs.Stepping.{stepIn}
+use Rattle.tree.specs.Family.{Falls}
 use Rattle.vars.proofs.Tables.{vars-length}
 
 -- ---- what a mover may count on
@@ -55,6 +57,10 @@ module _ (s : List ℕ) (r c : ℕ) (l : Lent) (i : Inside s r c l) where
   may-move p h en em =
       rw (en, em) (legal small pr (tablesIn l .state) (accepted-sane s r c (i .loaded)) (accepted-heads s r c (i .loaded)) (right-sized s r c (accepted s r c (i .loaded)) (i .clauses))
       state-good p (omega (arith, procs-length (l .procs) (procCount (l .head)), h)) (omega (arith, vars-length (l .vars) (varCount (l .head)), i .vars-most)))
+
+  -- where the climb to what is below may stop
+  pub parents-fall : {n : ℕ} → n ≡ procCount (l .head) → Falls (procsOf (l .procs) n)
+  parents-fall e = rw e (unfold tablesIn in (steady-kept small pr (tablesIn l) tables-good .0 .kin .lower))
 
   -- what fits can be written
   pub may-write : (n m : ℕ) (pl : Plan) {b : Bool} → b ≡ fitsIn 512 1024 n m pl → b ≡ true → Within m (pl .changes .count) (pl .changes .list)

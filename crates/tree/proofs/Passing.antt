@@ -8,18 +8,19 @@ use lib.ListN.{length, length-set, set}
 use lib.Seq.{set-getD}
 use borrow.Author.Tests.{le-ltb, lt-ltb, ltb-false, ltb-true}
 use native.Mathlib.Omega.{arith}
+use Rattle.parlog.proofs.Bools.{split}
+use Rattle.parlog.proofs.Rows.{build-cong, build-is, build-set}
+use Rattle.parlog.proofs.Scans.{build-at, build-length}
 use Rattle.parlog.specs.Codes.{dormant}
 use Rattle.parlog.specs.Delta.{asleep, withMode}
 use Rattle.parlog.specs.Scan.{build}
 use Rattle.parlog.specs.Tables.{at, idle, procsOf}
 use Rattle.parlog.specs.Tree.{below, climb}
 use Rattle.parlog.specs.declared.Process.{Process}
-use Rattle.parlog.proofs.Bools.{split}
-use Rattle.parlog.proofs.Rows.{build-cong, build-is, build-set}
-use Rattle.parlog.proofs.Scans.{build-at, build-length}
-use Rattle.rows.specs.Rows.{Table}
 use Rattle.rows.proofs.Tables.{procs-length, procs-past, table-rows, table-same, table-then}
-use Rattle.tree.specs.Family.{slept, sleptBelow}
+use Rattle.rows.specs.Rows.{Table}
+use Rattle.tree.proofs.Family.{below-low}
+use Rattle.tree.specs.Family.{Falls, slept, sleptBelow}
 
 -- what sleeps already stays as it is
 asleep-still : (b : Bool) (x : Process) → x .mode ≡ 0 → asleep b x ≡ x
@@ -84,11 +85,16 @@ passed-other ps p q j ne =
     split (ltb j q) (λ e. let h : j < q = ltb-true j q e in passed-now ps p (q + 1) j (omega arith) ∙ sym (passed-now ps p q j h))
     (λ e. let h : q ≤ j = ltb-false j q e in passed-yet ps p (q + 1) j (omega (arith, ne)) ∙ sym (passed-yet ps p q j h))
 
-pub pass-start : (l : List ℕ) (n p : ℕ) → Table l l (build (passed (procsOf l n) p 0) n)
-pass-start l n p =
-    let e : build (passed (procsOf l n) p 0) n ≡ procsOf l n =
-    rw (procs-length l n) at (build-is (passed (procsOf l n) p 0) idle (procsOf l n) (λ i h. passed-yet (procsOf l n) p 0 i (omega arith))) in
+pub pass-start : (l : List ℕ) (n p : ℕ) → p < n → Falls (procsOf l n) → Table l l (build (passed (procsOf l n) p (p + 1)) n)
+pass-start l n p h falls =
+    let e : build (passed (procsOf l n) p (p + 1)) n ≡ procsOf l n =
+    rw (procs-length l n) at (build-is (passed (procsOf l n) p (p + 1)) idle (procsOf l n) (λ i u. first i (omega (arith, procs-length l n)))) in
     rw e (table-same l n)
+  where
+    first : (i : ℕ) → i < n → passed (procsOf l n) p (p + 1) i ≡ at (procsOf l n) i
+    first i u = split (ltb i (p + 1))
+        (λ e. let v : i < p + 1 = ltb-true i (p + 1) e in passed-now (procsOf l n) p (p + 1) i v ∙ unfold slept in rw (below-low (procsOf l n) falls p i (omega (arith, procs-length l n)) (omega arith)))
+        (λ e. passed-yet (procsOf l n) p (p + 1) i (ltb-false i (p + 1) e))
 
 pub pass-end : (l m : List ℕ) (n p q : ℕ) → Table l m (build (passed (procsOf l n) p q) n) → q ≡ n → Table l m (sleptBelow (procsOf l n) p)
 unfolding sleptBelow
@@ -105,6 +111,10 @@ module _ (l m : List ℕ) (n p q : ℕ) (lt : q < n) (t : Table l m (build (pass
   parents j = split (ltb j n)
       (λ e. rw (now, build-at (passed (procsOf l n) p q) n j idle (ltb-true j n e)) (passed-parent (procsOf l n) p q j))
       (λ e. rw (procs-past m n j (ltb-false j n e), procs-past l n j (ltb-false j n e)))
+
+  -- the parents are those that they were
+  pub falls-still : Falls (procsOf l n) → Falls (procsOf m n)
+  falls-still falls i h ne = rw (parents i) (falls i (omega (arith, h, procs-length m n, procs-length l n)) ne)
 
   same-below : below (procsOf m n) p q ≡ below (procsOf l n) p q
   same-below = below-cong (procsOf l n) (procsOf m n) p q (procs-length m n ∙ sym (procs-length l n)) parents

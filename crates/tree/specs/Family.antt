@@ -1,5 +1,6 @@
 -- What the scans of the process table answer, and the table once all below a process are asleep.
 use mathlib.Core.Path.{_≡_}
+use mathlib.Core.Logic.{_≢_}
 use mathlib.Core.Bool.{Bool}
 use mathlib.Core.List.{List}
 use Prim.Native.Nat.{_<_, ℕ}
@@ -43,3 +44,7 @@ slept ps p i = asleep (below ps p i) (at ps i)
 -- Tags and modes, 5: every process below p becomes dormant
 unfoldable pub sleptBelow : List Process → ℕ → List Process
 sleptBelow ps p = build (slept ps p) (length ps)
+
+-- Tables 3: every process but the first has a parent of a lower number
+abbrev pub Falls : List Process → Type 0
+Falls ps = (i : ℕ) → i < length ps → i ≢ 0 → at ps i .parent < i

@@ -8,7 +8,7 @@ ghost use Rattle.parlog.specs.Tables.{at, procsOf};
 ghost use Rattle.parlog.specs.Tree.{allChildren, anyChild, below, childDone, childReports, enclosing, firstOf, heard, heardFrom, isChild, latest, lowestChild, reports};
 ghost use Rattle.parlog.specs.declared.Found.the-variants.{At};
 ghost use Rattle.rows.specs.Rows.{Table};
-ghost use Rattle.tree.specs.Family.{Answers, heardOf, Known, slept, sleptBelow, Under};
+ghost use Rattle.tree.specs.Family.{Answers, Falls, heardOf, Known, slept, sleptBelow, Under};
 use parlog::Found;
 use parlog::Process;
 
@@ -177,25 +177,16 @@ pub fn heard(procs: &[u8], n: usize, p: usize) -> News
     heard_from(procs, n, c)
 }
 
-// Climbing from i by parents meets p.
+// Process i is below p. Parents have lower numbers, so the climb ends once it has come to p or past it.
 pub fn below(procs: &[u8], n: usize, p: usize, i: usize) -> bool
-    requires { ⌜ n * 24 ≤ length (now procs) ⌝ }
+    requires { ⌜ (n * 24 ≤ length (now procs)) × (i < n) × (p < i) × Falls (procsOf (now procs) n) ⌝ }
     ensures { λ r. ⌜ r ≡ below (procsOf (now (procs .entry)) n) p i ⌝ }
 {
     let mut a = i;
-    let mut left = n;
-    while 0 < left {
-        if a == 0 {
-            return false;
-        }
-        let up = parent(procs, n, a);
-        if up == p {
-            return true;
-        }
-        a = up;
-        left -= 1;
+    while p < a {
+        a = parent(procs, n, a);
     }
-    false
+    a == p
 }
 
 // The nearest try-clause above p.
@@ -249,7 +240,7 @@ fn dormant(mut x: Process) -> Process
 
 // Process q falls asleep if it is below p; a row that sleeps already is not written.
 fn sleep_one(procs: &mut [u8], n: usize, p: usize, q: usize)
-    requires { ⌜ (n * 24 ≤ length (now procs)) × (q < n) ⌝ }
+    requires { ⌜ (n * 24 ≤ length (now procs)) × (q < n) × (p < q) × Falls (procsOf (now procs) n) ⌝ }
     ensures { λ _. ⌜ Table (now (procs .entry)) (now (procs .exit)) (set (procsOf (now (procs .entry)) n) q (slept (procsOf (now (procs .entry)) n) p q)) ⌝ }
 {
     if rows::mode_at(procs, n, q) == 0 {
@@ -265,10 +256,10 @@ fn sleep_one(procs: &mut [u8], n: usize, p: usize, q: usize)
 
 // Every process below p, at any depth, becomes dormant.
 pub fn sleep_below(procs: &mut [u8], n: usize, p: usize)
-    requires { ⌜ n * 24 ≤ length (now procs) ⌝ }
+    requires { ⌜ (n * 24 ≤ length (now procs)) × (p < n) × Falls (procsOf (now procs) n) ⌝ }
     ensures { λ _. ⌜ Table (now (procs .entry)) (now (procs .exit)) (sleptBelow (procsOf (now (procs .entry)) n) p) ⌝ }
 {
-    let mut q = 0;
+    let mut q = p + 1;
     while q < n {
         sleep_one(procs, n, p, q);
         q += 1;

@@ -9,17 +9,5 @@ use Rattle.run.proofs.goal_end.Lts as lts
 use Rattle.rows.proofs.result_at.Reads as result-at-reads
 use Rattle.run.proofs.end_by.Reads as end-by-reads
 
--- src/lib.rt:44:12
-result-at-requires : tie.Need-result-at-requires
-result-at-requires c κs = search needs
-
--- src/lib.rt:44:5
-end-by-requires : tie.Need-end-by-requires
-end-by-requires c κs = search needs
-
--- src/lib.rt:40:1
-returns : tie.Need-returns
-returns c = c .end-by .ensures ∙ ap (λ x. endOf (resultOf x)) (c .before .result-at .ensures)
-
 pub goal-end-spec : {M : Type 1} → statement M
-goal-end-spec = tie.close (tie.spec result-at-requires end-by-requires returns)
+goal-end-spec = tie.close (tie.spec (λ c κs. search needs) (λ c κs. search needs) (λ c. c .end-by .ensures ∙ ap (λ x. endOf (resultOf x)) (c .before .result-at .ensures)))

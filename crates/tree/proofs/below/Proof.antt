@@ -1,29 +1,18 @@
-use mathlib.Core.Path.{_∙_, _≡_, sym}
 use borrow.Author.Needs.{needs}
 use native.Mathlib.Omega.{arith}
-use Rattle.parlog.specs.Tables.{procsOf}
-use Rattle.parlog.specs.Tree.{below, climb}
-use Rattle.tree.proofs.Family.{below-starts, climb-end, climb-met, climb-on, climb-root}
+use Rattle.tree.proofs.Family.{climb-ends, climb-goes, climb-starts, Climbs}
 use Rattle.tree.proofs.below.Statement.{statement}
 use Rattle.tree.proofs.below.Tie as tie
+use Rattle.tree.proofs.below.Reads as reads
+use Rattle.tree.proofs.below.Lts as lts
+use Rattle.tree.proofs.parent.Reads as parent-reads
 
 abbrev Inv-loop : tie.InvT-loop
-Inv-loop procs n p i a₀ left₀ a left = below (procsOf procs n) p i ≡ climb left (procsOf procs n) p a
+Inv-loop procs n p i a₀ a = Climbs procs n p i a
 
 abbrev μ-loop : tie.MeasureT-loop
-μ-loop procs n p i a₀ left₀ a left = left
+μ-loop procs n p i a₀ a = a
 
 pub below-spec : {M : Type 1} → statement M
 below-spec =
-    tie.close
-    (tie.spec
-    Inv-loop
-    μ-loop
-    (λ c. below-starts _ _ _ _)
-    (λ c. sym ((c .before .before .loop .inv) ∙ climb-root _ _ _ _ (c .before .loop-test .taken) (c .if1 .taken)))
-    (λ c κs. search needs)
-    (λ c. sym ((c .before .before .before .before .loop .inv) ∙ climb-met _ _ _ _ (c .before .before .before .loop-test .taken) (c .before .before .if1 .left) (c .before .parent .ensures) (c .if2 .taken)))
-    (λ c. search needs)
-    (λ c. search needs)
-    (λ c. (c .before .before .before .before .loop .inv) ∙ climb-on _ _ _ _ (c .before .before .before .loop-test .taken) (c .before .before .if1 .left) (c .before .parent .ensures) (c .if2 .left))
-    (λ c. sym ((c .before .loop .inv) ∙ climb-end _ _ _ _ (omega arith))))
+    tie.close (tie.spec Inv-loop μ-loop (λ c. climb-starts _ _ _ _ (c .before .pre .3) (c .before .pre .1) (c .before .pre .2)) (λ c κs. search needs) (λ c. climb-goes _ _ _ _ (c .before .before .before .before .pre .3) _ (c .before .before .loop .inv) (c .before .loop-test .taken) (c .parent .ensures) .1) (λ c. climb-goes _ _ _ _ (c .before .before .before .before .pre .3) _ (c .before .before .loop .inv) (c .before .loop-test .taken) (c .parent .ensures) .0) (λ c. climb-ends _ _ _ _ (c .before .before .before .pre .3) _ (c .before .loop .inv) (omega arith)))

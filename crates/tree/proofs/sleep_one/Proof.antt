@@ -1,8 +1,15 @@
-use borrow.Author.Needs.{needs}
-use borrow.Author.Tests.{not-false, not-true}
 use Rattle.tree.proofs.Passing.{sleep-not, sleep-now, sleep-still}
+use borrow.Author.Tests.{not-false, not-true}
+use borrow.Author.Needs.{needs}
 use Rattle.tree.proofs.sleep_one.Statement.{statement}
 use Rattle.tree.proofs.sleep_one.Tie as tie
+use Rattle.tree.proofs.sleep_one.Reads as reads
+use Rattle.tree.proofs.sleep_one.Lts as lts
+use Rattle.rows.proofs.get.Reads as get-reads
+use Rattle.rows.proofs.mode_at.Reads as mode-at-reads
+use Rattle.rows.proofs.put.Reads as put-reads
+use Rattle.tree.proofs.below.Reads as below-reads
+use Rattle.tree.proofs.dormant.Reads as dormant-reads
 
 pub sleep-one-spec : {M : Type 1} → statement M
 sleep-one-spec =

@@ -1,0 +1,228 @@
+-- Demand 2: a step, by number or by turn, is exactly the move of the rules, and a run is repeated moves.
+use mathlib.Core.Path.{_∙_, _≡_, ap, refl}
+use mathlib.Core.Logic.{inl, inr}
+use mathlib.Core.Bool.{true}
+use mathlib.Core.List.{List}
+use Prim.Native.Nat.{_*_, _<_, _≤_, ℕ}
+use lib.ListN.{getD, length}
+use native.Mathlib.Omega.{arith}
+use Rattle.load.proofs.Sanity.{accepted-sane}
+use Rattle.parlog.proofs.Exact.{at-most-one}
+use Rattle.parlog.proofs.Kept.{fresh-keeps, run-keeps, step-keeps, supply-keeps}
+use Rattle.parlog.proofs.Repeated.{runs, runs-only}
+use Rattle.parlog.proofs.Rows.{rows-length, written-past}
+use Rattle.parlog.proofs.Sane.{Sane}
+use Rattle.parlog.specs.Limits.{small}
+use Rattle.parlog.specs.Load.{loadOf, refusal}
+use Rattle.parlog.specs.Program.{Program, programOf}
+use Rattle.parlog.specs.Relation.{Fits, Rule}
+use Rattle.parlog.specs.Run.{made, Running, runTables, Stepping, stepTables, supplied, Supplying, supplyTables, unmade}
+use Rattle.parlog.specs.TableRules.{fullSize, stateOk, tablesOk}
+use Rattle.parlog.specs.Tables.{at, bindingBytes, cellSize, freshTables, headSize, Lent, procCount, processBytes, putTables, rowsBytes, rowSize, startedLent, State, Tables, tablesIn, zeros}
+use Rattle.parlog.specs.declared.Loaded.the-variants.{Accepted}
+use Rattle.parlog.specs.declared.Move.{Move}
+use Rattle.promises.proofs.Codec.{put-good, put-read, sizes-full}
+use Rattle.promises.proofs.Demand1.{demand-1-start, is-begun, is-refused, Start, start-begun, starting-so, step-as, supply-as, turn-meets-step, turn-there, value-as}
+use Rattle.promises.proofs.Entry.{let-count, let-ok, put-holds, run-let, same-lent}
+use Rattle.promises.proofs.Fours.{Fours, fours-fresh, fours-in, fours-run, fours-step, fours-supply}
+use Rattle.promises.proofs.Giving.{is-constant, is-taken, look-is, look-sees, look-value, not-there, Offer, offer, too-large}
+use Rattle.promises.proofs.Loaded.{accepted-few}
+use Rattle.promises.proofs.Whose.{goes, is-full, is-still, tables-state, too-high, Trial, trial}
+use Rattle.promises.proofs.Words.{ended-told, moved-told, refused-told, term-told}
+use Rattle.promises.specs.Moves.{afterStep, Holds, MovesExactly, Ran-to, RunsExactly, Sees, Shows, Supplies}
+use Rattle.promises.specs.Outcomes.{refusalIn, RunMeets, StartMeets, StepMeets, SupplyMeets, TurnMeets, ValueMeets}
+use Rattle.promises.specs.Reach.{Begins}
+use Rattle.promises.specs.Refusals.{CanMove, LacksRoom, LetIn, stateIn, Turn}
+use Rattle.rows.proofs.Laws.{row-length, zeros-length}
+use Rattle.vars.proofs.Laws.{cell-length}
+
+module _ (s : List ℕ) (l : Lent) {r c : ℕ} (i : LetIn s l r c) where
+  abbrev pr : Program
+  pr = programOf s r c
+
+  kept : stateOk small pr (stateIn l) ≡ true
+  kept = tables-state small pr (tablesIn l) (let-ok s l i)
+
+  pub image-sane : Sane pr
+  image-sane = accepted-sane s r c (i .image)
+
+  -- bytes that became those of t
+  pub holds-in : (t : Tables) (l′ : Lent) → Fours (t .state) → tablesOk small pr t ≡ true → l′ ≡ putTables l t → Holds l t l′
+  holds-in t l′ f ok e = rw e (put-holds s l i t f ok)
+
+  -- ---- a step
+
+  module _ (p w : ℕ) (l′ : Lent) (meets : StepMeets s l p w l′) (h : p < procCount (l .head)) where
+    refused-as : (k : ℕ) → k ≤ 255 → stepTables small pr (tablesIn l) p ≡ unmade k → refusalIn w ≡ k
+    refused-as k small-k e = refused-told w (refusal k 0) small-k (meets .contract .answer ∙ rw (step-as s l p i e)) .0
+
+    shows-made : {m : Move} {s′ : State} → Rule pr (stateIn l) p m s′ → Fits small s′ → stepTables small pr (tablesIn l) p ≡ made m (afterStep (tablesIn l) p s′) → Shows pr l p m s′ w l′
+    shows-made {m} {s′} x f e =
+        let t : Tables = afterStep (tablesIn l) p s′ in
+        let q = step-as s l p i e in
+        record {
+          holds = x;
+          fits = f;
+          tells = moved-told w m (meets .contract .answer ∙ rw q);
+          tables = holds-in t l′ (fours-step small pr (tablesIn l) (fours-in l) p m t e) (step-keeps small pr image-sane (tablesIn l) t p m (let-ok s l i) e)
+              (same-lent l′ (putTables l t) (meets .contract .head ∙ rw q) (meets .contract .procs ∙ rw q) (meets .contract .vars ∙ rw q));
+        }
+
+    full-not : {m : Move} {s′ : State} → Rule pr (stateIn l) p m s′ → Fits small s′ → LacksRoom pr (stateIn l) p → ⊥
+    full-not x f q = let z = at-most-one small pr (stateIn l) kept p x (q .holds) .1 in q .full (rw z at f)
+
+    can-of : {m : Move} {s′ : State} → Rule pr (stateIn l) p m s′ → CanMove pr (stateIn l) p
+    can-of {m} {s′} x = record { rule = m; after = s′; holds = x }
+
+    by-trial : {a : Stepping} → Trial pr (tablesIn l) (let-ok s l i) p a → stepTables small pr (tablesIn l) p ≡ a → MovesExactly pr l p w l′
+    by-trial (too-high g) e = absurd (omega (arith, let-count s l i))
+    by-trial (is-still g n) e =
+        let k : refusalIn w ≡ 10 = refused-as 10 (omega arith) e in
+        record {
+          does = λ x f. absurd (n (can-of x));
+          only = λ z. absurd (omega arith);
+          still = (λ z. n, λ z. k);
+          room = (λ z. absurd (omega arith), λ q. absurd (n (can-of (q .holds))));
+          nothing-else = inr (inl k);
+        }
+    by-trial (is-full g q) e =
+        let k : refusalIn w ≡ 11 = refused-as 11 (omega arith) e in
+        record {
+          does = λ x f. absurd (full-not x f q);
+          only = λ z. absurd (omega arith);
+          still = (λ z. absurd (omega arith), λ n. absurd (n (can-of (q .holds))));
+          room = (λ z. q, λ z. k);
+          nothing-else = inr (inr k);
+        }
+    by-trial (goes {m} {s′} g x f) e =
+        let k = shows-made x f e in
+        let o : refusalIn w ≡ 0 = k .tells .accepted in
+        record {
+          does = λ y u. let z = at-most-one small pr (stateIn l) kept p x y in rw (z .0, z .1) at k;
+          only = λ z. record { rule = m; after = s′; shows = k };
+          still = (λ z. absurd (omega arith), λ n. absurd (n (can-of x)));
+          room = (λ z. absurd (omega arith), λ q. absurd (full-not x f q));
+          nothing-else = inl o;
+        }
+
+    -- demand 2: the step of p is exactly the move of the rules
+    pub demand-2-step : MovesExactly pr l p w l′
+    demand-2-step = by-trial (trial pr (tablesIn l) (let-ok s l i) p) refl
+
+  -- demand 2: a turn is that of the process whose turn it is
+  pub demand-2-turn : (w : ℕ) (l′ : Lent) → TurnMeets s l w l′ → {p : ℕ} → Turn pr (tablesIn l) p → MovesExactly pr l p w l′
+  demand-2-turn w l′ meets {p} u = demand-2-step p w l′ (turn-meets-step s l w l′ meets i u) (turn-there s l i u)
+
+  -- ---- a run
+
+  module _ (limit w : ℕ) (l′ : Lent) (meets : RunMeets s l limit w l′) where
+    ran-so : Ran-to l (runTables limit small pr (tablesIn l)) w l′
+    ran-so =
+        let x : Running = runTables limit small pr (tablesIn l) in
+        let q = run-let s l i limit in
+        let a = ended-told w (x .end) (x .moves) (meets .contract .answer ∙ rw q) in
+        record {
+          accepted = a .0;
+          end = a .1;
+          count = a .2;
+          tables = holds-in (x .tables) l′ (fours-run small pr (tablesIn l) (fours-in l) limit) (run-keeps small pr image-sane limit (tablesIn l) (let-ok s l i))
+              (same-lent l′ (putTables l (x .tables)) (meets .contract .head ∙ rw q) (meets .contract .procs ∙ rw q) (meets .contract .vars ∙ rw q));
+        }
+
+    -- demand 2: a run is repeated moves, with their count, and stops where it must
+    pub demand-2-run : RunsExactly pr l limit w l′
+    demand-2-run = record {
+      run = runTables limit small pr (tablesIn l);
+      runs = runs small pr limit (tablesIn l);
+      ran = ran-so;
+      only = λ x y. let z = runs-only small pr limit (tablesIn l) x y in rw z ran-so;
+    }
+
+  -- ---- a supply and a look
+
+  module _ (v k w : ℕ) (l′ : Lent) (meets : SupplyMeets s l v k w l′) where
+    by-offer : {a : Supplying} → Offer pr (tablesIn l) (let-ok s l i) v k a → supplyTables pr (tablesIn l) v k ≡ a → refusalIn w ≡ 0 → Supplies l v k w l′
+    by-offer (not-there h) e z = let g = refused-told w (refusal 12 0) (omega arith) (meets .contract .answer ∙ rw (supply-as s l v k i e)) .0 in absurd (omega arith)
+    by-offer (too-large h g) e z = let g = refused-told w (refusal 14 0) (omega arith) (meets .contract .answer ∙ rw (supply-as s l v k i e)) .0 in absurd (omega arith)
+    by-offer (is-constant h g x) e z = let g = refused-told w (refusal 13 0) (omega arith) (meets .contract .answer ∙ rw (supply-as s l v k i e)) .0 in absurd (omega arith)
+    by-offer (is-taken {u} h g x f) e z =
+        let t : Tables = supplied (tablesIn l) u k in
+        let q = supply-as s l v k i e in
+        record {
+          accepted = z;
+          unbound = u;
+          value = x;
+          free = f;
+          tables = holds-in t l′ (fours-supply (tablesIn l) t (fours-in l) u k refl) (supply-keeps small pr (tablesIn l) t v k u (let-ok s l i) e)
+              (same-lent l′ (putTables l t) (meets .contract .head ∙ rw q) (meets .contract .procs ∙ rw q) (meets .contract .vars ∙ rw q));
+        }
+
+    -- a supply that is not refused binds the value of v
+    pub demand-2-supply : refusalIn w ≡ 0 → Supplies l v k w l′
+    demand-2-supply = by-offer (offer pr (tablesIn l) (let-ok s l i) v k) refl
+
+  module _ (v w : ℕ) (meets : ValueMeets s l v w) where
+    -- a look that is not refused tells the value of v
+    pub demand-2-value : v < pr .goalVars → Sees l v w
+    demand-2-value h =
+        let a = look-value pr (tablesIn l) (let-ok s l i) v in
+        let q = value-as s l v i (look-sees pr (tablesIn l) (let-ok s l i) v h) in
+        let b = term-told w (a .to) (meets .contract ∙ rw (q, look-is pr (tablesIn l) (let-ok s l i) v)) in
+        record { accepted = b .0; value = a .to; leads = a .leads; ends = a .ends; sort = b .1; number = b .2 }
+
+-- ---- a start
+
+zeros-lent : Lent
+zeros-lent = record { head = zeros headSize; procs = zeros (small .procs * rowSize); vars = zeros (small .vars * cellSize) }
+
+zeros-full : fullSize small zeros-lent ≡ true
+unfolding zeros-lent small
+zeros-full = sizes-full (record { procs = 512; vars = 1024 }) _ (zeros-length 10) (zeros-length 12288) (zeros-length 4096)
+
+module _ (s : List ℕ) {r c : ℕ} (e : loadOf s ≡ Accepted r c) where
+  fresh-ok : tablesOk small (programOf s r c) (freshTables (programOf s r c)) ≡ true
+  unfolding small
+  fresh-ok = let a = accepted-few s e in fresh-keeps (record { procs = 512; vars = 1024 }) (programOf s r c) (omega arith) (omega (arith, a .2))
+
+  started-is : startedLent small (programOf s r c) ≡ putTables zeros-lent (freshTables (programOf s r c))
+  unfolding startedLent zeros-lent
+  started-is = refl
+
+  pub started-let : LetIn s (startedLent small (programOf s r c)) r c
+  started-let = record {
+    image = e;
+    tables = rw started-is (put-good small (programOf s r c) zeros-lent (freshTables (programOf s r c)) zeros-full (fours-fresh (programOf s r c)) fresh-ok);
+  }
+
+  pub started-read : tablesIn (startedLent small (programOf s r c)) ≡ freshTables (programOf s r c)
+  started-read = rw started-is (put-read small (programOf s r c) zeros-lent (freshTables (programOf s r c)) zeros-full (fours-fresh (programOf s r c)) fresh-ok)
+
+-- a start that is not refused leaves a fresh start
+pub demand-2-start : (s : List ℕ) (l : Lent) (w : ℕ) (l′ : Lent) → StartMeets s l w l′ → refusalIn w ≡ 0 → Begins s l′
+demand-2-start s l w l′ meets z = go (starting-so s l)
+  where
+    go : Start s l → Begins s l′
+    go (is-refused y) = let g = demand-1-start s l w l′ meets .by in let a = g .given y .0 in let b = g .numbered y .0 in absurd (omega arith)
+    go (is-begun {r} {c} e h) =
+        let q = start-begun s l e h in
+        let k : l′ ≡ startedLent small (programOf s r c) = same-lent l′ (startedLent small (programOf s r c)) (meets .contract .head ∙ rw q) (meets .contract .procs ∙ rw q) (meets .contract .vars ∙ rw q) in
+        record { relations = r; clauses = c; image = e; read = rw k (started-read s e); bytes = k }
+
+-- ---- bytes past what a call writes
+
+module _ (l : Lent) (t : Tables) where
+  procs-behind : (j : ℕ) → length (t .state .procs) * 24 ≤ j → getD (putTables l t .procs) j 0 ≡ getD (l .procs) j 0
+  unfolding putTables
+  procs-behind j h = written-past (rowsBytes processBytes (t .state .procs)) (l .procs) j (omega (arith, rows-length processBytes 24 row-length (t .state .procs)))
+
+  vars-behind : (j : ℕ) → length (t .state .vars) * 4 ≤ j → getD (putTables l t .vars) j 0 ≡ getD (l .vars) j 0
+  unfolding putTables
+  vars-behind j h = written-past (rowsBytes bindingBytes (t .state .vars)) (l .vars) j (omega (arith, rows-length bindingBytes 4 cell-length (t .state .vars)))
+
+  module _ (l′ : Lent) (h : Holds l t l′) where
+    -- Refusals 23: they stay, in the row of processes and in the row of variables
+    pub behind-procs : (j : ℕ) → length (t .state .procs) * 24 ≤ j → getD (l′ .procs) j 0 ≡ getD (l .procs) j 0
+    behind-procs j u = ap (λ (x : Lent). getD (x .procs) j 0) (h .bytes) ∙ procs-behind j u
+
+    pub behind-vars : (j : ℕ) → length (t .state .vars) * 4 ≤ j → getD (l′ .vars) j 0 ≡ getD (l .vars) j 0
+    behind-vars j u = ap (λ (x : Lent). getD (x .vars) j 0) (h .bytes) ∙ vars-behind j u

@@ -1,0 +1,167 @@
+-- What each call does where it is turned away and where it is let in.
+use mathlib.Core.Path.{_∙_, _≡_, refl, sym}
+use mathlib.Core.Bool.{_&&_, Bool, false, true}
+use mathlib.Core.List.{List}
+use Prim.Native.Nat.{_*_, _≤_, ℕ}
+use lib.ListN.{length}
+use native.Mathlib.Omega.{arith}
+use Rattle.parlog.proofs.Bools.{and-true}
+use Rattle.parlog.specs.Calls.{enter, enterBy, entered, enterLoaded, Entry, runCall, runEntry, stepAnswer, stepCall, supplyAnswer, supplyCall, turnCall, turned-away, valueAnswer, valueCall}
+use Rattle.parlog.specs.Limits.{small}
+use Rattle.parlog.specs.Load.{loadOf, refusal}
+use Rattle.parlog.specs.Program.{Program, programOf}
+use Rattle.parlog.specs.Run.{procsIn, stepTables, supplyTables, turnTables, valueTables}
+use Rattle.parlog.specs.Scan.{every}
+use Rattle.parlog.specs.TableRules.{cellKnown, fullSize, lentOk, tablesOk}
+use Rattle.parlog.specs.Tables.{Lent, procCount, putTables, Tables, tablesIn, varCount}
+use Rattle.parlog.specs.declared.Loaded.{Loaded}
+use Rattle.parlog.specs.declared.Loaded.the-variants.{Accepted, Refused}
+use Rattle.parlog.specs.declared.Ran.the-variants.{Unrun}
+use Rattle.parlog.specs.declared.Refusal.{Refusal}
+use Rattle.parlog.specs.declared.Stepped.the-variants.{Unmoved}
+use Rattle.parlog.specs.declared.Supplied.the-variants.{Ungiven}
+use Rattle.parlog.specs.declared.Valued.the-variants.{Unvalued}
+use Rattle.promises.proofs.Codec.{cells-fit, put-good, put-read, rows-fit}
+use Rattle.promises.proofs.Fours.{Fours}
+use Rattle.promises.proofs.Loaded.{refused-number}
+use Rattle.promises.specs.Moves.{Holds}
+use Rattle.promises.specs.Refusals.{bad-image, for-image, for-tables, LetIn, TurnedAway}
+use Rattle.rows.proofs.Tables.{procs-length}
+
+-- ---- the first tests
+
+pub data Entering (s : List ℕ) (l : Lent) : Entry → Type 0 where
+  is-turned : {f : Refusal} → TurnedAway s l (f .number) (f .offset) → Entering s l (turned-away f)
+  is-let : {r c : ℕ} → LetIn s l r c → Entering s l (entered (programOf s r c) (tablesIn l))
+
+module _ (s : List ℕ) (l : Lent) where
+  entering : Entering s l (enter small s l)
+  unfolding enter
+  entering = go (loadOf s) refl
+    where
+      on : (r c : ℕ) → loadOf s ≡ Accepted r c → (b : Bool) → lentOk small (programOf s r c) l ≡ b → Entering s l (enterBy b (programOf s r c) l)
+      on r c e true h = is-let (record { image = e; tables = h })
+      on r c e false h = is-turned {f = refusal 8 0} (for-tables e h)
+
+      go : (a : Loaded) → loadOf s ≡ a → Entering s l (enterLoaded a small s l)
+      go (Refused f) e = is-turned (for-image (bad-image e))
+      go (Accepted r c) e = on r c e (lentOk small (programOf s r c) l) refl
+
+  pub enter-away : {n o : ℕ} → TurnedAway s l n o → enter small s l ≡ turned-away (refusal n o)
+  unfolding enter
+  enter-away (for-image (bad-image e)) = rw e
+  enter-away (for-tables e h) = rw (e, h)
+
+  pub enter-let : {r c : ℕ} → LetIn s l r c → enter small s l ≡ entered (programOf s r c) (tablesIn l)
+  unfolding enter
+  enter-let i = rw (i .image, i .tables)
+
+  -- a call is turned away or let in
+  pub data Door : Type 0 where
+    away : {n o : ℕ} → TurnedAway s l n o → Door
+    inside : {r c : ℕ} → LetIn s l r c → Door
+
+  pub door : Door
+  door = go entering
+    where
+      go : {e : Entry} → Entering s l e → Door
+      go (is-turned a) = away a
+      go (is-let i) = inside i
+
+pub let-in-same : {s : List ℕ} {l l′ : Lent} {r c r′ c′ : ℕ} → LetIn s l r c → LetIn s l′ r′ c′ → (r ≡ r′) × (c ≡ c′)
+let-in-same {r = r} {c} {r′} {c′} a b =
+    let e : Accepted r c ≡ Accepted r′ c′ = sym (a .image) ∙ b .image in
+    let x : r ≡ r′ = cc in
+    let y : c ≡ c′ = cc in
+    (x, y)
+
+pub away-numbered : {s : List ℕ} {l : Lent} {n o : ℕ} → TurnedAway s l n o → (1 ≤ n) × (n ≤ 8)
+away-numbered {s} (for-image (bad-image e)) = let a = refused-number s e in (a .0, omega (arith, a .1))
+away-numbered (for-tables e h) = (omega arith, omega arith)
+
+-- ---- bytes with the same three rows
+
+pub same-lent : (l m : Lent) → l .head ≡ m .head → l .procs ≡ m .procs → l .vars ≡ m .vars → l ≡ m
+same-lent l m a b c = λ i. record { head = a i; procs = b i; vars = c i }
+
+-- ---- the calls
+
+module _ (s : List ℕ) (l : Lent) where
+  module _ {n o : ℕ} (a : TurnedAway s l n o) where
+    pub step-turned : (p : ℕ) → stepCall small s l p ≡ record { answer = Unmoved (refusal n o); lent = l }
+    unfolding stepCall
+    step-turned p = rw (enter-away s l a)
+
+    pub turn-turned : turnCall small s l ≡ record { answer = Unmoved (refusal n o); lent = l }
+    unfolding turnCall
+    turn-turned = rw (enter-away s l a)
+
+    pub run-turned : (limit : ℕ) → runCall small s l limit ≡ record { answer = Unrun (refusal n o); lent = l }
+    unfolding runCall
+    run-turned limit = rw (enter-away s l a)
+
+    pub supply-turned : (v k : ℕ) → supplyCall small s l v k ≡ record { answer = Ungiven (refusal n o); lent = l }
+    unfolding supplyCall
+    supply-turned v k = rw (enter-away s l a)
+
+    pub value-turned : (v : ℕ) → valueCall small s l v ≡ Unvalued (refusal n o)
+    unfolding valueCall
+    value-turned v = rw (enter-away s l a)
+
+  module _ {r c : ℕ} (i : LetIn s l r c) where
+    pub step-let : (p : ℕ) → stepCall small s l p ≡ stepAnswer (stepTables small (programOf s r c) (tablesIn l) p) l
+    unfolding stepCall
+    step-let p = rw (enter-let s l i)
+
+    pub turn-let : turnCall small s l ≡ stepAnswer (turnTables small (programOf s r c) (tablesIn l)) l
+    unfolding turnCall
+    turn-let = rw (enter-let s l i)
+
+    pub run-let : (limit : ℕ) → runCall small s l limit ≡ runEntry (entered (programOf s r c) (tablesIn l)) small l limit
+    unfolding runCall
+    run-let limit = rw (enter-let s l i)
+
+    pub supply-let : (v k : ℕ) → supplyCall small s l v k ≡ supplyAnswer (supplyTables (programOf s r c) (tablesIn l) v k) l
+    unfolding supplyCall
+    supply-let v k = rw (enter-let s l i)
+
+    pub value-let : (v : ℕ) → valueCall small s l v ≡ valueAnswer (valueTables (programOf s r c) (tablesIn l) v)
+    unfolding valueCall
+    value-let v = rw (enter-let s l i)
+
+    -- ---- what was let in has good tables, and so has what is written over it
+
+    pub let-ok : tablesOk small (programOf s r c) (tablesIn l) ≡ true
+    unfolding lentOk
+    let-ok =
+        let pr : Program = programOf s r c in
+        and-true (every (cellKnown (l .vars)) (varCount (l .head))) (tablesOk small pr (tablesIn l))
+        (and-true (fullSize small l) (every (cellKnown (l .vars)) (varCount (l .head)) && tablesOk small pr (tablesIn l)) (i .tables) .1) .1
+
+    pub let-full : fullSize small l ≡ true
+    unfolding lentOk
+    let-full = and-true (fullSize small l) (every (cellKnown (l .vars)) (varCount (l .head)) && tablesOk small (programOf s r c) (tablesIn l)) (i .tables) .0
+
+    pub let-cells : every (cellKnown (l .vars)) (varCount (l .head)) ≡ true
+    unfolding lentOk
+    let-cells =
+        let pr : Program = programOf s r c in
+        and-true (every (cellKnown (l .vars)) (varCount (l .head))) (tablesOk small pr (tablesIn l))
+        (and-true (fullSize small l) (every (cellKnown (l .vars)) (varCount (l .head)) && tablesOk small pr (tablesIn l)) (i .tables) .1) .0
+
+    pub rows-in : length (tablesIn l .state .procs) * 24 ≤ length (l .procs)
+    rows-in = rows-fit small (programOf s r c) l (tablesIn l) let-full let-ok
+
+    pub cells-in : length (tablesIn l .state .vars) * 4 ≤ length (l .vars)
+    cells-in = cells-fit small (programOf s r c) l (tablesIn l) let-full let-ok
+
+    pub let-count : procsIn (tablesIn l) ≡ procCount (l .head)
+    unfolding tablesIn
+    let-count = procs-length (l .procs) (procCount (l .head))
+
+    module _ (t : Tables) (f : Fours (t .state)) (ok : tablesOk small (programOf s r c) t ≡ true) where
+      pub put-let : LetIn s (putTables l t) r c
+      put-let = record { image = i .image; tables = put-good small (programOf s r c) l t let-full f ok }
+
+      pub put-holds : Holds l t (putTables l t)
+      put-holds = record { read = put-read small (programOf s r c) l t let-full f ok; bytes = refl }

@@ -1,0 +1,16 @@
+-- The demands, tied to the calls.
+pub mod Fours
+pub mod Codec
+pub mod Words
+pub mod Loaded
+pub mod Whose
+pub mod Entry
+pub mod Giving
+pub mod Demand1
+pub mod Demand2
+pub mod Keeping
+pub mod Arrive
+pub mod Demand3
+pub mod Once
+pub mod RunTurns
+pub mod Watching

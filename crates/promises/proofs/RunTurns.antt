@@ -1,0 +1,133 @@
+-- A run leaves the word's count of turn calls behind it: the bytes after it are those after as many turn calls, each of them made.
+use mathlib.Core.Path.{_∙_, _≡_, refl, subst, sym}
+use mathlib.Core.Bool.{false, true}
+use mathlib.Core.List.{List}
+use Prim.Native.Nat.{_*_, _≤_, ℕ}
+use lib.ListN.{length}
+use native.Mathlib.Omega.{arith}
+use Rattle.head.proofs.Laws.{head-is}
+use Rattle.parlog.proofs.Effects.{apply-count, apply-vars}
+use Rattle.parlog.proofs.Kept.{turn-keeps}
+use Rattle.parlog.proofs.Rows.{rows-length, written-in, written-is, written-length, written-past}
+use Rattle.parlog.proofs.Sane.{Sane}
+use Rattle.parlog.proofs.Steps.{step-made, turn-made}
+use Rattle.parlog.specs.Demands.{no-more, once-more, Repeats}
+use Rattle.parlog.specs.Limits.{Limits, small}
+use Rattle.parlog.specs.Numbers.{stepNumbers, word}
+use Rattle.parlog.specs.Program.{Program, programOf}
+use Rattle.parlog.specs.Run.{goalEnded, made, stepped, stepTables, turnTables}
+use Rattle.parlog.specs.TableRules.{tablesOk}
+use Rattle.parlog.specs.Tables.{at, bindingBytes, Lent, procCount, processBytes, putTables, rowsBytes, Tables, tablesIn, varCount, written}
+use Rattle.parlog.specs.declared.Move.{Move}
+use Rattle.parlog.specs.declared.Stepped.the-variants.{Moved}
+use Rattle.promises.proofs.Codec.{cells-fit, full-sizes, rows-fit}
+use Rattle.promises.proofs.Demand1.{turn-as}
+use Rattle.promises.proofs.Demand2.{demand-2-run, image-sane}
+use Rattle.promises.proofs.Entry.{cells-in, let-cells, let-full, let-ok, put-holds, put-let, rows-in, same-lent}
+use Rattle.promises.proofs.Fours.{Fours, fours-in, fours-turn}
+use Rattle.promises.proofs.Words.{moved-told}
+use Rattle.promises.specs.Moves.{AllBytes, no-turn, one-turn, Turns}
+use Rattle.promises.specs.Outcomes.{largeIn, RunMeets, TurnMeets}
+use Rattle.promises.specs.Refusals.{LetIn}
+use Rattle.rows.proofs.Exact.{table-bytes}
+use Rattle.rows.proofs.Laws.{row-length}
+use Rattle.rows.proofs.Tables.{procs-length, table-same}
+use Rattle.vars.proofs.Exact.{cells-bytes}
+use Rattle.vars.proofs.Laws.{cell-length}
+use Rattle.vars.proofs.Tables.{cells-same, vars-length}
+
+-- ---- bytes written over
+
+over : (a b old : List ℕ) → length a ≤ length b → length b ≤ length old → written b (written a old) ≡ written b old
+over a b old h g =
+    let n : length (written a old) ≡ length old = written-length a old (omega arith) in
+    let m : length b ≤ length (written a old) = omega arith in
+    written-is b old (written b (written a old)) (written-length b (written a old) m ∙ n) g
+    (λ j u. written-in b (written a old) j u)
+    (λ j u. written-past b (written a old) j u ∙ written-past a old j (omega arith))
+
+-- no fewer rows
+record Grown (t u : Tables) : Type 0 where
+  procs : length (t .state .procs) ≤ length (u .state .procs)
+  vars : length (t .state .vars) ≤ length (u .state .vars)
+
+-- tables over others that had no more rows
+put-over : (l : Lent) (t u : Tables) → Grown t u → length (u .state .procs) * 24 ≤ length (l .procs) → length (u .state .vars) * 4 ≤ length (l .vars)
+    → putTables (putTables l t) u ≡ putTables l u
+unfolding putTables
+put-over l t u g h k =
+    let a = rows-length processBytes 24 row-length (t .state .procs) in
+    let b = rows-length processBytes 24 row-length (u .state .procs) in
+    let c = rows-length bindingBytes 4 cell-length (t .state .vars) in
+    let d = rows-length bindingBytes 4 cell-length (u .state .vars) in
+    same-lent _ _ refl
+    (over (rowsBytes processBytes (t .state .procs)) (rowsBytes processBytes (u .state .procs)) (l .procs) (omega (arith, g .procs)) (omega arith))
+    (over (rowsBytes bindingBytes (t .state .vars)) (rowsBytes bindingBytes (u .state .vars)) (l .vars) (omega (arith, g .vars)) (omega arith))
+
+-- ---- repeated moves
+
+grown-step : (lim : Limits) (pr : Program) (t u : Tables) (p : ℕ) (m : Move) → stepTables lim pr t p ≡ made m u → Grown t u
+unfolding stepped
+grown-step lim pr t u p m e =
+    let a = step-made lim pr t p m u e in
+    rw (a .after) (record { procs = omega (arith, apply-count (t .state) p (a .delta)); vars = omega (arith, apply-vars (t .state) p (a .delta)) })
+
+grown-turn : (lim : Limits) (pr : Program) (t u : Tables) (m : Move) → turnTables lim pr t ≡ made m u → Grown t u
+grown-turn lim pr t u m e = let (p, q, z) = turn-made lim pr t m u e in grown-step lim pr t u p m z
+
+grown-repeats : (lim : Limits) (pr : Program) {t u : Tables} {n : ℕ} → Repeats lim pr t n u → Grown t u
+grown-repeats lim pr no-more = record { procs = omega arith; vars = omega arith }
+grown-repeats lim pr {t} (once-more {t′ = x} {m = m} g e k) =
+    let a = grown-turn lim pr t x m e in
+    let b = grown-repeats lim pr k in
+    record { procs = omega (arith, a .procs, b .procs); vars = omega (arith, a .vars, b .vars) }
+
+keeps-repeats : (lim : Limits) (pr : Program) → Sane pr → {t u : Tables} {n : ℕ} → Repeats lim pr t n u → tablesOk lim pr t ≡ true → tablesOk lim pr u ≡ true
+keeps-repeats lim pr sane no-more ok = ok
+keeps-repeats lim pr sane {t} (once-more {t′ = x} {m = m} g e k) ok = keeps-repeats lim pr sane k (turn-keeps lim pr sane t x m ok e)
+
+-- ---- as turn calls
+
+module _ (s : List ℕ) (r c : ℕ) where
+  abbrev pr : Program
+  pr = programOf s r c
+
+  turn-outcome : (l : Lent) → LetIn s l r c → {m : Move} {u : Tables} → turnTables small pr (tablesIn l) ≡ made m u → TurnMeets s l (word (stepNumbers (Moved m))) (putTables l u)
+  turn-outcome l i e = let q = turn-as s l i e in record { contract = record { answer = rw q; head = rw q; procs = rw q; vars = rw q } }
+
+  turns-from : {t t′ : Tables} {n : ℕ} → Repeats small pr t n t′ → (l : Lent) → LetIn s l r c → tablesIn l ≡ t → putTables l t ≡ l → Turns s l n (putTables l t′)
+  turns-from no-more l i e same = rw same no-turn
+  turns-from {t} {t′} (once-more {t′ = u} {m = m} {n = n} g q k) l i e same =
+      let z : turnTables small pr (tablesIn l) ≡ made m u = rw e q in
+      let ok : tablesOk small pr t ≡ true = rw e at (let-ok s l i) in
+      let f : Fours (u .state) = fours-turn small pr (tablesIn l) (fours-in l) m u z in
+      let v : tablesOk small pr u ≡ true = turn-keeps small pr (image-sane s l i) t u m ok q in
+      let x : tablesOk small pr t′ ≡ true = keeps-repeats small pr (image-sane s l i) k v in
+      let full = let-full s l i in
+      let one : putTables (putTables l u) u ≡ putTables l u =
+      put-over l u u (record { procs = omega arith; vars = omega arith }) (rows-fit small pr l u full v) (cells-fit small pr l u full v) in
+      let all : putTables (putTables l u) t′ ≡ putTables l t′ =
+      put-over l u t′ (grown-repeats small pr k) (rows-fit small pr l t′ full x) (cells-fit small pr l t′ full x) in
+      let rest = turns-from k (putTables l u) (put-let s l i u f v) (put-holds s l i u f v .read) one in
+      let w : ℕ = word (stepNumbers (Moved m)) in
+      let live : goalEnded (tablesIn l) ≡ false = rw e g in
+      one-turn live (turn-outcome l i z) (moved-told w m refl .accepted) (rw all at rest)
+
+-- bytes that hold good tables are those that the tables are written to
+put-same : (s : List ℕ) (l : Lent) {r c : ℕ} → LetIn s l r c → AllBytes l → putTables l (tablesIn l) ≡ l
+unfolding putTables tablesIn
+put-same s l i b =
+    let z = full-sizes small l (let-full s l i) in
+    let n = procs-length (l .procs) (procCount (l .head)) in
+    let m = vars-length (l .vars) (varCount (l .head)) in
+    same-lent _ l
+    (rw (n, m) (sym (head-is (l .head) (z .0) (b .head))))
+    (sym (table-bytes (table-same (l .procs) (procCount (l .head))) (b .procs) (unfold tablesIn in rows-in s l i)))
+    (sym (cells-bytes (cells-same (l .vars) (varCount (l .head))) (let-cells s l i) (b .vars) (unfold tablesIn in cells-in s l i)))
+
+-- demand 2: the count of a run is the number of turn calls that come to the same bytes
+pub demand-2-run-turns : (s : List ℕ) (l : Lent) {r c : ℕ} → LetIn s l r c → AllBytes l → (limit w : ℕ) (l′ : Lent) → RunMeets s l limit w l′ → Turns s l (largeIn w) l′
+demand-2-run-turns s l {r} {c} i b limit w l′ meets =
+    let x = demand-2-run s l i limit w l′ meets in
+    let t = turns-from s r c (x .runs .moves) l i refl (put-same s l i b) in
+    subst (λ (m : Lent). Turns s l (largeIn w) m) (sym (x .ran .tables .bytes)) (subst (λ (n : ℕ). Turns s l n (putTables l (x .run .tables))) (sym (x .ran .count)) t)

@@ -1,0 +1,5 @@
+-- The demands over the calls as a C program sees them: words and rows of bytes.
+pub mod Outcomes
+pub mod Refusals
+pub mod Moves
+pub mod Reach

@@ -1,0 +1,60 @@
+-- What a C program sees of a call: a word, and the lent bytes afterwards. An outcome is one that meets the contract of the call.
+use mathlib.Core.Path.{_≡_}
+use mathlib.Core.List.{List}
+use Prim.Native.Nat.{_%_, _/_, ℕ}
+use Rattle.capi.specs.Tells.{RunTells, StartTells, StepTells, SupplyTells, TurnTells, ValueTells, WatchTells}
+use Rattle.parlog.specs.Load.{loadOf}
+use Rattle.parlog.specs.Numbers.{loadNumbers, word}
+use Rattle.parlog.specs.Tables.{Lent}
+
+-- ---- a word taken apart: bits 0 to 7, 8 to 15, 16 to 23, and 32 to 63
+
+-- the refusal, 0 where there is none
+abbrev pub refusalIn : ℕ → ℕ
+refusalIn w = w % 256
+
+-- the first small value
+abbrev pub firstIn : ℕ → ℕ
+firstIn w = w / 256 % 256
+
+-- the second small value
+abbrev pub secondIn : ℕ → ℕ
+secondIn w = w / 65536 % 256
+
+-- the large value; of a refusal, the offset
+abbrev pub largeIn : ℕ → ℕ
+largeIn w = w / 4294967296
+
+-- ---- an outcome meets the contract of the exported call: s is the image, l what is lent, w the word, l′ the lent bytes afterwards
+
+-- of rissobarm_load
+pub record LoadMeets (s : List ℕ) (w : ℕ) : Type 0 where
+  pub contract : w ≡ word (loadNumbers (loadOf s))
+
+-- of rissobarm_start
+pub record StartMeets (s : List ℕ) (l : Lent) (w : ℕ) (l′ : Lent) : Type 0 where
+  pub contract : StartTells s l w (l′ .head) (l′ .procs) (l′ .vars)
+
+-- of rissobarm_step, for process p
+pub record StepMeets (s : List ℕ) (l : Lent) (p w : ℕ) (l′ : Lent) : Type 0 where
+  pub contract : StepTells s l p w (l′ .head) (l′ .procs) (l′ .vars)
+
+-- of rissobarm_turn
+pub record TurnMeets (s : List ℕ) (l : Lent) (w : ℕ) (l′ : Lent) : Type 0 where
+  pub contract : TurnTells s l w (l′ .head) (l′ .procs) (l′ .vars)
+
+-- of rissobarm_run, with a step limit
+pub record RunMeets (s : List ℕ) (l : Lent) (limit w : ℕ) (l′ : Lent) : Type 0 where
+  pub contract : RunTells s l limit w (l′ .head) (l′ .procs) (l′ .vars)
+
+-- of rissobarm_supply, of the constant k to the goal variable v
+pub record SupplyMeets (s : List ℕ) (l : Lent) (v k w : ℕ) (l′ : Lent) : Type 0 where
+  pub contract : SupplyTells s l v k w (l′ .head) (l′ .procs) (l′ .vars)
+
+-- of rissobarm_value, for the goal variable v: it is lent the bytes to read only
+pub record ValueMeets (s : List ℕ) (l : Lent) (v w : ℕ) : Type 0 where
+  pub contract : ValueTells s l v w
+
+-- of rissobarm_watch, over rows of processes: it is lent the bytes to read only
+pub record WatchMeets (rows : List ℕ) (w : ℕ) : Type 0 where
+  pub contract : WatchTells rows w

@@ -1,0 +1,111 @@
+-- When a call is refused, in the words of document 01: the number, and the offset that it carries.
+use mathlib.Core.Path.{_≡_}
+use mathlib.Core.Logic.{_≢_}
+use mathlib.Core.Bool.{false, true}
+use mathlib.Core.List.{List}
+use Prim.Native.Nat.{_<_, _≤_, ℕ}
+use Rattle.load.proofs.Accepted.{kept}
+use Rattle.parlog.specs.Delta.{only}
+use Rattle.parlog.specs.Limits.{small}
+use Rattle.parlog.specs.Load.{after, loadOf}
+use Rattle.parlog.specs.Notions.{Leads}
+use Rattle.parlog.specs.Program.{Program, programOf}
+use Rattle.parlog.specs.Relation.{Fits, Rule}
+use Rattle.parlog.specs.Run.{given}
+use Rattle.parlog.specs.TableRules.{fullSize, lentOk}
+use Rattle.parlog.specs.Tables.{Lent, procCount, State, Tables, tablesIn}
+use Rattle.parlog.specs.declared.Loaded.the-variants.{Accepted, Refused}
+use Rattle.parlog.specs.declared.Move.{Move}
+use Rattle.parlog.specs.declared.Refusal.{Refusal}
+use Rattle.parlog.specs.declared.Term.the-variants.{Const, Var}
+use Rattle.promises.specs.Outcomes.{largeIn, refusalIn}
+
+-- the state that lent bytes hold
+abbrev pub stateIn : Lent → State
+stateIn l = tablesIn l .state
+
+-- ---- who can move, and whose turn it is
+
+-- Turns 1: some rule applies, whether there is room or not
+pub record CanMove (pr : Program) (s : State) (p : ℕ) : Type 0 where
+  pub rule : Move
+  pub after : State
+  pub holds : Rule pr s p rule after
+
+-- Refusals 11: a rule applies that needs more processes or variables than are left
+pub record LacksRoom (pr : Program) (s : State) (p : ℕ) : Type 0 where
+  pub rule : Move
+  pub after : State
+  pub holds : Rule pr s p rule after
+  pub full : Fits small after → ⊥
+
+-- Turns 2: the first that can move behind the one last stepped, or, where there is none, the first of all, up to that one itself
+pub data Turn (pr : Program) (t : Tables) (p : ℕ) : Type 0 where
+  behind-last : t .last < p → CanMove pr (t .state) p → ((i : ℕ) → t .last < i → i < p → CanMove pr (t .state) i → ⊥) → Turn pr t p
+  from-front : ((i : ℕ) → t .last < i → CanMove pr (t .state) i → ⊥) → p ≤ t .last → CanMove pr (t .state) p
+      → ((i : ℕ) → i < p → CanMove pr (t .state) i → ⊥) → Turn pr t p
+
+-- ---- refusals 1 to 8
+
+-- Refusals 1 to 7: the image is refused
+pub data BadImage (s : List ℕ) : ℕ → ℕ → Type 0 where
+  bad-image : {f : Refusal} → loadOf s ≡ Refused f → BadImage s (f .number) (f .offset)
+
+-- Refusals 20, 21: what a call may count on that was let in, r relations and c clauses being in its image
+pub record LetIn (s : List ℕ) (l : Lent) (r c : ℕ) : Type 0 where
+  pub image : loadOf s ≡ Accepted r c
+  pub tables : lentOk small (programOf s r c) l ≡ true
+
+-- Refusals 20, 21: the image is refused, or the tables break a rule
+pub data TurnedAway (s : List ℕ) (l : Lent) : ℕ → ℕ → Type 0 where
+  for-image : {n o : ℕ} → BadImage s n o → TurnedAway s l n o
+  for-tables : {r c : ℕ} → loadOf s ≡ Accepted r c → lentOk small (programOf s r c) l ≡ false → TurnedAway s l 8 0
+
+-- ---- of each call
+
+-- Refusals 21: a start is refused for its image or for the sizes of what is lent
+pub data StartRefused (s : List ℕ) (l : Lent) : ℕ → ℕ → Type 0 where
+  start-image : {n o : ℕ} → BadImage s n o → StartRefused s l n o
+  start-sizes : {r c : ℕ} → loadOf s ≡ Accepted r c → fullSize small l ≡ false → StartRefused s l 8 0
+
+-- Refusals 9, 10, 11, 22: the step of process p
+pub data StepRefused (s : List ℕ) (l : Lent) (p : ℕ) : ℕ → ℕ → Type 0 where
+  step-away : {n o : ℕ} → TurnedAway s l n o → StepRefused s l p n o
+  no-process : {r c : ℕ} → LetIn s l r c → procCount (l .head) ≤ p → StepRefused s l p 9 0
+  no-rule-for : {r c : ℕ} → LetIn s l r c → p < procCount (l .head) → (CanMove (programOf s r c) (stateIn l) p → ⊥) → StepRefused s l p 10 0
+  no-room-for : {r c : ℕ} → LetIn s l r c → p < procCount (l .head) → LacksRoom (programOf s r c) (stateIn l) p → StepRefused s l p 11 0
+
+-- Refusals 10, 11, Turns 2: a turn
+pub data TurnRefused (s : List ℕ) (l : Lent) : ℕ → ℕ → Type 0 where
+  turn-away : {n o : ℕ} → TurnedAway s l n o → TurnRefused s l n o
+  nobody : {r c : ℕ} → LetIn s l r c → ((p : ℕ) → CanMove (programOf s r c) (stateIn l) p → ⊥) → TurnRefused s l 10 0
+  no-room-in-turn : {r c p : ℕ} → LetIn s l r c → Turn (programOf s r c) (tablesIn l) p → LacksRoom (programOf s r c) (stateIn l) p → TurnRefused s l 11 0
+
+-- Turns 7: a run is turned away or it ends; room is an end, no refusal
+pub data RunRefused (s : List ℕ) (l : Lent) : ℕ → ℕ → Type 0 where
+  run-away : {n o : ℕ} → TurnedAway s l n o → RunRefused s l n o
+
+-- Refusals 12, 14, 13: a supply of the constant k to the goal variable v
+pub data SupplyRefused (s : List ℕ) (l : Lent) (v k : ℕ) : ℕ → ℕ → Type 0 where
+  supply-away : {n o : ℕ} → TurnedAway s l n o → SupplyRefused s l v k n o
+  no-variable : {r c : ℕ} → LetIn s l r c → programOf s r c .goalVars ≤ v → SupplyRefused s l v k 12 0
+  no-constant : {r c : ℕ} → LetIn s l r c → v < programOf s r c .goalVars → 32767 < k → SupplyRefused s l v k 14 0
+  has-constant : {r c j : ℕ} → LetIn s l r c → v < programOf s r c .goalVars → k ≤ 32767 → Leads (stateIn l .vars) (Var v) (Const j) → SupplyRefused s l v k 13 0
+
+-- Refusals 12: a look at the goal variable v
+pub data ValueRefused (s : List ℕ) (l : Lent) (v : ℕ) : ℕ → ℕ → Type 0 where
+  value-away : {n o : ℕ} → TurnedAway s l n o → ValueRefused s l v n o
+  no-variable-seen : {r c : ℕ} → LetIn s l r c → programOf s r c .goalVars ≤ v → ValueRefused s l v 12 0
+
+-- ---- demand 1 of a word
+
+-- it is a refusal exactly where there is a reason, and then has the number and the offset of that
+pub record RefusesBy (Why : ℕ → ℕ → Type 0) (w : ℕ) : Type 0 where
+  pub numbered : {n o : ℕ} → Why n o → (1 ≤ n) × (n ≤ 14)
+  pub given : {n o : ℕ} → Why n o → (refusalIn w ≡ n) × (largeIn w ≡ o)
+  pub only : refusalIn w ≢ 0 → Why (refusalIn w) (largeIn w)
+
+-- and a refusal leaves every lent byte as it was
+pub record Refusing (Why : ℕ → ℕ → Type 0) (l : Lent) (w : ℕ) (l′ : Lent) : Type 0 where
+  pub by : RefusesBy Why w
+  pub kept : refusalIn w ≢ 0 → l′ ≡ l

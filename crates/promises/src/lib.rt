@@ -1,0 +1,1 @@
+// The promises: theorems over the calls' contracts, in specs/ and proofs/. There is nothing to run here.

@@ -1,0 +1,13 @@
+/* One event as a call, on either side. */
+#ifndef CALL_H
+#define CALL_H
+
+#include "bed.h"
+
+uint64_t call_reference(struct bed *bed, const struct event *event);
+uint64_t call_archive(struct bed *bed, const struct event *event);
+
+/* A turn of the archive on rows in plain memory. */
+uint64_t call_turn(const struct bed *bed, struct rows *rows);
+
+#endif

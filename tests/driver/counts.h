@@ -1,0 +1,64 @@
+/* What was seen so far, and what must have been seen at the end. */
+#ifndef COUNTS_H
+#define COUNTS_H
+
+#include "event.h"
+#include "tablerules.h"
+
+enum { REFUSAL_COUNT = 15, END_COUNT = 6, SHAPES = 256 };
+
+/* What is rare enough to be looked for by name. */
+enum feature {
+    TWELVE_CHILDREN,
+    EIGHT_CLAUSES,
+    FOUR_NOTES,
+    NESTED_GUARDS,
+    VARIABLES_JOINED,
+    NO_PROCESS_LEFT,
+    NO_VARIABLE_LEFT,
+    ALL_PROCESSES,
+    ALL_VARIABLES,
+    COUNT_AT_TOP,
+    LONGEST_IMAGE,
+    SUPPLY_AT_END,
+    WOKEN_BY_SUPPLY,
+    EQUATE_WOKEN,
+    RUN_AS_TURNS,
+    STUCK,
+    SERVED,
+    RECORDS_PLACED,
+    CHANCE_LET_IN,
+    FEATURES
+};
+
+struct counts {
+    uint64_t cases;
+    uint64_t images;
+    uint64_t accepted;              /* images that were loaded */
+    uint64_t calls[CALLS];
+    uint64_t steps;                 /* moves made one by one, by number or by turn */
+    uint64_t by_number;             /* those by number */
+    uint64_t run_steps;             /* moves made inside runs */
+    uint64_t refusals[REFUSAL_COUNT];
+    uint64_t rules[RULE_COUNT];
+    uint64_t ends[END_COUNT];
+    uint64_t broken[TABLE_RULES];   /* refused 8 for this rule alone */
+    uint64_t legal;                 /* calls let in with tables made by chance or changed by hand */
+    uint64_t unmade[TAG_COUNT][TAG_COUNT]; /* a parent's tag with a tag that it does not make, refused for that alone */
+    uint64_t goals[GOAL_KIND_COUNT][SHAPES]; /* stage shapes of goals that processes worked in */
+    uint64_t blocks[SHAPES];        /* block shapes of relations that were searched */
+    uint64_t features[FEATURES];
+};
+
+extern struct counts counts;
+
+/* Whether anything is counted; not while a story is played again. */
+extern bool counting;
+
+/* Prints everything, and answers whether all was seen: each table rule at least so often. */
+bool counts_tell(uint64_t least_broken);
+
+/* Whether each table rule was broken alone at least so often. */
+bool counts_broken(uint64_t least);
+
+#endif

@@ -1,0 +1,40 @@
+/* Events as text. */
+#include "event.h"
+
+#include <stdio.h>
+
+static const char *const names[EVENT_KINDS] = { "load",  "start", "step", "turn", "run",   "supply",
+                                                "value", "watch", "size", "poke", "legal", "scatter" };
+static const char *const rows[] = { "head", "procs", "vars" };
+
+const char *event_name(unsigned kind)
+{
+    return names[kind];
+}
+
+void event_print(const struct event *event)
+{
+    const char *name = names[event->kind];
+
+    switch (event->kind) {
+    case SIZES:
+        printf("  %s %s %u\n", name, rows[event->row], event->a);
+        break;
+    case POKES:
+        printf("  %s %s %u %u\n", name, rows[event->row], event->a, event->b);
+        break;
+    case SUPPLIES:
+    case RUNS:
+    case WATCHES:
+    case LEGALS:
+    case SCATTERS:
+        printf("  %s %u %u\n", name, event->a, event->b);
+        break;
+    case STEPS:
+    case VALUES:
+        printf("  %s %u\n", name, event->a);
+        break;
+    default:
+        printf("  %s\n", name);
+    }
+}

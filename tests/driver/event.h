@@ -1,0 +1,52 @@
+/* What is done to a run, one event after the other, and a story: an image with its events. */
+#ifndef EVENT_H
+#define EVENT_H
+
+#include "images.h"
+#include "lend.h"
+
+#include <stdbool.h>
+#include <stdint.h>
+
+/* The eight calls, then what changes the tables on both sides alike without a call. */
+enum event_kind {
+    LOADS,
+    STARTS,
+    STEPS,    /* a the process */
+    TURNS,
+    RUNS,     /* a the limit, b whether turns are made beside it */
+    SUPPLIES, /* a the variable, b the value */
+    VALUES,   /* a the variable */
+    WATCHES,  /* a the length of the row: the process table or, with b, rows by chance from the seed b */
+    CALLS,
+    SIZES = CALLS, /* the next call is lent a row with the length a */
+    POKES,    /* the byte at a of a row becomes b */
+    LEGALS,   /* tables that keep the rules, from the seed a in the style b */
+    SCATTERS, /* tables by chance, from the seed a in the style b */
+    EVENT_KINDS
+};
+
+struct event {
+    uint8_t kind;
+    uint8_t row;
+    uint32_t a;
+    uint32_t b;
+};
+
+enum { STORY_ROOM = 4096, WIDEST = 60000 };
+
+struct story {
+    struct image image;
+    unsigned standing; /* of the lent rows */
+    bool fair;         /* whether every process is watched for its turn */
+    unsigned count;
+    struct event events[STORY_ROOM];
+};
+
+/* An event as a line of text. */
+void event_print(const struct event *event);
+
+/* The name of a kind of event. */
+const char *event_name(unsigned kind);
+
+#endif

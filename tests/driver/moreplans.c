@@ -1,0 +1,269 @@
+/* Images for a purpose: shapes, records, loops and notes. */
+#include "plans.h"
+
+enum { IS_EQUALITY = 255, A_VARIABLE = 32768 };
+
+static void begin(struct image *image)
+{
+    image->length = 0;
+    image->records = 0;
+}
+
+/* ---- shapes */
+
+static const struct style shaped = { "shapes", 3, 2, 5, 8, 8, 3, 2, 8, 8, 8, 8, 8, 5, 0, 1 };
+
+static void put_shaped_clause(struct image *image, struct random *random, const struct goal_style *goal, unsigned relation,
+                              unsigned mark)
+{
+    unsigned arity = declared_arity(image, relation);
+
+    record_begin(image, 2);
+    put_byte(image, relation);
+    put_byte(image, arity);
+    put_byte(image, mark);
+    put_byte(image, goal->variables);
+    while (arity-- > 0)
+        put_styled_term(image, random, goal->style, goal->variables);
+    put_shaped_goal(image, random, goal, random_once(random, 2) ? 0 : random_below(random, 256));
+    put_shaped_goal(image, random, goal, random_below(random, 256));
+    record_end(image);
+}
+
+/* Two relations of clauses in blocks of any shape; they call the third one, which is one fact or none. */
+void plan_of_shapes(struct image *image, struct random *random)
+{
+    struct goal_style goal = { random_below(random, 4), 0, 3, &shaped };
+    struct goal_style within = { random_below(random, 4), 2, 3, &shaped };
+    unsigned relation, shape, bit;
+
+    begin(image);
+    put_modes(image, random_below(random, 3), random_below(random, 4));
+    put_modes(image, random_below(random, 2), random_below(random, 2));
+    put_modes(image, 0, 0);
+    for (relation = 0; relation < 2; relation++) {
+        shape = relation == 0 ? random_below(random, 256) : random_below(random, 8);
+        for (bit = 0; shape >> bit != 0;)
+            bit++;
+        for (; bit > 0; bit--)
+            put_shaped_clause(image, random, &within, relation, shape >> bit != 0 && (shape >> (bit - 1) & 1) != 0);
+    }
+    if (!random_once(random, 4)) {
+        within.variables = 0;
+        record_begin(image, 2);
+        put_number(image, 2);
+        put_number(image, 0);
+        put_number(image, 0);
+        record_end(image);
+    }
+    record_begin(image, 3);
+    put_byte(image, goal.variables);
+    put_shaped_goal(image, random, &goal, random_below(random, 256));
+    record_end(image);
+}
+
+/* ---- records */
+
+enum { RECORD, FETCH, NORMALISE, PLACE, BOTH };
+
+static void put_head(struct image *image, unsigned relation, unsigned arity, unsigned mark, unsigned variables)
+{
+    record_begin(image, 2);
+    put_byte(image, relation);
+    put_byte(image, arity);
+    put_byte(image, mark);
+    put_byte(image, variables);
+}
+
+static void put_call(struct image *image, unsigned relation, unsigned left, unsigned right)
+{
+    put_byte(image, relation);
+    put_byte(image, 2);
+    put_number(image, left);
+    put_number(image, right);
+}
+
+/* A fact for a value: what comes in and what goes out. */
+static void put_fact(struct image *image, unsigned relation, unsigned mark, unsigned in, unsigned out)
+{
+    put_head(image, relation, 2, mark, 0);
+    put_number(image, in);
+    put_number(image, out);
+    put_byte(image, 0);
+    put_byte(image, 0);
+    record_end(image);
+}
+
+/* The same as a clause with a guard: relation(X,Y) <- X = in : Y = out. */
+static void put_guarded(struct image *image, unsigned relation, unsigned mark, unsigned in, unsigned out)
+{
+    put_head(image, relation, 2, mark, 2);
+    put_number(image, A_VARIABLE);
+    put_number(image, A_VARIABLE + 1);
+    put_number(image, 1 + 256);
+    put_call(image, IS_EQUALITY, A_VARIABLE, in);
+    put_number(image, 1 + 256);
+    put_call(image, IS_EQUALITY, A_VARIABLE + 1, out);
+    record_end(image);
+}
+
+static void put_facts(struct image *image, struct random *random, unsigned relation)
+{
+    unsigned values = 1 + random_below(random, 4), k;
+
+    for (k = 0; k < values; k++) {
+        unsigned mark = k > 0 && random_once(random, 3);
+
+        if (random_once(random, 3))
+            put_guarded(image, relation, mark, k + 1, k + 1 + random_below(random, 2));
+        else
+            put_fact(image, relation, mark, k + 1, k + 1 + random_below(random, 2));
+    }
+}
+
+/* record(K,P) <- fetch(K,R), normalise(R,N), place(N,P), with "," or "&" between. */
+static void put_record_clause(struct image *image, struct random *random)
+{
+    unsigned way = random_below(random, 4), relation;
+
+    put_head(image, RECORD, 2, 0, 4);
+    put_number(image, A_VARIABLE);
+    put_number(image, A_VARIABLE + 3);
+    put_byte(image, 0);
+    put_byte(image, way == 0 ? 3 : way == 1 ? 2 : 1);
+    for (relation = FETCH; relation <= PLACE; relation++) {
+        if (relation == FETCH || way == 0 || (way == 1 && relation == PLACE))
+            put_byte(image, way == 0 ? 1 : way > 1 ? 3 : relation == FETCH ? 2 : 1);
+        put_call(image, relation, A_VARIABLE + relation - 1, A_VARIABLE + relation);
+    }
+    record_end(image);
+}
+
+/* both(A,B): the places of two records must be the same. */
+static void put_both_clause(struct image *image)
+{
+    put_head(image, BOTH, 2, 0, 1);
+    put_number(image, A_VARIABLE);
+    put_number(image, A_VARIABLE);
+    put_byte(image, 0);
+    put_byte(image, 0);
+    record_end(image);
+}
+
+/* Literal k of the goal: a record with its key and place, or two places compared. */
+static void put_record_goal(struct image *image, struct random *random, unsigned records)
+{
+    unsigned compared = records > 1 && records < 8 && random_once(random, 2), k;
+
+    record_begin(image, 3);
+    put_byte(image, 2 * records);
+    put_number(image, 1 + 256 * (records + compared));
+    for (k = 0; k < records; k++)
+        put_call(image, RECORD, A_VARIABLE + 2 * (random_once(random, 8) ? 0 : k), A_VARIABLE + 2 * k + 1);
+    if (compared)
+        put_call(image, BOTH, A_VARIABLE + 1, A_VARIABLE + 3);
+    record_end(image);
+}
+
+void plan_of_records(struct image *image, struct random *random)
+{
+    unsigned relation;
+
+    begin(image);
+    for (relation = RECORD; relation <= PLACE; relation++)
+        put_modes(image, 2, 2);
+    put_modes(image, 2, 0);
+    put_record_clause(image, random);
+    for (relation = FETCH; relation <= PLACE; relation++)
+        put_facts(image, random, relation);
+    put_both_clause(image);
+    put_record_goal(image, random, 1 + random_below(random, 8));
+}
+
+/* ---- loops */
+
+/* p <- q, p with clauses in parallel, each with so many variables: it runs until there is no room. */
+void plan_of_loops(struct image *image, struct random *random)
+{
+    unsigned clauses = 1 + random_below(random, 8), variables = random_below(random, 17);
+    unsigned beside = random_below(random, 3), c, k;
+
+    begin(image);
+    put_modes(image, 0, 0);
+    for (c = 0; c < clauses; c++) {
+        put_head(image, 0, 0, 0, variables);
+        put_byte(image, 0);
+        put_byte(image, 1);
+        put_byte(image, 1 + beside);
+        for (k = 0; k < beside && variables > 0; k++)
+            put_call(image, IS_EQUALITY, A_VARIABLE, A_VARIABLE + random_below(random, variables));
+        for (; k < beside; k++)
+            put_call(image, IS_EQUALITY, 1, 1);
+        put_number(image, 0);
+        record_end(image);
+    }
+    record_begin(image, 3);
+    put_byte(image, 0);
+    put_number(image, 1 + 256);
+    put_number(image, 0);
+    record_end(image);
+}
+
+/* ---- notes */
+
+static void put_terms(struct image *image, struct random *random, unsigned arity, unsigned variables, unsigned constants)
+{
+    unsigned k;
+
+    for (k = 0; k < arity; k++)
+        if (random_below(random, 8) >= constants)
+            put_number(image, A_VARIABLE + (random_once(random, 8) ? random_below(random, variables) : k));
+        else
+            put_number(image, random_below(random, 2));
+}
+
+/* t(A,B,C,D) with inputs alone; heads of constants, of variables, of both; equations beside it join its variables. */
+void plan_of_notes(struct image *image, struct random *random)
+{
+    unsigned arity = random_once(random, 2) ? 4 : 1 + random_below(random, 4);
+    unsigned clauses = 1 + random_below(random, 3), equations = random_below(random, 3), k;
+
+    begin(image);
+    put_modes(image, arity, random_once(random, 4) ? random_below(random, 16) : 0);
+    for (k = 0; k < clauses; k++) {
+        put_head(image, 0, arity, k > 0 && random_once(random, 2), 4);
+        put_terms(image, random, arity, 4, 3 + random_below(random, 6));
+        put_byte(image, 0);
+        put_byte(image, 0);
+        record_end(image);
+    }
+    record_begin(image, 3);
+    put_byte(image, 4 + random_below(random, 2));
+    put_number(image, 1 + 256 * (1 + equations));
+    for (k = 0; k < equations; k++)
+        put_call(image, IS_EQUALITY, A_VARIABLE + random_below(random, 4), A_VARIABLE + random_below(random, 4));
+    put_byte(image, 0);
+    put_byte(image, arity);
+    put_terms(image, random, arity, 4, random_below(random, 2));
+    record_end(image);
+}
+
+/* ---- any */
+
+void plan_any(struct image *image, struct random *random)
+{
+    unsigned way = random_below(random, 32);
+
+    if (way < 8)
+        plan_of_shapes(image, random);
+    else if (way < 11)
+        plan_of_records(image, random);
+    else if (way == 11)
+        plan_of_loops(image, random);
+    else if (way < 14)
+        plan_of_notes(image, random);
+    else if (way == 14 && random_once(random, 8))
+        image_by_recipe(image, random, &full_recipe);
+    else
+        plan_in_style(image, random, &styles[way % STYLES]);
+}

@@ -1,0 +1,176 @@
+/* The tests at the entry, the rules kept, and runs as repeated turns. */
+#include "properties.h"
+
+#include "call.h"
+#include "counts.h"
+
+#include <string.h>
+
+/* ---- the entry */
+
+static void breaks(struct entry *entry, unsigned rule)
+{
+    entry->broken++;
+    if (rule < entry->first)
+        entry->first = rule;
+}
+
+struct entry entry_of(struct bed *bed, const struct event *event)
+{
+    struct entry entry = { event->kind != WATCHES, 0, 0, TABLE_RULES };
+    unsigned k;
+
+    if (!entry.tested)
+        return entry;
+    if (!bed_accepts(bed) || event->kind == LOADS) {
+        entry.refused = bed_accepts(bed) ? 0 : bed->loaded;
+        return entry;
+    }
+    for (k = 0; k < LENT_ROWS; k++)
+        if (bed->sizes[k] != row_sizes[k])
+            breaks(&entry, FULL_HEAD + k);
+    if (event->kind != STARTS && bed_broken(bed)->count > 0) {
+        entry.broken += bed->broken.count;
+        if (bed->broken.first < entry.first)
+            entry.first = bed->broken.first;
+    }
+    entry.refused = entry.broken > 0 ? REFUSED_STATE : 0;
+    return entry;
+}
+
+/* The refusal that the event's own numbers come to, before anything else of the call is looked at. */
+static unsigned numbers_refused(const struct bed *bed, const struct event *event)
+{
+    switch (event->kind) {
+    case STEPS:
+        return event->a >= process_count(&bed->before) ? REFUSED_NODE : 0;
+    case SUPPLIES:
+        if (event->a >= bed->program.goal_variables)
+            return REFUSED_NOVAR;
+        return event->b > RISSOBARM_CONSTANT_LIMIT ? REFUSED_CONST : 0;
+    case VALUES:
+        return event->a >= bed->program.goal_variables ? REFUSED_NOVAR : 0;
+    default:
+        return 0;
+    }
+}
+
+/* Whether a call that is let in can have this refusal. */
+static bool refusal_possible(unsigned kind, unsigned refusal)
+{
+    switch (kind) {
+    case STEPS:
+    case TURNS:
+        return refusal == 0 || refusal == REFUSED_STILL || refusal == REFUSED_ROOM;
+    case SUPPLIES:
+        return refusal == 0 || refusal == REFUSED_BOUND;
+    default:
+        return refusal == 0;
+    }
+}
+
+bool entry_right(struct bed *bed, const struct event *event, const struct entry *entry)
+{
+    unsigned refusal = rissobarm_refusal(bed->answer), numbers;
+
+    if (event->kind == LOADS)
+        return bed->answer == bed->loaded || bed_fault(bed, "the load differs from what the other calls tested");
+    if (entry->refused != 0)
+        return bed->answer == entry->refused ||
+               bed_fault(bed, "refusal %u where the entry comes to %u (%s %s)", refusal,
+                         rissobarm_refusal(entry->refused), table_rule_name(entry->first % TABLE_RULES),
+                         table_rule_tag(entry->first % TABLE_RULES));
+    if (!entry->tested)
+        return refusal == 0 || bed_fault(bed, "a watch was refused");
+    numbers = numbers_refused(bed, event);
+    if (numbers != 0)
+        return bed->answer == numbers || bed_fault(bed, "refusal %u where the numbers come to %u", refusal, numbers);
+    if (!refusal_possible(event->kind, refusal))
+        return bed_fault(bed, "refusal %u of a call that is let in", refusal);
+    return refusal == 0 || bed->answer == refusal || bed_fault(bed, "more than a number in a refusal");
+}
+
+/* ---- a run is its turns */
+
+static bool ended(const struct rows *rows)
+{
+    return rows->procs[AT_MODE] == DORMANT;
+}
+
+/* Why the run stops where it does. */
+static bool stops_right(const struct bed *bed, struct rows *rows, unsigned end, bool used_up)
+{
+    unsigned refusal;
+
+    if (ended(rows))
+        return end == rows->procs[AT_RESULT];
+    refusal = rissobarm_refusal(call_turn(bed, rows));
+    switch (end) {
+    case RISSOBARM_END_WAITING:
+        return refusal == REFUSED_STILL;
+    case RISSOBARM_END_ROOM:
+        return refusal == REFUSED_ROOM && !used_up;
+    case RISSOBARM_END_BUDGET:
+        return used_up && refusal != REFUSED_STILL;
+    default:
+        return false;
+    }
+}
+
+static bool run_is_turns(struct bed *bed, const struct event *event)
+{
+    static struct rows rows;
+    uint32_t steps = rissobarm_steps(bed->answer), k;
+
+    rows = bed->before;
+    for (k = 0; k < steps; k++)
+        if (ended(&rows) || rissobarm_refusal(call_turn(bed, &rows)) != 0)
+            return bed_fault(bed, "turn %u of the run's %u cannot be made", k, steps);
+    for (k = 0; k < LENT_ROWS; k++)
+        if (memcmp(row_bytes(&rows, k), row_bytes(&bed->ours, k), row_sizes[k]) != 0)
+            return bed_fault(bed, "%u turns give other tables than the run", steps);
+    if (steps > event->a || !stops_right(bed, &rows, rissobarm_end(bed->answer), steps == event->a))
+        return bed_fault(bed, "end %u of the run does not fit its turns", rissobarm_end(bed->answer));
+    if (counting)
+        counts.features[RUN_AS_TURNS]++;
+    return true;
+}
+
+/* ---- all together */
+
+static bool changes_tables(const struct event *event)
+{
+    return event->kind == STARTS || event->kind == STEPS || event->kind == TURNS || event->kind == RUNS ||
+           event->kind == SUPPLIES;
+}
+
+/* Whether the answer says that nothing can move. */
+static bool says_still(const struct bed *bed, const struct event *event)
+{
+    if (event->kind == TURNS)
+        return rissobarm_refusal(bed->answer) == REFUSED_STILL;
+    return event->kind == RUNS && bed->answer % 65536 == RISSOBARM_END_WAITING << 8;
+}
+
+bool properties_hold(struct bed *bed, const struct event *event)
+{
+    bool accepted = rissobarm_refusal(bed->answer) == 0;
+
+    if (says_still(bed, event) && bed->straight && !stuck_holds(bed))
+        return false;
+    if (!accepted || !changes_tables(event))
+        return true;
+    bed->known = false;
+    if (event->kind == STARTS) {
+        bed->straight = true;
+        bed->changed = false;
+        bed->scattered = false;
+        fair_begin();
+    }
+    if (bed_broken(bed)->count > 0)
+        return bed_fault(bed, "the tables left break a rule: %s %s", table_rule_name(bed->broken.first),
+                         table_rule_tag(bed->broken.first));
+    if (event->kind == RUNS && event->b != 0 && !run_is_turns(bed, event))
+        return false;
+    return fair_holds(bed, event);
+}

@@ -1,0 +1,67 @@
+/* The shapes of goals and relations: how literals fall into stages, and clauses into blocks. */
+#include "seen.h"
+
+#include "counts.h"
+
+/*
+ * The shape of up to eight things in a row is a number below 256: 0 for none, else a bit for each, 1 for the first one,
+ * then 1 for each that begins a stage or block.
+ */
+
+static unsigned shape_add(unsigned shape, bool begins)
+{
+    return shape * 2 + (shape == 0 || begins);
+}
+
+/* As the image writes it, so without the equations of a committed body. */
+static unsigned goal_shape(const struct goal *goal, unsigned equations)
+{
+    unsigned shape = 0, s, k;
+
+    for (s = 0; s < goal->stage_count; s++)
+        for (k = s == 0 ? equations : 0; k < goal->stages[s].count; k++)
+            shape = shape_add(shape, k == (s == 0 ? equations : 0));
+    return shape;
+}
+
+static void seen_goal(const struct bed *bed, const uint8_t *row)
+{
+    const struct program *program = &bed->program;
+    const struct clause *clause = &program->clauses[row[AT_CLAUSE]];
+    unsigned shape;
+
+    if (row[AT_KIND] == THE_GOAL)
+        shape = goal_shape(&program->goal, 0);
+    else if (row[AT_KIND] == GUARD)
+        shape = goal_shape(&clause->guard, 0);
+    else
+        shape = goal_shape(&clause->body, clause->size - clause->own);
+    counts.goals[row[AT_KIND]][shape]++;
+}
+
+static void seen_relation(const struct bed *bed, const uint8_t *row)
+{
+    const struct program *program = &bed->program;
+    struct place place = { row[AT_KIND], row[AT_CLAUSE], (uint16_t)word_at(row + AT_FIRST), row[AT_STAGE], row[AT_LITERAL] };
+    unsigned relation = ref_literal_at(program, &place)->relation, shape = 0, clauses = 0, c;
+
+    for (c = 0; c < program->clause_count; c++)
+        if (program->clauses[c].relation == relation && ++clauses <= 8)
+            shape = shape_add(shape, program->clauses[c].mark == 1);
+    if (clauses <= 8)
+        counts.blocks[shape]++;
+}
+
+void seen_shapes(const struct bed *bed)
+{
+    unsigned count = process_count(&bed->ours), p;
+
+    for (p = 0; p < count; p++) {
+        const uint8_t *row = process_row(&bed->ours, p);
+
+        if (row[AT_TAG] == SEQ_SEARCH)
+            seen_relation(bed, row);
+        else if (row[AT_TAG] <= OR_PAR || row[AT_TAG] == EQUATE)
+            seen_goal(bed, row);
+    }
+}
