@@ -4,10 +4,11 @@ use mathlib.Core.List.{[], _++_, List}
 use Prim.Native.Nat.{_*_, _+_, _-_, _<_, _≤_, suc, ℕ}
 use lib.ListN.{drop, length}
 use lib.Seq.{drop-length}
+use borrow.Author.Tests.{lt-ltb}
 use native.Mathlib.Omega.{arith}
 use Rattle.load.specs.Fields.{refusalOf}
 use Rattle.parlog.specs.Limits.{small}
-use Rattle.parlog.specs.Load.{loadOf}
+use Rattle.parlog.specs.Load.{loadOf, long}
 use Rattle.parlog.specs.Program.{Program, programOf}
 use Rattle.parlog.specs.Scan.{some}
 use Rattle.parlog.specs.Tables.{at, varCount, varsIn}
@@ -110,3 +111,10 @@ module _ (s : List ℕ) {o o₁ : List ℕ} {p : ℕ} where
     told-run {v = v} {e = e} {n = n} {g = g} {k = k} x ea eg ek f y =
         let z = sym ea ∙ x .answer in
         as-text (then (ranText e n) f y) (run-text s el e n (varsIn v k) g (ended-end z) (ended-moves z) (rw ek (x .vars)) eg) (omega arith)
+
+-- ---- images that are too long
+
+-- one text for all of them: so what was read of one that is longer than the runner's buffer gives the text of the whole
+pub long-same : (s s′ : List ℕ) → 32768 < length s → 32768 < length s′ → runnerText small s ≡ runnerText small s′
+unfolding runnerText loadOf long
+long-same s s′ h g = rw (lt-ltb 32768 (length s) h, lt-ltb 32768 (length s′) g)
