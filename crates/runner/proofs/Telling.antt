@@ -2,7 +2,7 @@
 use mathlib.Core.Path.{_∙_, _≡_, ap, refl, sym}
 use mathlib.Core.List.{[], _++_, List}
 use Prim.Native.Nat.{_*_, _+_, _-_, _<_, _≤_, suc, ℕ}
-use lib.ListN.{drop, length}
+use lib.ListN.{drop, length, take}
 use lib.Seq.{drop-length}
 use borrow.Author.Tests.{lt-ltb}
 use native.Mathlib.Omega.{arith}
@@ -24,7 +24,7 @@ use Rattle.parlog.specs.declared.Refusal.{Refusal}
 use Rattle.parlog.specs.declared.Term.{Term}
 use Rattle.parlog.specs.declared.Term.the-variants.{Var}
 use Rattle.runner.proofs.Playing.{Played, theRun}
-use Rattle.text.proofs.Laws.{as-text, then}
+use Rattle.text.proofs.Laws.{as-text, still, then}
 use Rattle.text.specs.Fronting.{Fronted, lineText, ranText}
 
 -- ---- the lines of the variables
@@ -33,6 +33,7 @@ use Rattle.text.specs.Fronting.{Fronted, lineText, ranText}
 pub record Listing (o : List ℕ) (vs : List Binding) (goal : ℕ) (o′ : List ℕ) (p v : ℕ) : Type 0 where
   pub size : length o′ ≡ length o
   pub text : drop p o′ ≡ varLines vs v (goal - v)
+  pub front : take p o′ ≡ take p o
   pub lower : p ≤ 16384
   pub near : 16384 ≤ p + (goal - v) * 49
   pub some : v ≤ goal
@@ -47,7 +48,7 @@ lines-more vs i m = refl
 
 module _ (o : List ℕ) (vs : List Binding) (goal : ℕ) where
   pub list-start : length o ≡ 16384 → Listing o vs goal o (length o) goal
-  list-start n = record { size = refl; text = drop-length o ∙ lines-none vs goal (goal - goal) (omega arith); lower = omega arith; near = omega arith; some = omega arith }
+  list-start n = record { size = refl; text = drop-length o ∙ lines-none vs goal (goal - goal) (omega arith); front = refl; lower = omega arith; near = omega arith; some = omega arith }
 
   module _ (o′ : List ℕ) (p v : ℕ) (x : Listing o vs goal o′ p v) where
     pub list-on : (o″ : List ℕ) (q : ℕ) {t : Term} → 0 < v → t ≡ value vs (Var (v - 1)) → Fronted o′ p 49 (lineText (v - 1) t ++ drop p o′) o″ q → Listing o vs goal o″ q (v - 1)
@@ -66,6 +67,7 @@ module _ (o : List ℕ) (vs : List Binding) (goal : ℕ) where
               ∙ ap (λ (u : List ℕ). lineText (v - 1) (value vs (Var (v - 1))) ++ u) (x .text ∙ ap (λ (w : ℕ). varLines vs w (goal - v)) k)
               ∙ lines-more vs (v - 1) (goal - v)
               ∙ ap (varLines vs (v - 1)) m;
+          front = still o o′ o″ p q b (x .front) (y .front);
           lower = omega arith;
           near = omega arith;
           some = omega arith;
@@ -76,7 +78,7 @@ module _ (o : List ℕ) (vs : List Binding) (goal : ℕ) where
         let e : v ≡ 0 = omega arith in
         let m : goal - v ≡ goal = omega arith in
         let j = x .near in
-        record { size = x .size; text = x .text ∙ ap (varLines vs v) m ∙ ap (λ (w : ℕ). varLines vs w goal) e; lower = x .lower; near = omega arith }
+        record { size = x .size; text = x .text ∙ ap (varLines vs v) m ∙ ap (λ (w : ℕ). varLines vs w goal) e; front = x .front; lower = x .lower; near = omega arith }
 
 -- ---- the whole text
 
