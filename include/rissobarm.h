@@ -266,7 +266,7 @@ static inline uint32_t rissobarm_value_number(uint64_t answer)
 /*
  * For operators: the lowest number of a suspended process among the whole rows of procs, used or not. Takes any row of
  * any length, looks at modes alone and refuses nothing. Accepted: 1 in bits 8-15 and the number in bits 32-63 when there
- * is one, else 0.
+ * is one, else 0. A number that 32 bits cannot hold (a row of over 96 GiB) is told as none.
  */
 uint64_t rissobarm_watch(const uint8_t *procs, size_t procs_len);
 
