@@ -43,7 +43,7 @@ and-all : (b : Bool) → (b && true) ≡ b
 and-all true = refl
 and-all false = refl
 
-or-nothing : (f : Found) → orElse f Nothing ≡ f
+pub or-nothing : (f : Found) → orElse f Nothing ≡ f
 or-nothing (At c) = refl
 or-nothing Nothing = refl
 

@@ -38,6 +38,17 @@ fn wide(v: u16) -> usize
     v as usize
 }
 
+// What is handed on for a process that does not ask.
+pub fn nothing() -> Told {
+    Told {
+        failed: false,
+        succeeded: false,
+        hopeless: false,
+        lowest: Found::Nothing,
+        latest: News::Silent,
+    }
+}
+
 // ---- one child more
 
 // What process i tells its parent.

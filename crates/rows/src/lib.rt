@@ -229,6 +229,26 @@ pub fn parent_at(procs: &[u8], n: usize, i: usize) -> u16
     0
 }
 
+pub fn count_at(procs: &[u8], n: usize, i: usize) -> u8
+    requires { ⌜ n * 24 ≤ length (now procs) ⌝ }
+    ensures { λ r. ⌜ r ≡ at (procsOf (now (procs .entry)) n) i .count ⌝ }
+{
+    if i < n {
+        return procs[i * 24 + 3];
+    }
+    0
+}
+
+pub fn notes_at(procs: &[u8], n: usize, i: usize) -> [u16; 4]
+    requires { ⌜ n * 24 ≤ length (now procs) ⌝ }
+    ensures { λ r. ⌜ r ≡ at (procsOf (now (procs .entry)) n) i .notes ⌝ }
+{
+    if i < n {
+        return get_notes(procs, i);
+    }
+    [0, 0, 0, 0]
+}
+
 // The n bytes from `from` become zero.
 pub fn wipe(table: &mut [u8], from: usize, n: usize)
     requires { ⌜ from + n ≤ length (now table) ⌝ }

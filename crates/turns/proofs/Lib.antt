@@ -1,4 +1,3 @@
-pub mod Small
-pub mod Fold
+pub mod Saying
+pub mod Passing
 pub mod Laws
-pub mod Order

@@ -1,89 +1,54 @@
-// Whose turn it is: one pass that notes for each process what its children report, and one that finds the first that can move.
+// Whose turn it is: one pass from the last row down, in which every process is asked whether it can move, and heard by its parent.
 ghost use mathlib.Core.Path.{_≡_};
-ghost use mathlib.Core.Bool.{_||_, cond};
-ghost use Prim.Native.Nat.{_+_, _*_, _≤_, _<_};
+ghost use mathlib.Core.Bool.{_&&_, _||_, cond};
+ghost use Prim.Native.Nat.{_*_, _≤_, _<_, suc, ℕ};
 ghost use lib.Dec.{ltb};
-ghost use lib.ListN.{getD, length, take};
+ghost use lib.ListN.{length};
+ghost use Rattle.children.specs.Notes.{Noted, noneSilent, someBad, someGood};
+ghost use Rattle.children.specs.Telling.{Tells};
 ghost use Rattle.parlog.specs.Codes.{tagOf};
 ghost use Rattle.parlog.specs.Program.{Program};
 ghost use Rattle.parlog.specs.Run.{canMove, turnOf};
-ghost use Rattle.parlog.specs.Tables.{at, bindingOf, noted, notesAt, processAt, procsOf, varsIn};
-ghost use Rattle.parlog.specs.Unify.{isBound, someBound};
-ghost use Rattle.turns.specs.Notes.{Clear, firstFrom, hear, heardRow, noneSilent, Noted, noteOf, someBad, someGood, stateFrom, tells};
+ghost use Rattle.parlog.specs.Scan.{orElse};
+ghost use Rattle.parlog.specs.Tables.{at, noted, procsOf, varsIn};
+ghost use Rattle.parlog.specs.Unify.{someBound};
+ghost use Rattle.parlog.specs.declared.Found.the-variants.{At};
+ghost use Rattle.plan.specs.Plans.{stateIn};
+ghost use Rattle.tree.specs.Family.{Falls};
+ghost use Rattle.turns.specs.Notes.{AllNoted, noteIn, tells};
+use children::Note;
+use children::Told;
 use parlog::Found;
 
-// ---- the notes
-
-// What process i tells its parent.
-fn note_of(procs: &[u8], n: usize, i: usize) -> u8
-    requires { ⌜ n * 24 ≤ length (now procs) ⌝ }
-    ensures { λ r. ⌜ r ≡ noteOf (at (procsOf (now (procs .entry)) n) i) ⌝ }
-{
-    if rows::mode_at(procs, n, i) == 4 {
-        let told = rows::result_at(procs, n, i);
-        if told == 1 {
-            return 10;
-        }
-        if told == 2 {
-            return 12;
-        }
-    }
-    1
-}
-
-// The note s after a child more, whose own note is f.
-fn hear(s: u8, f: u8) -> u8
-    ensures { λ r. ⌜ r ≡ hear s f ⌝ }
-{
-    (s & 7) | f
-}
-
-// The parent of process q hears it.
-fn hear_row(procs: &[u8], n: usize, notes: &mut [u8], q: usize)
-    requires { ⌜ (n * 24 ≤ length (now procs)) × (n ≤ length (now notes)) ⌝ }
-    ensures { λ _. ⌜ now (notes .exit) ≡ heardRow (now (notes .entry)) n (at (procsOf (now (procs .entry)) n) q) ⌝ }
-{
-    let up = rows::parent_at(procs, n, q) as usize;
-    if up < n {
-        let f = note_of(procs, n, q);
-        let s = hear(notes[up], f);
-        notes[up] = s;
-    }
-}
-
-// Every process is heard by its parent, the latest last; process 0 has none.
-fn listen(procs: &[u8], n: usize, notes: &mut [u8])
-    requires { ⌜ (n * 24 ≤ length (now procs)) × (n ≤ length (now notes)) × (0 < n) × Clear (now notes) n ⌝ }
-    ensures { λ _. ⌜ (length (now (notes .exit)) ≡ length (now (notes .entry))) × Noted (procsOf (now (procs .entry)) n) n (now (notes .exit)) n ⌝ }
-{
-    let mut q = 1;
-    while q < n {
-        hear_row(procs, n, notes, q);
-        q += 1;
-    }
+// Whose turn it is, and what its children report.
+pub struct Turn {
+    pub who: Found,
+    pub told: Told,
 }
 
 // ---- who can move
 
+fn or(a: bool, b: bool) -> bool
+    ensures { λ r. ⌜ r ≡ (a || b) ⌝ }
+{
+    if a { true } else { b }
+}
+
+// One failed, or all have spoken.
 fn bad_or_all(s: u8) -> bool
     ensures { λ r. ⌜ r ≡ (someBad s || noneSilent s) ⌝ }
 {
-    if s / 4 % 2 == 1 {
-        return true;
-    }
-    s % 2 == 0
+    or(children::some_bad(s), children::none_silent(s))
 }
 
+// One succeeded, or all have spoken.
 fn good_or_all(s: u8) -> bool
     ensures { λ r. ⌜ r ≡ (someGood s || noneSilent s) ⌝ }
 {
-    if s / 2 % 2 == 1 {
-        return true;
-    }
-    s % 2 == 0
+    or(children::some_good(s), children::none_silent(s))
 }
 
-// A waiting process of this tag can move by its note s.
+// A waiting process of this tag can move by what its children said.
 fn tells(tag: u8, s: u8) -> bool
     ensures { λ r. ⌜ r ≡ tells (tagOf tag) s ⌝ }
 {
@@ -105,41 +70,6 @@ fn tells(tag: u8, s: u8) -> bool
     false
 }
 
-// Variable v of the first m is bound.
-fn is_bound(vars: &[u8], m: usize, v: usize) -> bool
-    requires { ⌜ m * 4 ≤ length (now vars) ⌝ }
-    ensures { λ r. ⌜ r ≡ isBound (bindingOf (varsIn (now (vars .entry)) m) v) ⌝ }
-{
-    if v < m {
-        return vars[v * 4] != 0;
-    }
-    false
-}
-
-// The variable that process p noted as number k.
-fn noted_at(procs: &[u8], p: usize, k: usize) -> usize
-    requires { ⌜ (p * 24 + 24 ≤ length (now procs)) × (k < 4) ⌝ }
-    ensures { λ r. ⌜ r ≡ getD (notesAt (now (procs .entry)) p) k 0 ⌝ }
-{
-    rows::get_u16(procs, p * 24 + 16 + k * 2) as usize
-}
-
-// One of the first variables that process p noted is bound.
-fn some_bound(procs: &[u8], vars: &[u8], m: usize, p: usize, count: usize) -> bool
-    requires { ⌜ (p * 24 + 24 ≤ length (now procs)) × (m * 4 ≤ length (now vars)) × (count ≤ 4) ⌝ }
-    ensures { λ r. ⌜ r ≡ someBound (varsIn (now (vars .entry)) m) (take count (notesAt (now (procs .entry)) p)) ⌝ }
-{
-    let mut k = 0;
-    while k < count {
-        let v = noted_at(procs, p, k);
-        if is_bound(vars, m, v) {
-            return true;
-        }
-        k += 1;
-    }
-    false
-}
-
 // No row has more than four notes.
 fn few(count: u8) -> usize
     ensures { λ r. ⌜ (r ≡ cond (ltb count 4) count 4) × (r ≤ 4) ⌝ }
@@ -151,18 +81,28 @@ fn few(count: u8) -> usize
 }
 
 // One of the variables that process p noted is bound.
-fn wakes(procs: &[u8], vars: &[u8], m: usize, p: usize) -> bool
-    requires { ⌜ (p * 24 + 24 ≤ length (now procs)) × (m * 4 ≤ length (now vars)) ⌝ }
-    ensures { λ r. ⌜ r ≡ someBound (varsIn (now (vars .entry)) m) (noted (processAt (now (procs .entry)) p)) ⌝ }
+fn wakes(procs: &[u8], n: usize, vars: &[u8], m: usize, p: usize) -> bool
+    requires { ⌜ (n * 24 ≤ length (now procs)) × (m * 4 ≤ length (now vars)) ⌝ }
+    ensures { λ r. ⌜ r ≡ someBound (varsIn (now (vars .entry)) m) (noted (at (procsOf (now (procs .entry)) n) p)) ⌝ }
 {
-    let count = few(procs[p * 24 + 3]);
-    some_bound(procs, vars, m, p, count)
+    let count = few(rows::count_at(procs, n, p));
+    let notes = rows::notes_at(procs, n, p);
+    unify::some_bound(vars, m, count, notes)
 }
 
-// A rule applies to process p, once every process was heard.
-fn can_move(procs: &[u8], n: usize, vars: &[u8], m: usize, notes: &[u8], p: usize) -> bool
-    requires { ⌜ (n * 24 ≤ length (now procs)) × (n ≤ length (now notes)) × (m * 4 ≤ length (now vars)) × (p < n) × Noted (procsOf (now procs) n) n (now notes) n ⌝ }
-    ensures { λ r. ⌜ ((pr : Program) → r ≡ canMove pr (stateFrom (now (procs .entry)) n (now (vars .entry)) m) p) ⌝ }
+// A rule applies to process p, once all its children were heard.
+fn can_move(
+    procs: &[u8],
+    n: usize,
+    vars: &[u8],
+    m: usize,
+    said: &[u8],
+    latest: &[u16],
+    lowest: &[u16],
+    p: usize,
+) -> bool
+    requires { ⌜ (n * 24 ≤ length (now procs)) × (m * 4 ≤ length (now vars)) × (p < length (now said)) × Noted (procsOf (now procs) n) p 0 (noteIn (now said) (now latest) (now lowest) p) ⌝ }
+    ensures { λ r. ⌜ ((pr : Program) → r ≡ canMove pr (stateIn (now (procs .entry)) n (now (vars .entry)) m) p) ⌝ }
 {
     let mode = rows::mode_at(procs, n, p);
     if mode == 0 {
@@ -170,7 +110,7 @@ fn can_move(procs: &[u8], n: usize, vars: &[u8], m: usize, notes: &[u8], p: usiz
     }
     if mode == 3 {
         let tag = rows::tag_at(procs, n, p);
-        return tells(tag, notes[p]);
+        return tells(tag, said[p]);
     }
     if mode == 4 {
         return p == 0;
@@ -178,36 +118,121 @@ fn can_move(procs: &[u8], n: usize, vars: &[u8], m: usize, notes: &[u8], p: usiz
     if mode < 3 {
         return true;
     }
-    wakes(procs, vars, m, p)
+    wakes(procs, n, vars, m, p)
+}
+
+// ---- the notes of all
+
+// What is noted for process p.
+fn note_at(said: &[u8], latest: &[u16], lowest: &[u16], p: usize) -> Note
+    requires { ⌜ (p < length (now said)) × (p < length (now latest)) × (p < length (now lowest)) ⌝ }
+    ensures { λ r. ⌜ r ≡ noteIn (now (said .entry)) (now (latest .entry)) (now (lowest .entry)) p ⌝ }
+{
+    Note {
+        said: said[p],
+        latest: latest[p],
+        lowest: lowest[p],
+    }
+}
+
+// The parent of process q hears it; process 0 has none.
+fn hear_row(
+    procs: &[u8],
+    n: usize,
+    said: &mut [u8],
+    latest: &mut [u16],
+    lowest: &mut [u16],
+    q: usize,
+)
+    requires { ⌜ (n * 24 ≤ length (now procs)) × (n ≤ 512) × (q < n) × Falls (procsOf (now procs) n) × (length (now said) ≡ 512) × (length (now latest) ≡ 512) × (length (now lowest) ≡ 512) × AllNoted (procsOf (now procs) n) n (suc q) (now said) (now latest) (now lowest) ⌝ }
+    ensures { λ _. ⌜ (length (now (said .exit)) ≡ 512) × (length (now (latest .exit)) ≡ 512) × (length (now (lowest .exit)) ≡ 512) × AllNoted (procsOf (now (procs .entry)) n) n q (now (said .exit)) (now (latest .exit)) (now (lowest .exit)) ⌝ }
+{
+    let up = rows::parent_at(procs, n, q) as usize;
+    if up < q {
+        let x = note_at(said, latest, lowest, up);
+        let f = children::note_of(procs, n, q);
+        let y = children::hear(x, f, q as u16);
+        said[up] = y.said;
+        latest[up] = y.latest;
+        lowest[up] = y.lowest;
+    }
 }
 
 // ---- whose turn it is
 
-// The first process from a on, below e, that can move.
-fn first(procs: &[u8], n: usize, vars: &[u8], m: usize, notes: &[u8], a: usize, e: usize) -> Found
-    requires { ⌜ (n * 24 ≤ length (now procs)) × (n ≤ length (now notes)) × (m * 4 ≤ length (now vars)) × (e ≤ n) × Noted (procsOf (now procs) n) n (now notes) n ⌝ }
-    ensures { λ r. ⌜ ((pr : Program) → r ≡ firstFrom (canMove pr (stateFrom (now (procs .entry)) n (now (vars .entry)) m)) a e) ⌝ }
+fn both(a: bool, b: bool) -> bool
+    ensures { λ r. ⌜ r ≡ (a && b) ⌝ }
 {
-    let mut q = a;
-    while q < e {
-        if can_move(procs, n, vars, m, notes, q) {
-            return Found::At(q);
-        }
-        q += 1;
-    }
-    Found::Nothing
+    if a { b } else { false }
 }
 
-// The next process behind the last that can move, coming round to the last itself. The notes are lent to be written over.
-pub fn next(procs: &[u8], n: usize, vars: &[u8], m: usize, last: usize, notes: &mut [u8]) -> Found
-    requires { ⌜ (n * 24 ≤ length (now procs)) × (n ≤ 65535) × (n ≤ length (now notes)) × (m * 4 ≤ length (now vars)) × (m ≤ 65535) × (last < n) ⌝ }
-    ensures { λ r. ⌜ (length (now (notes .exit)) ≡ length (now (notes .entry))) × ((pr : Program) → r ≡ turnOf (canMove pr (stateFrom (now (procs .entry)) n (now (vars .entry)) m)) n last) ⌝ }
+// q where this holds, else what was found before.
+fn found(yes: bool, q: usize, before: Found) -> Found
+    ensures { λ r. ⌜ r ≡ cond yes (At q) before ⌝ }
 {
-    rows::wipe(notes, 0, n);
-    listen(procs, n, notes);
-    let f = first(procs, n, vars, m, notes, last + 1, n);
-    match f {
+    if yes { Found::At(q) } else { before }
+}
+
+fn or_else(a: Found, b: Found) -> Found
+    ensures { λ r. ⌜ r ≡ orElse a b ⌝ }
+{
+    match a {
         Found::At(p) => Found::At(p),
-        Found::Nothing => first(procs, n, vars, m, notes, 0, last + 1),
+        Found::Nothing => b,
+    }
+}
+
+// The next process behind the last that can move, else the lowest that can; all processes are heard.
+fn pass(
+    procs: &[u8],
+    n: usize,
+    vars: &[u8],
+    m: usize,
+    last: usize,
+    said: &mut [u8],
+    latest: &mut [u16],
+    lowest: &mut [u16],
+) -> Found
+    requires { ⌜ (n * 24 ≤ length (now procs)) × (n ≤ 512) × (m * 4 ≤ length (now vars)) × Falls (procsOf (now procs) n) × (length (now said) ≡ 512) × (length (now latest) ≡ 512) × (length (now lowest) ≡ 512) × AllNoted (procsOf (now procs) n) n n (now said) (now latest) (now lowest) ⌝ }
+    ensures { λ r. ⌜ ((pr : Program) → r ≡ turnOf (canMove pr (stateIn (now (procs .entry)) n (now (vars .entry)) m)) n last) × (length (now (said .exit)) ≡ 512) × (length (now (latest .exit)) ≡ 512) × (length (now (lowest .exit)) ≡ 512) × AllNoted (procsOf (now (procs .entry)) n) n 0 (now (said .exit)) (now (latest .exit)) (now (lowest .exit)) ⌝ }
+{
+    let mut behind = Found::Nothing;
+    let mut round = Found::Nothing;
+    let mut q = n;
+    while 0 < q {
+        q -= 1;
+        let can = can_move(procs, n, vars, m, said, latest, lowest, q);
+        behind = found(both(last < q, can), q, behind);
+        round = found(can, q, round);
+        hear_row(procs, n, said, latest, lowest, q);
+    }
+    or_else(behind, round)
+}
+
+// What the children of that process report.
+fn told_of(procs: &[u8], n: usize, said: &[u8], latest: &[u16], lowest: &[u16], who: Found) -> Told
+    requires { ⌜ (n * 24 ≤ length (now procs)) × (n ≤ 512) × (length (now said) ≡ 512) × (length (now latest) ≡ 512) × (length (now lowest) ≡ 512) × AllNoted (procsOf (now procs) n) n 0 (now said) (now latest) (now lowest) × ((p : ℕ) → who ≡ At p → p < n) ⌝ }
+    ensures { λ r. ⌜ ((p : ℕ) → who ≡ At p → Tells (procsOf (now (procs .entry)) n) p r) ⌝ }
+{
+    let Found::At(p) = who else {
+        return children::nothing();
+    };
+    let x = note_at(said, latest, lowest, p);
+    children::told_by(procs, n, x)
+}
+
+// The next process behind the last that can move, coming round to the last itself, and what its children report.
+pub fn next(procs: &[u8], n: usize, vars: &[u8], m: usize, last: usize) -> Turn
+    requires { ⌜ (n * 24 ≤ length (now procs)) × (n ≤ 512) × (m * 4 ≤ length (now vars)) × Falls (procsOf (now procs) n) ⌝ }
+    ensures { λ r. ⌜ ((pr : Program) → r .who ≡ turnOf (canMove pr (stateIn (now (procs .entry)) n (now (vars .entry)) m)) n last) × ((p : ℕ) → r .who ≡ At p → Tells (procsOf (now (procs .entry)) n) p (r .told)) ⌝ }
+{
+    let mut said = [0u8; 512];
+    let mut latest = [0u16; 512];
+    let mut lowest = [0u16; 512];
+    let who = pass(procs, n, vars, m, last, &mut said, &mut latest, &mut lowest);
+    let told = told_of(procs, n, &said, &latest, &lowest, who);
+    Turn {
+        who: who,
+        told: told,
     }
 }

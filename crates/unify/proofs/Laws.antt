@@ -1,15 +1,15 @@
 -- The laws of pending bindings: one for each way through the code.
 use mathlib.Core.Path.{_∙_, _≡_, ap, refl, sym}
-use mathlib.Core.Bool.{Bool, cond, false, true}
+use mathlib.Core.Bool.{Bool, cond, false, not, true}
 use mathlib.Core.List.{[], _∷_, List}
-use Prim.Native.Nat.{_+_, _<_, _≤_, suc, zero, ℕ}
+use Prim.Native.Nat.{_*_, _+_, _<_, _≤_, suc, zero, ℕ}
 use lib.Dec.{eqb, leb}
 use lib.ListN.{drop, drop-of-length-le, getD, length, length-set, set, take}
 use lib.Seq.{drop-cons, getD-set-other, getD-set-same, getD-take, length-take-le, take-suc-set}
 use borrow.Author.Tests.{eqb-false, eqb-true, le-leb, leb-false, lt-leb}
 use native.Mathlib.Omega.{arith}
 use native.Mathlib.Numerals.{add-one}
-use Rattle.parlog.specs.Tables.{bindingOf, varsIn}
+use Rattle.parlog.specs.Tables.{bindingAt, bindingBy, bindingOf, numberAt, sortAt, varsIn}
 use Rattle.parlog.specs.Unify.{bound, changed, chase, clash, follow, isBound, joined, meet, Outcome, someBound, unifyFrom, unifyOne, value, valueOf}
 use Rattle.parlog.specs.declared.Binding.{Binding}
 use Rattle.parlog.specs.declared.Binding.the-variants.{Bound, Free}
@@ -21,7 +21,7 @@ use Rattle.parlog.specs.declared.Term.{Term}
 use Rattle.parlog.specs.declared.Term.the-variants.{Const, Var}
 use Rattle.unify.specs.Pending.{latest, newerOf, noChange, noPair, outcome, pending, top, under}
 use Rattle.unify.specs.declared.Unified.{Unified}
-use Rattle.vars.proofs.Tables.{vars-length}
+use Rattle.vars.proofs.Tables.{vars-at, vars-length, vars-past}
 
 -- ---- what is left of the first n
 
@@ -158,11 +158,20 @@ value-nothing l n t e q = q ∙ ap (λ (cs : List Change). value (changed (varsI
 
 -- ---- the ways through some_bound
 
-module _ (vs : List Binding) (ns : List ℕ) (n k : ℕ) (g : n ≤ length ns) where
-  module _ (h : k < n) {b : Binding} {t : Bool} (eb : b ≡ bindingOf vs (getD ns k 0)) (et : t ≡ isBound b) where
-    here : t ≡ isBound (bindingOf vs (getD ns k 0))
-    here = et ∙ ap isBound eb
+pub bound-sort : (l : List ℕ) (m v : ℕ) → v < m → not (eqb (getD l (v * 4) 0) 0) ≡ isBound (bindingOf (varsIn l m) v)
+unfolding bindingAt bindingBy
+bound-sort l m v h = rw (vars-at l m v h) (go (eqb (sortAt l v) 0) (eqb (sortAt l v) 1))
+  where
+    go : (a b : Bool) → not a ≡ isBound (cond a Free (cond b (Bound (Const (numberAt l v))) (Bound (Var (numberAt l v)))))
+    go true b = refl
+    go false true = refl
+    go false false = refl
 
+pub bound-past : (l : List ℕ) (m v : ℕ) → m ≤ v → false ≡ isBound (bindingOf (varsIn l m) v)
+bound-past l m v h = rw (vars-past l m v h)
+
+module _ (vs : List Binding) (ns : List ℕ) (n k : ℕ) (g : n ≤ length ns) where
+  module _ (h : k < n) {t : Bool} (here : t ≡ isBound (bindingOf vs (getD ns k 0))) where
     pub some-hit : t ≡ true → true ≡ someBound vs (drop k (take n ns))
     unfolding someBound
     some-hit e = rw (rest-more ns n k 0 h g, ← here, e)

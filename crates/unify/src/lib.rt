@@ -196,14 +196,15 @@ pub fn unify(vars: &[u8], n: usize, pairs: [Pair; 4], count: usize) -> Unified
     u
 }
 
-// The binding is one.
-fn is_bound(b: Binding) -> bool
-    ensures { λ r. ⌜ r ≡ isBound b ⌝ }
+// Variable v of the first n is bound.
+fn is_bound(vars: &[u8], n: usize, v: usize) -> bool
+    requires { ⌜ n * 4 ≤ length (now vars) ⌝ }
+    ensures { λ r. ⌜ r ≡ isBound (bindingOf (varsIn (now (vars .entry)) n) v) ⌝ }
 {
-    match b {
-        Binding::Free => false,
-        Binding::Bound(_) => true,
+    if v < n {
+        return vars[v * 4] != 0;
     }
+    false
 }
 
 // Some variable of the first of these notes is bound.
@@ -214,9 +215,7 @@ pub fn some_bound(vars: &[u8], n: usize, count: usize, notes: [u16; 4]) -> bool
     let mut k = 0;
     while k < count {
         let v = notes[k];
-        let b = vars::get(vars, n, v as usize);
-        let yes = is_bound(b);
-        if yes {
+        if is_bound(vars, n, v as usize) {
             return true;
         }
         k += 1;

@@ -1,22 +1,26 @@
+use mathlib.Core.Path.{_∙_, _≡_, refl, sym}
+use mathlib.Core.List.{[]}
+use Rattle.rows.proofs.Tables.{procs-length}
+use Rattle.parlog.specs.Program.{programOf}
+use Rattle.turns.proofs.Passing.{all-start, turn-there}
 use borrow.Author.Needs.{needs}
-use Rattle.turns.proofs.Laws.{clear-wiped}
-use Rattle.turns.proofs.Order.{turn-behind, turn-round}
 use Rattle.turns.proofs.next.Statement.{statement}
 use Rattle.turns.proofs.next.Tie as tie
+use Rattle.turns.proofs.next.Reads as reads
+use Rattle.turns.proofs.next.Lts as lts
+use Rattle.turns.proofs.pass.Reads as pass-reads
+use Rattle.turns.proofs.told_of.Reads as told-of-reads
 
 pub next-spec : {M : Type 1} → statement M
 next-spec =
     tie.close
     (tie.spec
-    (λ c κs. search needs)
-    (λ c κs. (search needs, search needs, search needs, clear-wiped _ _ (c .before .before .before .before .before .before .before .before .pre .2) (c .before .before .before .wipe .ensures)))
-    (λ c. search needs)
-    (λ c κs. search needs)
     (λ c. search needs)
     (λ c. search needs)
     (λ c. search needs)
-    (λ c κs. search needs)
+    (λ c κs. ((c .before .before .before .before .before .pre .0), (c .before .before .before .before .before .pre .1), (c .before .before .before .before .before .pre .2), (c .before .before .before .before .before .pre .3), refl, refl, refl, all-start _ _ (procs-length _ _) 512 _ _))
     (λ c. search needs)
-    (λ c. (search needs, λ pr. turn-behind _ _ _ ((c .before .before .before .first .ensures) pr) (c .before .f .given .1)))
     (λ c. search needs)
-    (λ c. (search needs, λ pr. turn-round _ _ _ ((c .before .before .before .before .first .ensures) pr) (c .before .before .before .before .before .before .before .before .before .before .before .before .before .before .before .before .before .pre .5) (c .before .before .enum-told .given .1) ((c .first2 .ensures) pr))))
+    (λ c. search needs)
+    (λ c κs. ((c .before .before .before .before .before .before .before .before .before .before .before .before .pre .0), (c .before .before .before .before .before .before .before .before .before .before .before .before .pre .1), (c .before .before .before .before .before .before .pass .ensures .1), (c .before .before .before .before .before .before .pass .ensures .2), (c .before .before .before .before .before .before .pass .ensures .3), (c .before .before .before .before .before .before .pass .ensures .4), λ p e. turn-there _ _ _ (sym ((c .before .before .before .before .before .before .pass .ensures .0) (programOf [] 0 0)) ∙ e)))
+    (λ c. ((c .before .before .before .before .before .before .before .pass .ensures .0), (c .told-of .ensures))))

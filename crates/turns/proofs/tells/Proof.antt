@@ -1,7 +1,11 @@
-use borrow.Author.Needs.{needs}
 use Rattle.turns.proofs.Laws.{tells-all, tells-guard, tells-low, tells-none, tells-search, tells-try}
+use borrow.Author.Needs.{needs}
 use Rattle.turns.proofs.tells.Statement.{statement}
 use Rattle.turns.proofs.tells.Tie as tie
+use Rattle.turns.proofs.tells.Reads as reads
+use Rattle.turns.proofs.tells.Lts as lts
+use Rattle.turns.proofs.bad_or_all.Reads as bad-or-all-reads
+use Rattle.turns.proofs.good_or_all.Reads as good-or-all-reads
 
 pub tells-spec : {M : Type 1} → statement M
 tells-spec =

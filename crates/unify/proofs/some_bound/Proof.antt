@@ -8,6 +8,9 @@ use Rattle.parlog.specs.Unify.{someBound}
 use Rattle.unify.proofs.Laws.{some-done, some-hit, some-miss}
 use Rattle.unify.proofs.some_bound.Statement.{statement}
 use Rattle.unify.proofs.some_bound.Tie as tie
+use Rattle.unify.proofs.some_bound.Reads as reads
+use Rattle.unify.proofs.some_bound.Lts as lts
+use Rattle.unify.proofs.is_bound.Reads as is-bound-reads
 
 abbrev Inv-loop : tie.InvT-loop
 Inv-loop vars n count notes k₀ k = (k ≤ count) × (count ≤ 4) × (length notes ≡ 4) × (someBound (varsIn vars n) (drop k (take count notes)) ≡ someBound (varsIn vars n) (take count notes))
@@ -26,9 +29,8 @@ some-bound-spec =
     (λ c. search needs)
     (λ c. search needs)
     (λ c κs. search needs)
-    (λ c κs. search needs)
-    (λ c. some-hit _ _ _ _ (omega arith) (c .before .before .before .loop-test .taken) (c .before .before .get .ensures) (c .before .is-bound .ensures) (c .if1 .taken) ∙ (c .before .before .before .before .loop .inv .3))
+    (λ c. some-hit _ _ _ _ (omega arith) (c .before .before .loop-test .taken) (c .before .is-bound .ensures) (c .if1 .taken) ∙ (c .before .before .before .loop .inv .3))
     (λ c. search needs)
     (λ c. search needs)
-    (λ c. (search needs, search needs, search needs, some-miss _ _ _ _ (omega arith) (c .before .before .before .loop-test .taken) (c .before .before .get .ensures) (c .before .is-bound .ensures) (c .if1 .left) ∙ (c .before .before .before .before .loop .inv .3)))
+    (λ c. (search needs, search needs, search needs, some-miss _ _ _ _ (omega arith) (c .before .before .loop-test .taken) (c .before .is-bound .ensures) (c .if1 .left) ∙ (c .before .before .before .loop .inv .3)))
     (λ c. some-done _ _ _ _ (omega arith) (c .loop-test .left) ∙ (c .before .loop .inv .3)))

@@ -1,0 +1,170 @@
+-- The pass from the last row down: the notes of all, and the lowest that can move.
+use mathlib.Core.Path.{_∙_, _≡_, refl, sym}
+use mathlib.Core.Logic.{_≢_}
+use mathlib.Core.Bool.{_&&_, Bool, cond, false, true}
+use mathlib.Core.List.{List}
+use Prim.Native.Nat.{_-_, _<_, _≤_, suc, zero, ℕ}
+use lib.Dec.{eqb, ltb}
+use lib.ListN.{getD, length, length-set, replicate, set}
+use lib.Seq.{getD-set-other, getD-set-same}
+use borrow.Author.Tests.{eq-eqb, eqb-false, eqb-true, ne-eqb}
+use native.Mathlib.Omega.{arith}
+use Rattle.children.proofs.Noting.{noted-child, noted-other, noted-quiet, noted-start, or-nothing}
+use Rattle.children.specs.Notes.{heardBy, Noted, noteOf}
+use Rattle.children.specs.Telling.{Tells}
+use Rattle.children.specs.declared.Note.{Note}
+use Rattle.children.specs.declared.Told.{Told}
+use Rattle.parlog.proofs.Bools.{split}
+use Rattle.parlog.proofs.Scans.{lowest-at}
+use Rattle.parlog.specs.Program.{Program}
+use Rattle.parlog.specs.Run.{canMove, turnOf}
+use Rattle.parlog.specs.Scan.{lowest, orElse}
+use Rattle.parlog.specs.Tables.{at, State}
+use Rattle.parlog.specs.Tree.{isChild}
+use Rattle.parlog.specs.declared.Found.{Found}
+use Rattle.parlog.specs.declared.Found.the-variants.{At, Nothing}
+use Rattle.parlog.specs.declared.Process.{Process}
+use Rattle.tree.specs.Family.{Falls}
+use Rattle.turns.specs.Notes.{AllNoted, noteIn}
+
+-- ---- the notes
+
+zeros-at : (k p : ℕ) → _≡_ {A = ℕ} (getD (replicate k 0) p 0) 0
+zeros-at zero p = refl
+zeros-at (suc k) zero = refl
+zeros-at (suc k) (suc p) = zeros-at k p
+
+module _ (ps : List Process) (n : ℕ) (en : length ps ≡ n) where
+  pub all-start : (k : ℕ) (latest lowest : List ℕ) → AllNoted ps n n (replicate k 0) latest lowest
+  unfolding AllNoted
+  all-start k latest lowest p h = rw (zeros-at k p) (noted-start ps p n (getD latest p 0) (getD lowest p 0) (sym en))
+
+  module _ (falls : Falls ps) where
+    -- no child of p stands at p or before it
+    before : (p i : ℕ) → i ≤ p → i < n → isChild ps p i ≡ false
+    unfolding isChild
+    before p i h l = split (eqb i 0)
+        (λ e. rw e)
+        (λ e. let u : at ps i .parent < i = falls i (omega arith) (eqb-false i 0 e) in
+        let ne : at ps i .parent ≢ p = λ z. omega (arith, z) in
+        rw (e, ne-eqb (at ps i .parent) p ne))
+
+    module _ (q : ℕ) (said latest lowest : List ℕ) where
+      -- row q - 1 is reached: all its children were heard
+      pub all-here : 0 < q → q ≤ n → AllNoted ps n q said latest lowest → Noted ps (q - 1) 0 (noteIn said latest lowest (q - 1))
+      unfolding AllNoted
+      all-here h l so = noted-quiet ps (q - 1) q (noteIn said latest lowest (q - 1)) (λ i u. before (q - 1) i (omega arith) (omega arith)) (so (q - 1) (omega arith))
+
+      -- and its parent hears it
+      module _ (h : q < n) (so : AllNoted ps n (suc q) said latest lowest) {up : ℕ} (eu : up ≡ at ps q .parent) where
+        child-is : up < q → (p : ℕ) → isChild ps p q ≡ eqb up p
+        unfolding isChild
+        child-is u p = let ne : q ≢ 0 = λ z. omega (arith, z) in rw (ne-eqb q 0 ne, ← eu)
+
+        pub all-heard : up < q → length said ≡ 512 → length latest ≡ 512 → length lowest ≡ 512 → n ≤ 512 → {x y : Note} {f : ℕ}
+            → x ≡ noteIn said latest lowest up → f ≡ noteOf (at ps q) → y ≡ heardBy x f q
+            → (length (set said up (y .said)) ≡ 512) × (length (set latest up (y .latest)) ≡ 512) × (length (set lowest up (y .lowest)) ≡ 512)
+            × AllNoted ps n q (set said up (y .said)) (set latest up (y .latest)) (set lowest up (y .lowest))
+        unfolding AllNoted
+        all-heard u a b c d {x} {y} {f} ex ef ey = (
+          length-set said up (y .said) ∙ a,
+          length-set latest up (y .latest) ∙ b,
+          length-set lowest up (y .lowest) ∙ c,
+          λ p l. split (eqb up p) (λ e. here p l (eqb-true up p e)) (λ e. there p l (eqb-false up p e)),
+        )
+          where
+            here : (p : ℕ) → p < n → up ≡ p → Noted ps p q (noteIn (set said up (y .said)) (set latest up (y .latest)) (set lowest up (y .lowest)) p)
+            here p l e =
+                let w = so p l in
+                let t = noted-child ps p q (noteIn said latest lowest p) w (child-is u p ∙ eq-eqb up p e) in
+                let z : y ≡ heardBy (noteIn said latest lowest p) (noteOf (at ps q)) q = rw (← e) (rw (ey, ex, ef)) in
+                rw (e, getD-set-same said p (y .said) 0 (omega arith), getD-set-same latest p (y .latest) 0 (omega arith), getD-set-same lowest p (y .lowest) 0 (omega arith)) (rw z t)
+
+            there : (p : ℕ) → p < n → up ≢ p → Noted ps p q (noteIn (set said up (y .said)) (set latest up (y .latest)) (set lowest up (y .lowest)) p)
+            there p l ne =
+                let on : p ≢ up = λ z. ne (sym z) in
+                rw (getD-set-other said up p (y .said) 0 on, getD-set-other latest up p (y .latest) 0 on, getD-set-other lowest up p (y .lowest) 0 on)
+                (noted-other ps p q (noteIn said latest lowest p) (so p l) (child-is u p ∙ ne-eqb up p ne))
+
+        pub all-kept : q ≤ up → AllNoted ps n q said latest lowest
+        unfolding AllNoted
+        all-kept u p l = noted-other ps p q (noteIn said latest lowest p) (so p l) (nobody (eqb q 0) refl)
+          where
+            nobody : (b : Bool) → eqb q 0 ≡ b → isChild ps p q ≡ false
+            nobody true e = unfold isChild in rw e
+            nobody false e = let v : at ps q .parent < q = falls q (omega arith) (eqb-false q 0 e) in absurd (omega arith)
+
+module _ (ps : List Process) (n q : ℕ) (said latest lowest : List ℕ) where
+  pub all-less : 0 < q → AllNoted ps n q said latest lowest → AllNoted ps n (suc (q - 1)) said latest lowest
+  all-less h so = let e : suc (q - 1) ≡ q = omega arith in rw e so
+
+  pub all-end : q ≡ 0 → AllNoted ps n q said latest lowest → AllNoted ps n 0 said latest lowest
+  all-end e so = rw e at so
+
+-- ---- the lowest that can move
+
+-- what was found from row q on, and the rows below q, give what all give
+abbrev pub Kept : (ℕ → Bool) → ℕ → ℕ → Found → Type 0
+Kept f n q b = orElse (lowest f q) b ≡ lowest f n
+
+kept-by : (g b : Found) (c : Bool) (q : ℕ) → orElse g (cond c (At q) b) ≡ orElse (orElse g (cond c (At q) Nothing)) b
+kept-by (At i) b c q = refl
+kept-by Nothing b true q = refl
+kept-by Nothing b false q = refl
+
+module _ (f : ℕ → Bool) (n : ℕ) where
+  kept-start : Kept f n n Nothing
+  kept-start = or-nothing (lowest f n)
+
+  kept-next : (q : ℕ) (b : Found) → Kept f n (suc q) b → {c : Bool} → c ≡ f q → Kept f n q (cond c (At q) b)
+  unfolding lowest
+  kept-next q b so {c} e = kept-by (lowest f q) b c q ∙ rw e so
+
+  kept-end : (b : Found) → Kept f n 0 b → b ≡ lowest f n
+  unfolding lowest
+  kept-end b so = so
+
+-- the search so far, whatever the program: behind the last, and of all
+abbrev pub Searched : State → ℕ → ℕ → ℕ → Found → Found → Type 0
+Searched st n last q behind round = (pr : Program) → Kept (λ i. ltb last i && canMove pr st i) n q behind × Kept (canMove pr st) n q round
+
+module _ (st : State) (n last : ℕ) where
+  pub search-start : Searched st n last n Nothing Nothing
+  search-start pr = (kept-start (λ i. ltb last i && canMove pr st i) n, kept-start (canMove pr st) n)
+
+  pub search-next : (q : ℕ) (b r : Found) → 0 < q → Searched st n last q b r → {can c : Bool} → ((pr : Program) → can ≡ canMove pr st (q - 1)) → c ≡ (ltb last (q - 1) && can)
+      → {b′ r′ : Found} → b′ ≡ cond c (At (q - 1)) b → r′ ≡ cond can (At (q - 1)) r → Searched st n last (q - 1) b′ r′
+  search-next q b r h so {can} {c} is ec eb er pr =
+      let e : suc (q - 1) ≡ q = omega arith in
+      let (u, v) : Kept (λ i. ltb last i && canMove pr st i) n (suc (q - 1)) b × Kept (canMove pr st) n (suc (q - 1)) r = rw e (so pr) in
+      let w : c ≡ (ltb last (q - 1) && canMove pr st (q - 1)) = rw (← is pr) ec in (
+        rw eb (kept-next (λ i. ltb last i && canMove pr st i) n (q - 1) b u w),
+        rw er (kept-next (canMove pr st) n (q - 1) r v (is pr)),
+      )
+
+  pub search-end : (q : ℕ) (b r : Found) → q ≡ 0 → Searched st n last q b r → {f : Found} → f ≡ orElse b r → (pr : Program) → f ≡ turnOf (canMove pr st) n last
+  unfolding turnOf
+  search-end q b r e so ef pr =
+      let (u, v) : Kept (λ i. ltb last i && canMove pr st i) n 0 b × Kept (canMove pr st) n 0 r = rw e at (so pr) in
+      rw (← kept-end (λ i. ltb last i && canMove pr st i) n b u, ← kept-end (canMove pr st) n r v) ef
+
+-- whose turn it is stands in the table
+pub turn-there : (f : ℕ → Bool) (n last : ℕ) {p : ℕ} → turnOf f n last ≡ At p → p < n
+unfolding turnOf
+turn-there f n last {p} e = go (lowest (λ i. ltb last i && f i) n) refl e
+  where
+    go : (g : Found) → lowest (λ i. ltb last i && f i) n ≡ g → orElse g (lowest f n) ≡ At p → p < n
+    go (At q) w z = lowest-at (λ i. ltb last i && f i) n p (w ∙ z) .there
+    go Nothing w z = lowest-at f n p z .there
+
+-- ---- what the children of the process that was found report
+
+pub asks-nothing : {f : Found} → f ≡ Nothing → {X : Type 0} {p : ℕ} → f ≡ At p → X
+asks-nothing a b = let z : _≡_ {A = ℕ} 0 1 = cc in absurd (omega arith)
+
+module _ (ps : List Process) (n : ℕ) (said latest lowest : List ℕ) (so : AllNoted ps n 0 said latest lowest) {f : Found} (there : (p : ℕ) → f ≡ At p → p < n) where
+  pub asks-told : {c : ℕ} → f ≡ At c → {x : Note} {t : Told} → x ≡ noteIn said latest lowest c → ((p : ℕ) → Noted ps p 0 x → Tells ps p t) → (p : ℕ) → f ≡ At p → Tells ps p t
+  unfolding AllNoted
+  asks-told {c} a {x} {t} ex told p b =
+      let e : c ≡ p = cc in
+      told p (rw ex (rw e (so p (there p b))))
