@@ -1,0 +1,75 @@
+-- One law for each way through the code.
+use mathlib.Core.Path.{_≡_, refl}
+use mathlib.Core.Bool.{Bool, cond, false, true}
+use mathlib.Core.List.{List}
+use Prim.Native.Nat.{_-_, _<_, suc, ℕ}
+use lib.Dec.{eqb}
+use borrow.Author.Tests.{eq-eqb, ne-eqb}
+use native.Mathlib.Omega.{arith}
+use Rattle.children.specs.Notes.{firstHeard, heardIn, Noted, noteOf}
+use Rattle.children.specs.declared.Note.{Note}
+use Rattle.parlog.specs.Codes.{failure, success}
+use Rattle.parlog.specs.Tables.{at}
+use Rattle.parlog.specs.Tree.{bad, good, Heard, heardFrom, reports, silent}
+use Rattle.parlog.specs.declared.Process.{Process}
+
+-- ---- what a process tells its parent
+
+module _ (x : Process) {m : ℕ} (em : m ≡ x .mode) where
+  pub note-none : (m ≡ 4 → ⊥) → 1 ≡ noteOf x
+  unfolding noteOf reports
+  note-none h = rw (← em, ne-eqb m 4 h)
+
+  module _ (h : m ≡ 4) {v : ℕ} (ev : v ≡ x .result) where
+    pub note-good : v ≡ 1 → 10 ≡ noteOf x
+    unfolding noteOf reports
+    note-good e = rw (← em, ← ev, h, e)
+
+    pub note-bad : v ≡ 2 → 12 ≡ noteOf x
+    unfolding noteOf reports
+    note-bad e = rw (← em, ← ev, h, e)
+
+    pub note-unknown : (v ≡ 1 → ⊥) → (v ≡ 2 → ⊥) → 1 ≡ noteOf x
+    unfolding noteOf reports
+    note-unknown a b = rw (← em, ← ev, h, ne-eqb v 1 a, ne-eqb v 2 b)
+
+-- ---- what a note says of one process
+
+heard-as : (a b : Bool) (c : ℕ) → cond a (good c) (cond b (bad c) silent) ≡ cond (eqb (cond a 10 (cond b 12 1)) 10) (good c) (cond (eqb (cond a 10 (cond b 12 1)) 12) (bad c) silent)
+heard-as true b c = refl
+heard-as false true c = refl
+heard-as false false c = refl
+
+module _ (x : Process) (c : ℕ) {f : ℕ} (ef : f ≡ noteOf x) where
+  heard-by : heardIn x c ≡ cond (eqb f 10) (good c) (cond (eqb f 12) (bad c) silent)
+  unfolding noteOf
+  heard-by = rw ef (heard-as (reports success x) (reports failure x) c)
+
+  pub heard-good : f ≡ 10 → good c ≡ heardIn x c
+  heard-good e = rw (heard-by, e)
+
+  pub heard-bad : (f ≡ 10 → ⊥) → f ≡ 12 → bad c ≡ heardIn x c
+  heard-bad a e = rw (heard-by, e)
+
+  pub heard-silent : (f ≡ 10 → ⊥) → (f ≡ 12 → ⊥) → silent ≡ heardIn x c
+  heard-silent a b = rw (heard-by, ne-eqb f 10 a, ne-eqb f 12 b)
+
+-- ---- the first that was heard
+
+module _ (ps : List Process) (x : Note) where
+  pub first-none : x .said ≡ 0 → silent ≡ heardFrom ps (firstHeard x)
+  unfolding heardFrom
+  first-none e = rw e
+
+  pub first-some : (x .said ≡ 0 → ⊥) → {h : Heard} {c : ℕ} → c ≡ x .latest → h ≡ heardIn (at ps c) c → h ≡ heardFrom ps (firstHeard x)
+  unfolding heardFrom
+  first-some ne ec e = rw (ne-eqb (x .said) 0 ne, ← ec) e
+
+-- ---- the pass
+
+-- the row before
+pub noted-less : (ps : List Process) (p q : ℕ) (x : Note) → 0 < q → Noted ps p q x → Noted ps p (suc (q - 1)) x
+noted-less ps p q x h so = let e : suc (q - 1) ≡ q = omega arith in rw e so
+
+pub noted-end : (ps : List Process) (p q : ℕ) (x : Note) → q ≡ 0 → Noted ps p q x → Noted ps p 0 x
+noted-end ps p q x e so = rw e at so

@@ -1,0 +1,11 @@
+use Rattle.children.proofs.Ways.{first-none, first-some}
+use borrow.Author.Needs.{needs}
+use Rattle.children.proofs.heard.Statement.{statement}
+use Rattle.children.proofs.heard.Tie as tie
+use Rattle.children.proofs.heard.Reads as reads
+use Rattle.children.proofs.heard.Lts as lts
+use Rattle.children.proofs.heard_from.Reads as heard-from-reads
+use Rattle.children.proofs.wide.Reads as wide-reads
+
+pub heard-spec : {M : Type 1} → statement M
+heard-spec = tie.close (tie.spec (λ c. first-none _ (c .before .before .before .args .x) (c .if1 .taken)) (λ c κs. search needs) (λ c κs. search needs) (λ c. first-some _ (c .before .before .before .before .before .args .x) (c .before .before .if1 .left) (c .before .wide .ensures) (c .heard-from .ensures)))

@@ -1,0 +1,70 @@
+-- What is noted of the children of a process while the rows are passed from the last down: 1 one reports nothing, 2 one success, 4 one failure, 8 the latest reports; 0 none was heard.
+use mathlib.Core.Path.{_≡_}
+use mathlib.Core.Bool.{_&&_, _||_, Bool, cond, false, not}
+use mathlib.Core.List.{List}
+use Prim.Native.Nat.{_%_, _/_, _<_, ℕ}
+use lib.Dec.{eqb}
+use lib.Bits.{bitAnd, bitOr}
+use Rattle.children.specs.declared.Note.{Note}
+use Rattle.parlog.specs.Codes.{failure, success}
+use Rattle.parlog.specs.Scan.{every, highest, lowest, orElse, some}
+use Rattle.parlog.specs.Tables.{at}
+use Rattle.parlog.specs.Tree.{allChildren, anyChild, bad, childDone, childReports, good, Heard, isChild, latest, lowestChild, reports, silent}
+use Rattle.parlog.specs.declared.Found.{Found}
+use Rattle.parlog.specs.declared.Found.the-variants.{At, Nothing}
+use Rattle.parlog.specs.declared.Process.{Process}
+
+-- ---- a note
+
+-- what one child says
+unfoldable pub noteOf : Process → ℕ
+noteOf x = cond (reports success x) 10 (cond (reports failure x) 12 1)
+
+-- what was said, and f; who is heard first is the latest
+unfoldable pub hear : ℕ → ℕ → ℕ
+hear s f = cond (eqb s 0) f (bitOr s (bitAnd f 7))
+
+-- the note after process q, that says f
+abbrev pub heardBy : Note → ℕ → ℕ → Note
+heardBy x f q = record { said = hear (x .said) f; latest = cond (eqb (x .said) 0) q (x .latest); lowest = cond (eqb f 10) q (x .lowest) }
+
+-- what was said
+abbrev pub someGood : ℕ → Bool
+someGood s = eqb (s / 2 % 2) 1
+
+abbrev pub someBad : ℕ → Bool
+someBad s = eqb (s / 4 % 2) 1
+
+abbrev pub noneSilent : ℕ → Bool
+noneSilent s = eqb (s % 2) 0
+
+abbrev pub latestIn : ℕ → Bool
+latestIn s = eqb (s / 8 % 2) 1
+
+-- c, where this holds
+abbrev pub foundBy : Bool → ℕ → Found
+foundBy b c = cond b (At c) Nothing
+
+-- the first that was heard
+abbrev pub firstHeard : Note → Found
+firstHeard x = foundBy (not (eqb (x .said) 0)) (x .latest)
+
+-- what process c has reported, whose row is x
+abbrev pub heardIn : Process → ℕ → Heard
+heardIn x c = cond (reports success x) (good c) (cond (reports failure x) (bad c) silent)
+
+-- process c has reported
+abbrev pub spoke : List Process → ℕ → Bool
+spoke ps c = reports success (at ps c) || reports failure (at ps c)
+
+-- ---- the pass
+
+-- the rows from q on were heard: the note of p and the rows below q tell together what all tell
+pub record Noted (ps : List Process) (p q : ℕ) (x : Note) : Type 0 where
+  pub small : x .said < 16
+  pub failed : (some (childReports failure ps p) q || someBad (x .said)) ≡ anyChild failure ps p
+  pub succeeded : (every (childDone success ps p) q && (not (someBad (x .said)) && noneSilent (x .said))) ≡ allChildren success ps p
+  pub hopeless : (every (childDone failure ps p) q && (not (someGood (x .said)) && noneSilent (x .said))) ≡ allChildren failure ps p
+  pub lowest : orElse (lowest (childReports success ps p) q) (foundBy (someGood (x .said)) (x .lowest)) ≡ lowestChild success ps p
+  pub latest : orElse (firstHeard x) (highest (isChild ps p) q) ≡ latest ps p
+  pub told : latestIn (x .said) ≡ (not (eqb (x .said) 0) && spoke ps (x .latest))
