@@ -4,13 +4,15 @@ ghost use mathlib.Core.Logic.{_≢_};
 ghost use mathlib.Core.List.{List};
 ghost use Prim.Native.Nat.{_*_, _≤_, _<_};
 ghost use lib.ListN.{length};
+ghost use Rattle.children.specs.Telling.{Tells};
 ghost use Rattle.parlog.specs.Codes.{tagOf};
 ghost use Rattle.parlog.specs.Program.{programOf, stageAt};
 ghost use Rattle.parlog.specs.Rules.{blockAt, ruleOf, startRule, waitRule};
-ghost use Rattle.parlog.specs.Tables.{procsOf, State, varsIn};
+ghost use Rattle.parlog.specs.Tables.{at, procsOf, State, varsIn};
 ghost use Rattle.parlog.specs.declared.Binding.{Binding};
 ghost use Rattle.plan.specs.Plans.{appliedOf, stateIn, Within};
 ghost use Rattle.moves.specs.Legal.{Able, Legal};
+use children::Told;
 use parlog::Process;
 use plan::Plan;
 
@@ -71,24 +73,25 @@ fn wait_rule(
     n: usize,
     p: usize,
     x: Process,
+    told: Told,
 ) -> Plan
-    requires { ⌜ (rels ≤ 32) × (clauses ≤ 64) × (n * 24 ≤ length (now procs)) × (n ≤ 65535) × (p < n) × (x .tag < 9) × (x .tag ≡ 1 → x .spot .stage < 255) × (x .tag ≡ 3 → x .spot .block < 255) ⌝ }
+    requires { ⌜ (rels ≤ 32) × (clauses ≤ 64) × (n * 24 ≤ length (now procs)) × (n ≤ 65535) × (p < n) × (x .tag < 9) × (x .tag ≡ 1 → x .spot .stage < 255) × (x .tag ≡ 3 → x .spot .block < 255) × Tells (procsOf (now procs) n) p told ⌝ }
     ensures { λ r. ⌜ ((vs : List Binding) → appliedOf r ≡ waitRule (tagOf (x .tag)) (programOf (now (image .entry)) rels clauses) (record { procs = procsOf (now (procs .entry)) n; vars = vs }) p x) × (r .count ≤ 12) × (r .changes .count ≡ 0) ⌝ }
 {
     let t = x.tag;
     match t {
-        0 => rules_and::wait_and_par(procs, n, p, x),
-        1 => rules_and::wait_and_seq(procs, n, p, x),
-        2 => rules_or::wait_or_par(image, rels, clauses, procs, n, p, x),
-        3 => rules_or::wait_seq_search(image, rels, clauses, procs, n, p, x),
-        4 => rules_or::wait_or_search(procs, n, p, x),
-        5 => rules_and::wait_try_clause(procs, n, p, x),
-        7 => rules_and::wait_guard_eval(procs, n, p, x),
+        0 => rules_and::wait_and_par(told, p, x),
+        1 => rules_and::wait_and_seq(told, p, x),
+        2 => rules_or::wait_or_par(image, rels, clauses, procs, n, p, x, told),
+        3 => rules_or::wait_seq_search(image, rels, clauses, procs, n, p, x, told),
+        4 => rules_or::wait_or_search(procs, n, p, x, told),
+        5 => rules_and::wait_try_clause(told, p, x),
+        7 => rules_and::wait_guard_eval(told, p, x),
         _ => plan::none(),
     }
 }
 
-// The rule that applies to process p, as a plan.
+// The rule that applies to process p, as a plan; one that waits has to be told of its children.
 pub fn rule_of(
     image: &[u8],
     rels: usize,
@@ -98,8 +101,9 @@ pub fn rule_of(
     vars: &[u8],
     m: usize,
     p: usize,
+    told: Told,
 ) -> Plan
-    requires { ⌜ (rels ≤ 32) × (clauses ≤ 64) × (n * 24 ≤ length (now procs)) × (n ≤ 65535) × (m * 4 ≤ length (now vars)) × (m ≤ 60000) × (p < n) × Legal (programOf (now image) rels clauses) (stateIn (now procs) n (now vars) m) p ⌝ }
+    requires { ⌜ (rels ≤ 32) × (clauses ≤ 64) × (n * 24 ≤ length (now procs)) × (n ≤ 65535) × (m * 4 ≤ length (now vars)) × (m ≤ 60000) × (p < n) × Legal (programOf (now image) rels clauses) (stateIn (now procs) n (now vars) m) p × (at (procsOf (now procs) n) p .mode ≡ 3 → Tells (procsOf (now procs) n) p told) ⌝ }
     ensures { λ r. ⌜ (appliedOf r ≡ ruleOf (programOf (now (image .entry)) rels clauses) (stateIn (now (procs .entry)) n (now (vars .entry)) m) p) × (r .count ≤ 12) × (r .changes .count ≤ 4) × Within m (r .changes .count) (r .changes .list) ⌝ }
 {
     let x = rows::get(procs, n, p);
@@ -108,7 +112,7 @@ pub fn rule_of(
         0 => plan::none(),
         1 => rules_and::ready(p, x),
         2 => start_rule(image, rels, clauses, procs, n, vars, m, p, x),
-        3 => wait_rule(image, rels, clauses, procs, n, p, x),
+        3 => wait_rule(image, rels, clauses, procs, n, p, x, told),
         4 => rules_and::stop(p, x),
         _ => rules_match::wake(vars, m, p, x),
     }

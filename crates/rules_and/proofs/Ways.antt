@@ -7,6 +7,9 @@ use lib.ListN.{getD, length}
 use borrow.Author.Tests.{le-ltb, lt-ltb}
 use native.Mathlib.Omega.{arith}
 use native.Mathlib.Numerals.{add-one}
+use Rattle.children.specs.Telling.{heardOf}
+use Rattle.children.specs.declared.News.{News}
+use Rattle.children.specs.declared.News.the-variants.{Bad, Good, Silent}
 use Rattle.parlog.specs.Codes.{and-par, and-seq, dormant, failure, guard-eval, input-match, kindCode, kindOf, modeCode, ready, starting, success, tagCode, the-guard, try-clause, waiting}
 use Rattle.parlog.specs.Delta.{atStage, guardSpot, literalSpot, making, only, report, trySpot, withMode, withSpot}
 use Rattle.parlog.specs.Program.{clauseAt, Goal, goalAt, goalBy, Literal, literalAt, noLiteral, Program, stageAt, tagOfGoal, tagOfLiteral, tagOfStage}
@@ -22,9 +25,6 @@ use Rattle.plan.specs.Plans.{Born, Of}
 use Rattle.rows.proofs.Tables.{procs-length, procs-none}
 use Rattle.rules_and.proofs.Children.{touches}
 use Rattle.rules_and.specs.Says.{nextStage, Readies, Starts, touched, Waits}
-use Rattle.tree.specs.Family.{heardOf}
-use Rattle.tree.specs.declared.News.{News}
-use Rattle.tree.specs.declared.News.the-variants.{Bad, Good, Silent}
 
 -- ---- ready and stop
 

@@ -1,8 +1,9 @@
 // The rules of the conjunctions, of a tried clause and of its guard, with ready and stop: each only reads, and answers a plan.
 ghost use mathlib.Core.Path.{_≡_};
-ghost use mathlib.Core.List.{[], _∷_};
+ghost use mathlib.Core.List.{[], _∷_, List};
 ghost use Prim.Native.Nat.{_*_, _≤_, _<_};
 ghost use lib.ListN.{length};
+ghost use Rattle.children.specs.Telling.{Tells};
 ghost use Rattle.parlog.specs.Codes.{and-par, and-seq, guard-eval, try-clause};
 ghost use Rattle.parlog.specs.Delta.{making};
 ghost use Rattle.parlog.specs.Program.{Program, programOf, stageAt};
@@ -11,14 +12,16 @@ ghost use Rattle.parlog.specs.Scan.{build};
 ghost use Rattle.parlog.specs.Tables.{procsOf};
 ghost use Rattle.parlog.specs.declared.Found.the-variants.{At, Nothing};
 ghost use Rattle.parlog.specs.declared.Move.the-variants.{AndSeqNext};
+ghost use Rattle.parlog.specs.declared.Process.{Process};
 ghost use Rattle.plan.specs.Plans.{appliedOf};
 ghost use Rattle.rules_and.specs.Says.{nextStage, Readies, Starts, touched, Waits};
+use children::News;
+use children::Told;
 use parlog::Found;
 use parlog::Move;
 use parlog::Process;
 use parlog::Spot;
 use plan::Plan;
-use tree::News;
 
 // A ready process is about to start next.
 pub fn ready(p: usize, x: Process) -> Plan
@@ -117,14 +120,13 @@ pub fn start_and_par(
 }
 
 // One failure decides, else all must succeed.
-pub fn wait_and_par(procs: &[u8], n: usize, p: usize, x: Process) -> Plan
-    requires { ⌜ n * 24 ≤ length (now procs) ⌝ }
-    ensures { λ r. ⌜ Waits and-par (procsOf (now (procs .entry)) n) p x (appliedOf r) × (r .count ≤ 12) × (r .changes .count ≡ 0) ⌝ }
+pub fn wait_and_par(told: Told, p: usize, x: Process) -> Plan
+    ensures { λ r. ⌜ ((ps : List Process) → Tells ps p told → Waits and-par ps p x (appliedOf r)) × (r .count ≤ 12) × (r .changes .count ≡ 0) ⌝ }
 {
-    if tree::any_failed(procs, n, p) {
+    if told.failed {
         return plan::report(Move::AndParFailure(p), 2, x);
     }
-    if tree::all_succeeded(procs, n, p) {
+    if told.succeeded {
         return plan::report(Move::AndParSuccess(p), 1, x);
     }
     plan::none()
@@ -178,11 +180,11 @@ fn pass_stage(p: usize, x: Process, c: usize) -> Plan
 }
 
 // Goes on to the stage behind, or fails with its stage.
-pub fn wait_and_seq(procs: &[u8], n: usize, p: usize, x: Process) -> Plan
-    requires { ⌜ (n * 24 ≤ length (now procs)) × (x .spot .stage < 255) ⌝ }
-    ensures { λ r. ⌜ Waits and-seq (procsOf (now (procs .entry)) n) p x (appliedOf r) × (r .count ≤ 12) × (r .changes .count ≡ 0) ⌝ }
+pub fn wait_and_seq(told: Told, p: usize, x: Process) -> Plan
+    requires { ⌜ x .spot .stage < 255 ⌝ }
+    ensures { λ r. ⌜ ((ps : List Process) → Tells ps p told → Waits and-seq ps p x (appliedOf r)) × (r .count ≤ 12) × (r .changes .count ≡ 0) ⌝ }
 {
-    let news = tree::heard(procs, n, p);
+    let news = told.latest;
     match news {
         News::Silent => plan::none(),
         News::Good(c) => pass_stage(p, x, c),
@@ -207,14 +209,13 @@ pub fn start_try_clause(n: usize, p: usize, x: Process) -> Plan
 }
 
 // Both must succeed.
-pub fn wait_try_clause(procs: &[u8], n: usize, p: usize, x: Process) -> Plan
-    requires { ⌜ n * 24 ≤ length (now procs) ⌝ }
-    ensures { λ r. ⌜ Waits try-clause (procsOf (now (procs .entry)) n) p x (appliedOf r) × (r .count ≤ 12) × (r .changes .count ≡ 0) ⌝ }
+pub fn wait_try_clause(told: Told, p: usize, x: Process) -> Plan
+    ensures { λ r. ⌜ ((ps : List Process) → Tells ps p told → Waits try-clause ps p x (appliedOf r)) × (r .count ≤ 12) × (r .changes .count ≡ 0) ⌝ }
 {
-    if tree::any_failed(procs, n, p) {
+    if told.failed {
         return plan::report(Move::TryClauseFailure(p), 2, x);
     }
-    if tree::all_succeeded(procs, n, p) {
+    if told.succeeded {
         return plan::report(Move::TryClauseSuccess(p), 1, x);
     }
     plan::none()
@@ -247,11 +248,10 @@ pub fn start_guard_eval(
 }
 
 // Tells what the guard tells.
-pub fn wait_guard_eval(procs: &[u8], n: usize, p: usize, x: Process) -> Plan
-    requires { ⌜ n * 24 ≤ length (now procs) ⌝ }
-    ensures { λ r. ⌜ Waits guard-eval (procsOf (now (procs .entry)) n) p x (appliedOf r) × (r .count ≤ 12) × (r .changes .count ≡ 0) ⌝ }
+pub fn wait_guard_eval(told: Told, p: usize, x: Process) -> Plan
+    ensures { λ r. ⌜ ((ps : List Process) → Tells ps p told → Waits guard-eval ps p x (appliedOf r)) × (r .count ≤ 12) × (r .changes .count ≡ 0) ⌝ }
 {
-    let news = tree::heard(procs, n, p);
+    let news = told.latest;
     match news {
         News::Silent => plan::none(),
         News::Good(_) => plan::report(Move::GuardEvalSuccess(p), 1, x),

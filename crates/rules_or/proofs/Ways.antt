@@ -8,6 +8,9 @@ use lib.ListN.{length}
 use borrow.Author.Tests.{eq-eqb, le-ltb, lt-ltb, ne-eqb}
 use native.Mathlib.Omega.{arith}
 use native.Mathlib.Numerals.{add-one}
+use Rattle.children.specs.Telling.{heardOf}
+use Rattle.children.specs.declared.News.{News}
+use Rattle.children.specs.declared.News.the-variants.{Bad, Good, Silent}
 use Rattle.parlog.specs.Codes.{failure, isTag, kindCode, kindOf, modeCode, or-par, or-search, reporting, resultCode, seq-search, starting, success, tagCode, the-body, waiting}
 use Rattle.parlog.specs.Delta.{atBlock, blockSpot, callSpot, making, report, withClause, withMode, withSpot}
 use Rattle.parlog.specs.Program.{blockCount, clauseAt, committedBody, goalBy, literalAt, Program, tagOfGoal}
@@ -26,9 +29,6 @@ use Rattle.prog.specs.Parts.{shown}
 use Rattle.prog.specs.declared.Lit.{Lit}
 use Rattle.rows.proofs.Tables.{procs-length, procs-none, table-rows}
 use Rattle.rows.specs.Rows.{Table}
-use Rattle.tree.specs.Family.{heardOf}
-use Rattle.tree.specs.declared.News.{News}
-use Rattle.tree.specs.declared.News.the-variants.{Bad, Good, Silent}
 
 -- ---- what the rules share
 
@@ -158,21 +158,21 @@ module _ (pr : Program) (l : List ℕ) (n : ℕ) (vs : List Binding) (p : ℕ) (
 
 -- ---- or-search waiting
 
-module _ (ps : List Process) (p : ℕ) (x : Process) {a : Applied} where
-  module _ (s : State) {b : Bool} (eb : b ≡ allChildren failure ps p) where
-    pub all-fail : b ≡ true → Of resultCode 2 (λ t. by-rule (OrSearchFailure p) (report t x)) a → a ≡ orSearchWait Nothing (allChildren failure ps p) s p x
+module _ (p : ℕ) (x : Process) {a : Applied} where
+  module _ (s : State) {b : Bool} where
+    pub all-fail : b ≡ true → Of resultCode 2 (λ t. by-rule (OrSearchFailure p) (report t x)) a → a ≡ orSearchWait Nothing b s p x
     unfolding orSearchWait
-    all-fail h ea = rw (← eb, h) (ea failure refl)
+    all-fail h ea = rw h (ea failure refl)
 
-    pub some-try : b ≡ false → a ≡ no-rule → a ≡ orSearchWait Nothing (allChildren failure ps p) s p x
+    pub some-try : b ≡ false → a ≡ no-rule → a ≡ orSearchWait Nothing b s p x
     unfolding orSearchWait
-    some-try h ea = rw (← eb, h) ea
+    some-try h ea = rw h ea
 
-  module _ (pr : Program) (vs : List Binding) {f : Found} (ef : f ≡ lowestChild success ps p) where
-    pub none-first : f ≡ Nothing → ((s : State) → a ≡ orSearchWait Nothing (allChildren failure ps p) s p x)
+  module _ (ps : List Process) (pr : Program) (vs : List Binding) {f : Found} (ef : f ≡ lowestChild success ps p) where
+    pub none-first : {b : Bool} → b ≡ allChildren failure ps p → f ≡ Nothing → ((s : State) → a ≡ orSearchWait Nothing b s p x)
         → a ≡ waitRule or-search pr (record { procs = ps; vars = vs }) p x
     unfolding waitRule
-    none-first e ea = rw (← ef, e) (ea (record { procs = ps; vars = vs }))
+    none-first eb e ea = rw (← ef, e, ← eb) (ea (record { procs = ps; vars = vs }))
 
     pub first-commits : {c : ℕ} → f ≡ At c → a ≡ by-rule (OrSearchCommit p) (report success (withFound (record { procs = ps; vars = vs }) c x))
         → a ≡ waitRule or-search pr (record { procs = ps; vars = vs }) p x

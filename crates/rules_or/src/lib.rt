@@ -4,22 +4,23 @@ ghost use mathlib.Core.List.{[], _∷_, _++_, List};
 ghost use Prim.Native.Nat.{_+_, _*_, _≤_, _<_, suc};
 ghost use lib.Dec.{ltb};
 ghost use lib.ListN.{getD, length};
-ghost use Rattle.parlog.specs.Codes.{failure, isTag, or-par, or-search, ready, seq-search, success, try-clause};
+ghost use Rattle.children.specs.Telling.{Tells};
+ghost use Rattle.parlog.specs.Codes.{isTag, or-par, or-search, ready, seq-search, success, try-clause};
 ghost use Rattle.parlog.specs.Delta.{making, report, trySpot};
 ghost use Rattle.parlog.specs.Program.{blockCount, blockOf, literalAt, Program, programOf, varsOf};
 ghost use Rattle.parlog.specs.Rules.{blockAt, bodyChild, by-rule, orParHeard, orSearchWait, searching, seqSearchNext, startRule, tries, triesVars, waitRule, withFound};
 ghost use Rattle.parlog.specs.Tables.{at, newProcess, procsOf, State};
-ghost use Rattle.parlog.specs.Tree.{allChildren};
 ghost use Rattle.parlog.specs.declared.Binding.{Binding};
 ghost use Rattle.parlog.specs.declared.Found.the-variants.{Nothing};
 ghost use Rattle.plan.specs.Plans.{appliedOf};
 ghost use Rattle.rows.specs.Rows.{Table};
+use children::News;
+use children::Told;
 use parlog::Found;
 use parlog::Move;
 use parlog::Process;
 use parlog::Spot;
 use plan::Plan;
-use tree::News;
 
 // ---- what the rules share
 
@@ -110,11 +111,12 @@ pub fn wait_or_par(
     n: usize,
     p: usize,
     x: Process,
+    told: Told,
 ) -> Plan
-    requires { ⌜ (rels ≤ 32) × (clauses ≤ 64) × (n * 24 ≤ length (now procs)) × (n ≤ 65535) × (p < n) ⌝ }
+    requires { ⌜ (rels ≤ 32) × (clauses ≤ 64) × (n * 24 ≤ length (now procs)) × (n ≤ 65535) × (p < n) × Tells (procsOf (now procs) n) p told ⌝ }
     ensures { λ r. ⌜ ((vs : List Binding) → appliedOf r ≡ waitRule or-par (programOf (now (image .entry)) rels clauses) (record { procs = procsOf (now (procs .entry)) n; vars = vs }) p x) × (r .count ≤ 12) × (r .changes .count ≡ 0) ⌝ }
 {
-    let h = tree::heard(procs, n, p);
+    let h = told.latest;
     match h {
         News::Silent => plan::none(),
         News::Good(c) => or_par_heard(image, rels, clauses, procs, n, p, x, c),
@@ -197,11 +199,12 @@ pub fn wait_seq_search(
     n: usize,
     p: usize,
     x: Process,
+    told: Told,
 ) -> Plan
-    requires { ⌜ (rels ≤ 32) × (clauses ≤ 64) × (n * 24 ≤ length (now procs)) × (n ≤ 65535) × (p < n) × (x .spot .block < 255) ⌝ }
+    requires { ⌜ (rels ≤ 32) × (clauses ≤ 64) × (n * 24 ≤ length (now procs)) × (n ≤ 65535) × (p < n) × (x .spot .block < 255) × Tells (procsOf (now procs) n) p told ⌝ }
     ensures { λ r. ⌜ ((vs : List Binding) → appliedOf r ≡ waitRule seq-search (programOf (now (image .entry)) rels clauses) (record { procs = procsOf (now (procs .entry)) n; vars = vs }) p x) × (r .count ≤ 12) × (r .changes .count ≡ 0) ⌝ }
 {
-    let h = tree::heard(procs, n, p);
+    let h = told.latest;
     match h {
         News::Silent => plan::none(),
         News::Good(c) => commit(Move::SeqSearchSuccess(p), procs, n, c, x),
@@ -306,24 +309,23 @@ pub fn start_or_search(
 }
 
 // No child tells success: fails if all tell failure.
-fn or_search_none(procs: &[u8], n: usize, p: usize, x: Process) -> Plan
-    requires { ⌜ n * 24 ≤ length (now procs) ⌝ }
-    ensures { λ r. ⌜ ((s : State) → appliedOf r ≡ orSearchWait Nothing (allChildren failure (procsOf (now (procs .entry)) n) p) s p x) × (r .count ≤ 12) × (r .changes .count ≡ 0) ⌝ }
+fn or_search_none(hopeless: bool, p: usize, x: Process) -> Plan
+    ensures { λ r. ⌜ ((s : State) → appliedOf r ≡ orSearchWait Nothing hopeless s p x) × (r .count ≤ 12) × (r .changes .count ≡ 0) ⌝ }
 {
-    if tree::all_failed(procs, n, p) {
+    if hopeless {
         return plan::report(Move::OrSearchFailure(p), 2, x);
     }
     plan::none()
 }
 
 // Commits to the first clause that succeeds.
-pub fn wait_or_search(procs: &[u8], n: usize, p: usize, x: Process) -> Plan
-    requires { ⌜ (n * 24 ≤ length (now procs)) × (n ≤ 65535) × (p < n) ⌝ }
+pub fn wait_or_search(procs: &[u8], n: usize, p: usize, x: Process, told: Told) -> Plan
+    requires { ⌜ (n * 24 ≤ length (now procs)) × (n ≤ 65535) × (p < n) × Tells (procsOf (now procs) n) p told ⌝ }
     ensures { λ r. ⌜ ((pr : Program) (vs : List Binding) → appliedOf r ≡ waitRule or-search pr (record { procs = procsOf (now (procs .entry)) n; vars = vs }) p x) × (r .count ≤ 12) × (r .changes .count ≡ 0) ⌝ }
 {
-    let f = tree::lowest_success(procs, n, p);
+    let f = told.lowest;
     let Found::At(c) = f else {
-        return or_search_none(procs, n, p, x);
+        return or_search_none(told.hopeless, p, x);
     };
     commit(Move::OrSearchCommit(p), procs, n, c, x)
 }

@@ -8,6 +8,8 @@ use lib.ListN.{length}
 use borrow.Author.Tests.{le-ltb, lt-ltb}
 use native.Mathlib.Omega.{arith}
 use native.Mathlib.Numerals.{add-one}
+use Rattle.children.specs.Telling.{Tells}
+use Rattle.children.specs.declared.Told.{Told}
 use Rattle.load.proofs.Accepted.{accepted}
 use Rattle.load.proofs.Heads.{accepted-heads}
 use Rattle.load.proofs.Sanity.{accepted-sane}
@@ -23,6 +25,7 @@ use Rattle.parlog.specs.Run.{counted, made, procsIn, stepBy, stepped, stepTable
 use Rattle.parlog.specs.Scan.{every}
 use Rattle.parlog.specs.TableRules.{cellKnown, fullSize, lentOk, stateOk, tablesOk}
 use Rattle.parlog.specs.Tables.{at, Lent, procCount, procsOf, tablesIn, varCount}
+use Rattle.parlog.specs.declared.Process.{Process}
 use Rattle.plan.proofs.Plans.{applied-none, applied-some, fits-is, fits-procs, fits-vars}
 use Rattle.plan.specs.Plans.{appliedOf, deltaOf, fitsIn, stateIn, Within}
 use Rattle.plan.specs.declared.Plan.{Plan}
@@ -32,6 +35,14 @@ use Rattle.tree.specs.Family.{Falls}
 use Rattle.vars.proofs.Tables.{vars-length}
 
 -- ---- what a mover may count on
+
+-- what is told of so many rows
+pub told-of : (l : List ℕ) (p : ℕ) {t : Told} {k n : ℕ} → n ≡ k → (at (procsOf l k) p .mode ≡ 3 → Tells (procsOf l k) p t) → at (procsOf l n) p .mode ≡ 3 → Tells (procsOf l n) p t
+told-of l p e h = rw e h
+
+-- one that does not wait need not be told
+pub not-waiting : (ps : List Process) (p : ℕ) {k : ℕ} {t : Told} → k ≡ at ps p .mode → (k ≡ 3 → ⊥) → at ps p .mode ≡ 3 → Tells ps p t
+not-waiting ps p e ne h = absurd (ne (e ∙ h))
 
 -- what fits is within the limits
 pub room-for : (n m : ℕ) (pl : Plan) {b : Bool} → b ≡ fitsIn 512 1024 n m pl → b ≡ true → (n + pl .count ≤ 512) × (m + pl .fresh ≤ 1024)

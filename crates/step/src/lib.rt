@@ -1,11 +1,16 @@
 // The step by number: the move of one process, over lent bytes.
+use children::News;
+use children::Told;
+use parlog::Found;
 use parlog::Loaded;
 use parlog::Stepped;
 ghost use mathlib.Core.Path.{_≡_};
-ghost use Prim.Native.Nat.{_<_};
+ghost use Prim.Native.Nat.{_*_, _<_, _≤_};
+ghost use lib.ListN.{length};
+ghost use Rattle.children.specs.Telling.{Tells};
 ghost use Rattle.machine.specs.Entered.{Inside};
 ghost use Rattle.parlog.specs.Run.{counted};
-ghost use Rattle.parlog.specs.Tables.{procCount};
+ghost use Rattle.parlog.specs.Tables.{at, procCount, procsOf};
 ghost use Rattle.step.specs.Stepping.{StepSays, SteppedSays};
 
 // The limits of a run.
@@ -32,13 +37,14 @@ pub fn stepped(
     procs: &mut [u8],
     vars: &mut [u8],
     p: usize,
+    told: Told,
 ) -> Stepped
-    requires { ⌜ Inside (now image) rels clauses (record { head = now head; procs = now procs; vars = now vars }) × (p < procCount (now head)) ⌝ }
+    requires { ⌜ Inside (now image) rels clauses (record { head = now head; procs = now procs; vars = now vars }) × (p < procCount (now head)) × (at (procsOf (now procs) (procCount (now head))) p .mode ≡ 3 → Tells (procsOf (now procs) (procCount (now head))) p told) ⌝ }
     ensures { λ r. ⌜ SteppedSays (now (image .entry)) rels clauses (record { head = now (head .entry); procs = now (procs .entry); vars = now (vars .entry) }) p r (now (head .exit)) (now (procs .exit)) (now (vars .exit)) ⌝ }
 {
     let n = head::proc_count(head);
     let m = head::var_count(head);
-    let plan = moves::rule_of(image, rels, clauses, procs, n, vars, m, p);
+    let plan = moves::rule_of(image, rels, clauses, procs, n, vars, m, p, told);
     if !plan.acts {
         return Stepped::Unmoved(machine::refusal(10));
     }
@@ -51,6 +57,28 @@ pub fn stepped(
     plan::write(procs, n, vars, m, p, plan);
     head::put_head(head, n + plan.count, m + plan.fresh, p, steps);
     Stepped::Moved(mv)
+}
+
+// Nothing is told.
+fn nothing() -> Told {
+    Told {
+        failed: false,
+        succeeded: false,
+        hopeless: false,
+        lowest: Found::Nothing,
+        latest: News::Silent,
+    }
+}
+
+// What process p is told of its children; only one that waits asks.
+fn ask(procs: &[u8], n: usize, p: usize) -> Told
+    requires { ⌜ (n * 24 ≤ length (now procs)) × (n ≤ 65535) ⌝ }
+    ensures { λ t. ⌜ (at (procsOf (now (procs .entry)) n) p .mode ≡ 3 → Tells (procsOf (now (procs .entry)) n) p t) ⌝ }
+{
+    if rows::mode_at(procs, n, p) == 3 {
+        return children::asked(procs, n, p);
+    }
+    nothing()
 }
 
 // The step by number.
@@ -69,8 +97,10 @@ pub fn step(
         return Stepped::Unmoved(r);
     };
     let p = process as usize;
-    if head::proc_count(head) <= p {
+    let n = head::proc_count(head);
+    if n <= p {
         return Stepped::Unmoved(machine::refusal(9));
     }
-    stepped(image, rels, clauses, head, procs, vars, p)
+    let told = ask(procs, n, p);
+    stepped(image, rels, clauses, head, procs, vars, p, told)
 }

@@ -2,7 +2,7 @@ use borrow.Author.Needs.{needs}
 use native.Mathlib.Omega.{arith}
 use Rattle.parlog.specs.Codes.{ready}
 use Rattle.rules_match.proofs.Ways.{within-none}
-use Rattle.moves.proofs.Ways.{able-there, reports, ruled, sleeps, starts, suspended-left, waits, wakes}
+use Rattle.moves.proofs.Ways.{able-there, mode-there, reports, ruled, sleeps, starts, suspended-left, waits, wakes}
 use Rattle.moves.proofs.rule_of.Statement.{statement}
 use Rattle.moves.proofs.rule_of.Tie as tie
 
@@ -14,7 +14,7 @@ rule-of-spec =
     (λ c κs. search needs)
     (λ c κs. search needs)
     (λ c κs. ((c .before .before .before .before .before .pre .0), (c .before .before .before .before .before .pre .1), (c .before .before .before .before .before .pre .2), (c .before .before .before .before .before .pre .3), (c .before .before .before .before .before .pre .4), (c .before .before .before .before .before .pre .5), (c .before .before .before .before .before .pre .6), able-there _ _ _ _ (c .before .get .ensures) (c .before .before .before .before .before .pre .7)))
-    (λ c κs. let a = able-there _ _ _ _ (c .before .get .ensures) (c .before .before .before .before .before .pre .7) in ((c .before .before .before .before .before .pre .0), (c .before .before .before .before .before .pre .1), (c .before .before .before .before .before .pre .2), (c .before .before .before .before .before .pre .3), (c .before .before .before .before .before .pre .6), a .tag, (λ e. a .stage e (c .match .keys4)), (λ e. a .block e (c .match .keys4))))
+    (λ c κs. let a = able-there _ _ _ _ (c .before .get .ensures) (c .before .before .before .before .before .pre .7) in ((c .before .before .before .before .before .pre .0), (c .before .before .before .before .before .pre .1), (c .before .before .before .before .before .pre .2), (c .before .before .before .before .before .pre .3), (c .before .before .before .before .before .pre .6), a .tag, (λ e. a .stage e (c .match .keys4)), (λ e. a .block e (c .match .keys4)), (c .before .before .before .before .before .pre .8) (mode-there _ _ (c .before .get .ensures) (c .match .keys4))))
     (λ c κs. search needs)
     (λ c κs. let a = able-there _ _ _ _ (c .before .get .ensures) (c .before .before .before .before .before .pre .7) in ((c .before .before .before .before .before .pre .4), a .notes (suspended-left _ (a .mode) (c .match .rest .0 .0 .0 .0 .1) (c .match .rest .0 .0 .0 .1) (c .match .rest .0 .0 .1) (c .match .rest .0 .1) (c .match .rest .1))))
     (λ c. (sleeps _ _ _ _ (c .before .before .get .ensures) (c .before .match .keys1) (c .none .ensures .0), (c .none .ensures .1), (let h = (c .none .ensures .2) in omega arith), within-none _ (c .none .result) (c .none .ensures .2)))

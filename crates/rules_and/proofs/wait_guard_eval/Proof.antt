@@ -9,13 +9,12 @@ pub wait-guard-eval-spec : {M : Type 1} → statement M
 wait-guard-eval-spec =
     tie.close
     (tie.spec
-    (λ c κs. search needs)
     (λ c. search needs)
     (λ c κs. search needs)
     (λ c. search needs)
     (λ c κs. search needs)
     (λ c. search needs)
     (λ c κs. search needs)
-    (λ c. (guard-waits _ _ _ (c .before .before .before .heard .ensures .0) (c .before .enum-told .given .1) (c .none .ensures .0), (c .none .ensures .1), (c .none .ensures .2)))
-    (λ c. (guard-succeeds _ _ _ (c .before .before .before .heard .ensures .0) (c .before .enum-told2 .given .1) ((c .report .ensures .0) success refl), (c .report .ensures .1), (c .report .ensures .2)))
-    (λ c. (guard-fails _ _ _ (c .before .before .before .heard .ensures .0) (c .before .enum-told3 .given .1) ((c .report2 .ensures .0) failure refl), (c .report2 .ensures .1), (c .report2 .ensures .2))))
+    (λ c. (λ ps t. guard-waits ps _ _ (t .latest) (c .before .enum-told .given .1) (c .none .ensures .0), (c .none .ensures .1), (c .none .ensures .2)))
+    (λ c. (λ ps t. guard-succeeds ps _ _ (t .latest) (c .before .enum-told2 .given .1) ((c .report .ensures .0) success refl), (c .report .ensures .1), (c .report .ensures .2)))
+    (λ c. (λ ps t. guard-fails ps _ _ (t .latest) (c .before .enum-told3 .given .1) ((c .report2 .ensures .0) failure refl), (c .report2 .ensures .1), (c .report2 .ensures .2))))

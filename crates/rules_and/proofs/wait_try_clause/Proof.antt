@@ -10,10 +10,8 @@ wait-try-clause-spec =
     tie.close
     (tie.spec
     (λ c κs. search needs)
+    (λ c. (λ ps t. try-fails ps _ _ (t .failed) (c .before .if1 .taken) ((c .report .ensures .0) failure refl), (c .report .ensures .1), (c .report .ensures .2)))
     (λ c κs. search needs)
-    (λ c. (try-fails _ _ _ (c .before .before .any-failed .ensures) (c .before .if1 .taken) ((c .report .ensures .0) failure refl), (c .report .ensures .1), (c .report .ensures .2)))
+    (λ c. (λ ps t. try-succeeds ps _ _ (t .failed) (c .before .before .if1 .left) (t .succeeded) (c .before .if2 .taken) ((c .report2 .ensures .0) success refl), (c .report2 .ensures .1), (c .report2 .ensures .2)))
     (λ c κs. search needs)
-    (λ c κs. search needs)
-    (λ c. (try-succeeds _ _ _ (c .before .before .before .before .any-failed .ensures) (c .before .before .before .if1 .left) (c .before .before .all-succeeded .ensures) (c .before .if2 .taken) ((c .report2 .ensures .0) success refl), (c .report2 .ensures .1), (c .report2 .ensures .2)))
-    (λ c κs. search needs)
-    (λ c. (try-waits _ _ _ (c .before .before .before .before .any-failed .ensures) (c .before .before .before .if1 .left) (c .before .before .all-succeeded .ensures) (c .before .if2 .left) (c .none .ensures .0), (c .none .ensures .1), (c .none .ensures .2))))
+    (λ c. (λ ps t. try-waits ps _ _ (t .failed) (c .before .before .if1 .left) (t .succeeded) (c .before .if2 .left) (c .none .ensures .0), (c .none .ensures .1), (c .none .ensures .2))))

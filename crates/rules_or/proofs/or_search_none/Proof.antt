@@ -5,4 +5,9 @@ use Rattle.rules_or.proofs.or_search_none.Tie as tie
 
 pub or-search-none-spec : {M : Type 1} → statement M
 or-search-none-spec =
-    tie.close (tie.spec (λ c κs. search needs) (λ c κs. search needs) (λ c. (λ s. all-fail _ _ _ s (c .before .before .all-failed .ensures) (c .before .if1 .taken) (c .report .ensures .0), (c .report .ensures .1), (c .report .ensures .2))) (λ c κs. search needs) (λ c. (λ s. some-try _ _ _ s (c .before .before .all-failed .ensures) (c .before .if1 .left) (c .none .ensures .0), (c .none .ensures .1), (c .none .ensures .2))))
+    tie.close
+    (tie.spec
+    (λ c κs. search needs)
+    (λ c. (λ s. all-fail _ _ s (c .before .if1 .taken) (c .report .ensures .0), (c .report .ensures .1), (c .report .ensures .2)))
+    (λ c κs. search needs)
+    (λ c. (λ s. some-try _ _ s (c .before .if1 .left) (c .none .ensures .0), (c .none .ensures .1), (c .none .ensures .2))))

@@ -1,4 +1,6 @@
+use mathlib.Core.Path.{sym}
 use native.Mathlib.Omega.{arith}
+use Rattle.step.proofs.Deciding.{told-of}
 use Rattle.step.proofs.Stepping.{step-done, step-nobody, step-refused}
 use Rattle.machine.proofs.Entering.{inside-of}
 use borrow.Author.Needs.{needs}
@@ -23,8 +25,9 @@ step-spec =
     (λ c. search needs)
     (λ c. search needs)
     (λ c. step-nobody _ _ _ (c .before .before .before .before .before .before .before .enter .ensures) (c .before .before .before .before .before .e .given .1) (c .before .before .proc-count .ensures .0) (c .before .if1 .taken) (c .refusal2 .ensures))
-    (λ c κs. let i = inside-of _ _ (c .before .before .before .before .before .before .before .before .before .enter .ensures) (c .before .before .before .before .before .before .before .e .given .1) in (i, omega (arith, (c .before .before .before .before .proc-count .ensures .0), (c .before .before .before .if1 .left))))
+    (λ c κs. let i = inside-of _ _ (c .before .before .before .before .before .before .before .enter .ensures) (c .before .before .before .before .before .e .given .1) in let en = (c .before .before .proc-count .ensures) in (omega (arith, i .rows, en .0), en .1))
+    (λ c κs. let i = inside-of _ _ (c .before .before .before .before .before .before .before .before .before .before .before .enter .ensures) (c .before .before .before .before .before .before .before .before .before .e .given .1) in let en = (c .before .before .before .before .before .before .proc-count .ensures .0) in (i, omega (arith, en, (c .before .before .before .before .before .if1 .left)), told-of _ _ (sym en) (c .before .before .before .ask .ensures)))
     (λ c. search needs)
     (λ c. search needs)
     (λ c. search needs)
-    (λ c. step-done _ _ _ (c .before .before .before .before .before .before .before .before .before .before .before .before .before .before .before .before .enter .ensures) (c .before .before .before .before .before .before .before .before .before .before .before .before .before .before .e .given .1) (c .before .before .before .before .before .before .stepped .ensures)))
+    (λ c. step-done _ _ _ (c .before .before .before .before .before .before .before .before .before .before .before .before .before .before .before .before .before .before .enter .ensures) (c .before .before .before .before .before .before .before .before .before .before .before .before .before .before .before .before .e .given .1) (c .before .before .before .before .before .before .stepped .ensures)))

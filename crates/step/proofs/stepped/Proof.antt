@@ -2,7 +2,7 @@ use mathlib.Core.Path.{refl}
 use borrow.Author.Tests.{not-false, not-true}
 use native.Mathlib.Omega.{arith}
 use Rattle.step.proofs.Stepping.{stepped-full, stepped-moved, stepped-still}
-use Rattle.step.proofs.Deciding.{may-move, may-write, parents-fall, room-for}
+use Rattle.step.proofs.Deciding.{may-move, may-write, parents-fall, room-for, told-of}
 use borrow.Author.Needs.{needs}
 use Rattle.step.proofs.stepped.Statement.{statement}
 use Rattle.step.proofs.stepped.Tie as tie
@@ -13,7 +13,7 @@ stepped-spec =
     (tie.spec
     (λ c κs. search needs)
     (λ c κs. search needs)
-    (λ c κs. let i = (c .before .before .before .before .before .before .before .before .before .before .pre .0) in let en = (c .before .before .before .before .proc-count .ensures) in let em = (c .before .before .var-count .ensures) in (i .relations, i .clauses, omega (arith, i .rows, en .0), en .1, omega (arith, i .cells, em .0), omega (arith, i .vars-most, em .0), omega (arith, (c .before .before .before .before .before .before .before .before .before .before .pre .1), en .0), may-move _ _ _ _ i _ (c .before .before .before .before .before .before .before .before .before .before .pre .1) (en .0) (em .0)))
+    (λ c κs. let i = (c .before .before .before .before .before .before .before .before .before .before .pre .0) in let en = (c .before .before .before .before .proc-count .ensures) in let em = (c .before .before .var-count .ensures) in (i .relations, i .clauses, omega (arith, i .rows, en .0), en .1, omega (arith, i .cells, em .0), omega (arith, i .vars-most, em .0), omega (arith, (c .before .before .before .before .before .before .before .before .before .before .pre .1), en .0), may-move _ _ _ _ i _ (c .before .before .before .before .before .before .before .before .before .before .pre .1) (en .0) (em .0), told-of _ _ (en .0) (c .before .before .before .before .before .before .before .before .before .before .pre .2)))
     (λ c κs. search needs)
     (λ c. search needs)
     (λ c. search needs)
