@@ -4,6 +4,7 @@ use mathlib.Core.Bool.{Bool, false, not, true}
 use mathlib.Core.List.{[], List}
 use Prim.Native.Nat.{_<_, suc, ℕ}
 use native.Mathlib.Omega.{arith}
+use Rattle.children.specs.Telling.{Tells}
 use Rattle.load.specs.Fields.{refusalOf}
 use Rattle.machine.specs.Entered.{EnterSays, Inside}
 use Rattle.parlog.proofs.Repeated.{turn-can}
@@ -28,13 +29,15 @@ use Rattle.parlog.specs.declared.Ran.the-variants.{Unrun}
 use Rattle.parlog.specs.declared.Refusal.{Refusal}
 use Rattle.parlog.specs.declared.Stepped.{Stepped}
 use Rattle.parlog.specs.declared.Stepped.the-variants.{Moved, Unmoved}
+use Rattle.plan.specs.Plans.{stateIn}
 use Rattle.rows.proofs.Tables.{procs-length}
 use Rattle.run.proofs.Runs.{run-ended, run-goes, run-room, run-spent, run-waits}
-use Rattle.run.specs.Running.{OneSays, OneTo, RanSays, RunSays, StopSays, TurnedIn, TurnSays, WentSays, WentTo}
+use Rattle.run.specs.Running.{OneSays, OneTo, RanSays, RunSays, StopSays, TurnedIn, Turning, TurnSays, WentSays, WentTo, WhoseSays}
 use Rattle.run.specs.declared.Went.{Went}
 use Rattle.run.specs.declared.Went.the-variants.{On, Over}
+use Rattle.step.proofs.Deciding.{parents-fall}
 use Rattle.step.specs.Stepping.{stepIn, SteppedSays, tablesAfter}
-use Rattle.turns.specs.Notes.{stateFrom}
+use Rattle.turns.specs.declared.Turn.{Turn}
 
 -- the bytes of three lent rows
 abbrev lent : List ℕ → List ℕ → List ℕ → Lent
@@ -42,10 +45,13 @@ lent h p v = record { head = h; procs = p; vars = v }
 
 -- ---- whose turn it is
 
-pub whose-is : (h p v : List ℕ) {n m last : ℕ} {f : Found} → n ≡ procCount h → m ≡ varCount h → last ≡ markerLast h
-    → ((pr : Program) → f ≡ turnOf (canMove pr (stateFrom p n v m)) n last) → (pr : Program) → f ≡ turnFor pr (tablesIn (lent h p v))
-unfolding turnFor tablesIn
-whose-is h p v en em el q pr = rw (procs-length p (procCount h)) (rw (en, em, el) at (q pr))
+pub turning : (s : List ℕ) (r c : ℕ) (l : Lent) → Inside s r c l → Turning (l .head) (l .procs) (l .vars)
+turning s r c l i = record { head = omega (arith, i .head); rows = i .rows; procs-most = i .procs-most; cells = i .cells; falls = parents-fall s r c l i refl }
+
+module _ (h p v : List ℕ) {n m last : ℕ} {t : Turn} (en : n ≡ procCount h) where
+  pub whose-is : m ≡ varCount h → last ≡ markerLast h → ((pr : Program) → t .who ≡ turnOf (canMove pr (stateIn p n v m)) n last)
+      → ((q : ℕ) → t .who ≡ At q → Tells (procsOf p n) q (t .told)) → WhoseSays (lent h p v) t
+  whose-is em el q told = record { who = λ pr. unfold turnFor tablesIn in (rw (procs-length p (procCount h)) (rw (en, em, el) at (q pr))); told = rw en at told }
 
 pub turn-below : (l : Lent) {p : ℕ} {f : Found} → ((pr : Program) → f ≡ turnFor pr (tablesIn l)) → f ≡ At p → p < procCount (l .head)
 unfolding tablesIn

@@ -3,20 +3,24 @@ use mathlib.Core.Path.{_≡_}
 use mathlib.Core.List.{List}
 use Prim.Native.Nat.{_*_, _-_, _<_, _≤_, suc, ℕ}
 use lib.ListN.{length}
+use Rattle.children.specs.Telling.{Tells}
 use Rattle.machine.specs.Entered.{Inside}
 use Rattle.parlog.specs.Calls.{runCall, stepAnswer, turnCall}
 use Rattle.parlog.specs.Limits.{small}
 use Rattle.parlog.specs.Program.{Program, programOf}
-use Rattle.parlog.specs.Run.{halt, made, runFrom, runTables, stepTables, turnTables, unmade}
-use Rattle.parlog.specs.Tables.{Lent, markerLast, procCount, putTables, tablesIn, varCount}
+use Rattle.parlog.specs.Run.{halt, made, runFrom, runTables, stepTables, turnFor, turnTables, unmade}
+use Rattle.parlog.specs.Tables.{Lent, procCount, procsOf, putTables, tablesIn, varCount}
 use Rattle.parlog.specs.declared.End.{End}
 use Rattle.parlog.specs.declared.End.the-variants.{Room}
+use Rattle.parlog.specs.declared.Found.the-variants.{At}
 use Rattle.parlog.specs.declared.Move.{Move}
 use Rattle.parlog.specs.declared.Ran.{Ran}
 use Rattle.parlog.specs.declared.Ran.the-variants.{Ended}
 use Rattle.parlog.specs.declared.Stepped.{Stepped}
 use Rattle.run.specs.declared.Went.{Went}
 use Rattle.run.specs.declared.Went.the-variants.{On, Over}
+use Rattle.tree.specs.Family.{Falls}
+use Rattle.turns.specs.declared.Turn.{Turn}
 
 -- ---- a turn
 
@@ -26,8 +30,12 @@ pub record Turning (h p v : List ℕ) : Type 0 where
   pub rows : procCount h * 24 ≤ length p
   pub procs-most : procCount h ≤ 512
   pub cells : varCount h * 4 ≤ length v
-  pub vars-most : varCount h ≤ 1024
-  pub last : markerLast h < procCount h
+  pub falls : Falls (procsOf p (procCount h))
+
+-- Turns 2: whose turn it is, whatever the program, and what its children report
+pub record WhoseSays (l : Lent) (t : Turn) : Type 0 where
+  pub who : (pr : Program) → t .who ≡ turnFor pr (tablesIn l)
+  pub told : (p : ℕ) → t .who ≡ At p → Tells (procsOf (l .procs) (procCount (l .head))) p (t .told)
 
 -- Turns 2: the turn in tables that keep the rules
 pub record TurnedIn (s : List ℕ) (r c : ℕ) (l : Lent) (a : Stepped) (h p v : List ℕ) : Type 0 where

@@ -1,13 +1,16 @@
 // A turn, and a run of turns, over lent bytes.
+use children::Told;
 use parlog::End;
 use parlog::Found;
 use parlog::Loaded;
 use parlog::Ran;
 use parlog::Stepped;
+use turns::Turn;
 ghost use mathlib.Core.Path.{_≡_};
 ghost use mathlib.Core.Bool.{not};
 ghost use Prim.Native.Nat.{_*_, _≤_, _<_};
 ghost use lib.ListN.{length};
+ghost use Rattle.children.specs.Telling.{Tells};
 ghost use Rattle.machine.specs.Entered.{Inside};
 ghost use Rattle.parlog.specs.Calls.{stepAnswer};
 ghost use Rattle.parlog.specs.Codes.{isLive, resultOf};
@@ -15,7 +18,7 @@ ghost use Rattle.parlog.specs.Limits.{small};
 ghost use Rattle.parlog.specs.Program.{Program, programOf};
 ghost use Rattle.parlog.specs.Run.{endOf, turnFor};
 ghost use Rattle.parlog.specs.Tables.{at, procCount, procsOf, tablesIn};
-ghost use Rattle.run.specs.Running.{OneSays, RanSays, RunSays, StopSays, Turning, TurnedIn, TurnSays, WentSays};
+ghost use Rattle.run.specs.Running.{OneSays, RanSays, RunSays, StopSays, Turning, TurnedIn, TurnSays, WentSays, WhoseSays};
 
 // How one turn of a run went: a move more, or the run's end.
 pub enum Went {
@@ -51,15 +54,15 @@ fn goal_end(procs: &[u8], n: usize) -> End
 
 // ---- a turn
 
-// Whose turn it is; the notes are scratch.
-fn whose(head: &[u8], procs: &[u8], vars: &[u8], notes: &mut [u8]) -> Found
-    requires { ⌜ Turning (now head) (now procs) (now vars) × (length (now notes) ≡ 512) ⌝ }
-    ensures { λ r. ⌜ (length (now (notes .exit)) ≡ 512) × ((pr : Program) → r ≡ turnFor pr (tablesIn (record { head = now (head .entry); procs = now (procs .entry); vars = now (vars .entry) }))) ⌝ }
+// Whose turn it is, and what its children report.
+fn whose(head: &[u8], procs: &[u8], vars: &[u8]) -> Turn
+    requires { ⌜ Turning (now head) (now procs) (now vars) ⌝ }
+    ensures { λ r. ⌜ WhoseSays (record { head = now (head .entry); procs = now (procs .entry); vars = now (vars .entry) }) r ⌝ }
 {
     let n = head::proc_count(head);
     let m = head::var_count(head);
     let last = head::marker_last(head);
-    turns::next(procs, n, vars, m, last, notes)
+    turns::next(procs, n, vars, m, last)
 }
 
 // The step of whose turn it is, in tables that keep the rules.
@@ -74,12 +77,12 @@ fn turn_in(
     requires { ⌜ Inside (now image) rels clauses (record { head = now head; procs = now procs; vars = now vars }) ⌝ }
     ensures { λ r. ⌜ TurnedIn (now (image .entry)) rels clauses (record { head = now (head .entry); procs = now (procs .entry); vars = now (vars .entry) }) r (now (head .exit)) (now (procs .exit)) (now (vars .exit)) ⌝ }
 {
-    let mut notes = [0u8; 512];
-    let f = whose(head, procs, vars, &mut notes);
+    let t = whose(head, procs, vars);
+    let f = t.who;
     let Found::At(p) = f else {
         return Stepped::Unmoved(machine::refusal(10));
     };
-    step::stepped(image, rels, clauses, head, procs, vars, p)
+    step::stepped(image, rels, clauses, head, procs, vars, p, t.told)
 }
 
 // The turn: the step of the first process that can move after the one stepped last.
@@ -105,11 +108,12 @@ fn one(
     procs: &mut [u8],
     vars: &mut [u8],
     p: usize,
+    told: Told,
 ) -> Went
-    requires { ⌜ Inside (now image) rels clauses (record { head = now head; procs = now procs; vars = now vars }) × (p < procCount (now head)) ⌝ }
+    requires { ⌜ Inside (now image) rels clauses (record { head = now head; procs = now procs; vars = now vars }) × (p < procCount (now head)) × Tells (procsOf (now procs) (procCount (now head))) p told ⌝ }
     ensures { λ r. ⌜ OneSays (now (image .entry)) rels clauses (record { head = now (head .entry); procs = now (procs .entry); vars = now (vars .entry) }) p r (record { head = now (head .exit); procs = now (procs .exit); vars = now (vars .exit) }) ⌝ }
 {
-    let a = step::stepped(image, rels, clauses, head, procs, vars, p);
+    let a = step::stepped(image, rels, clauses, head, procs, vars, p, told);
     match a {
         Stepped::Moved(_) => Went::On,
         Stepped::Unmoved(_) => Went::Over(End::Room),
@@ -124,32 +128,33 @@ fn go(
     head: &mut [u8],
     procs: &mut [u8],
     vars: &mut [u8],
-    notes: &mut [u8],
 ) -> Went
-    requires { ⌜ Inside (now image) rels clauses (record { head = now head; procs = now procs; vars = now vars }) × (length (now notes) ≡ 512) ⌝ }
-    ensures { λ r. ⌜ WentSays (now (image .entry)) rels clauses (record { head = now (head .entry); procs = now (procs .entry); vars = now (vars .entry) }) r (record { head = now (head .exit); procs = now (procs .exit); vars = now (vars .exit) }) × (length (now (notes .exit)) ≡ 512) ⌝ }
+    requires { ⌜ Inside (now image) rels clauses (record { head = now head; procs = now procs; vars = now vars }) ⌝ }
+    ensures { λ r. ⌜ WentSays (now (image .entry)) rels clauses (record { head = now (head .entry); procs = now (procs .entry); vars = now (vars .entry) }) r (record { head = now (head .exit); procs = now (procs .exit); vars = now (vars .exit) }) ⌝ }
 {
     let n = head::proc_count(head);
     if ended(procs, n) {
         return Went::Over(goal_end(procs, n));
     }
-    let f = whose(head, procs, vars, notes);
+    let t = whose(head, procs, vars);
+    let f = t.who;
     let Found::At(p) = f else {
         return Went::Over(End::Waiting);
     };
-    one(image, rels, clauses, head, procs, vars, p)
+    one(image, rels, clauses, head, procs, vars, p, t.told)
 }
 
 // The tests alone, where the limit is used up.
-fn stop(head: &[u8], procs: &[u8], vars: &[u8], notes: &mut [u8]) -> End
-    requires { ⌜ Turning (now head) (now procs) (now vars) × (length (now notes) ≡ 512) ⌝ }
+fn stop(head: &[u8], procs: &[u8], vars: &[u8]) -> End
+    requires { ⌜ Turning (now head) (now procs) (now vars) ⌝ }
     ensures { λ r. ⌜ StopSays (record { head = now (head .entry); procs = now (procs .entry); vars = now (vars .entry) }) r ⌝ }
 {
     let n = head::proc_count(head);
     if ended(procs, n) {
         return goal_end(procs, n);
     }
-    let f = whose(head, procs, vars, notes);
+    let t = whose(head, procs, vars);
+    let f = t.who;
     match f {
         Found::At(_) => End::Budget,
         Found::Nothing => End::Waiting,
@@ -169,10 +174,9 @@ fn going(
     requires { ⌜ Inside (now image) rels clauses (record { head = now head; procs = now procs; vars = now vars }) × (limit ≤ 65535) ⌝ }
     ensures { λ r. ⌜ RanSays (now (image .entry)) rels clauses (record { head = now (head .entry); procs = now (procs .entry); vars = now (vars .entry) }) limit r (record { head = now (head .exit); procs = now (procs .exit); vars = now (vars .exit) }) ⌝ }
 {
-    let mut notes = [0u8; 512];
     let mut k = 0;
     while k < limit {
-        let w = go(image, rels, clauses, head, procs, vars, &mut notes);
+        let w = go(image, rels, clauses, head, procs, vars);
         match w {
             Went::On => {
                 k += 1;
@@ -182,7 +186,7 @@ fn going(
             }
         }
     }
-    let e = stop(head, procs, vars, &mut notes);
+    let e = stop(head, procs, vars);
     Ran::Ended(e, k)
 }
 

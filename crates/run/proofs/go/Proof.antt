@@ -1,4 +1,4 @@
-use Rattle.run.proofs.Turning.{turn-below, went-ended, went-one, went-waits}
+use Rattle.run.proofs.Turning.{turn-below, turning, went-ended, went-one, went-waits}
 use borrow.Author.Needs.{needs}
 use Rattle.run.proofs.go.Statement.{statement}
 use Rattle.run.proofs.go.Tie as tie
@@ -19,18 +19,16 @@ go-spec =
     (λ c κs. search needs)
     (λ c. search needs)
     (λ c. search needs)
-    (λ c. (went-ended _ (c .before .before .before .before .before .proc-count .ensures .0) (c .before .before .before .ended .ensures) _ _ _ (c .before .before .before .before .before .before .before .before .before .before .before .before .pre .0) (c .before .before .if1 .taken) (c .goal-end .ensures), c .before .before .before .before .before .before .before .before .before .before .before .before .pre .1))
-    (λ c κs. search needs)
+    (λ c. went-ended _ (c .before .before .before .before .before .proc-count .ensures .0) (c .before .before .before .ended .ensures) _ _ _ (c .before .before .before .before .before .before .before .before .before .before .before .pre) (c .before .before .if1 .taken) (c .goal-end .ensures))
+    (λ c κs. turning _ _ _ _ (c .before .before .before .before .before .before .before .before .before .before .before .before .pre))
     (λ c. search needs)
     (λ c. search needs)
     (λ c. search needs)
     (λ c. search needs)
     (λ c. search needs)
-    (λ c. search needs)
-    (λ c. (went-waits _ (c .before .before .before .before .before .before .before .before .before .before .before .before .proc-count .ensures .0) (c .before .before .before .before .before .before .before .before .before .before .ended .ensures) _ _ _ (c .before .before .before .before .before .before .before .before .before .before .before .before .before .before .before .before .before .before .before .pre .0) (c .before .before .before .before .before .before .before .before .before .if1 .left) (c .before .before .before .before .whose .ensures .1) (c .enum-told .given .1), c .before .before .before .before .whose .ensures .0))
-    (λ c κs. (c .before .before .before .before .before .before .before .before .before .before .before .before .before .before .before .before .before .before .before .before .before .before .before .pre .0, turn-below _ (c .before .before .before .before .before .before .before .before .whose .ensures .1) (c .before .before .before .before .f .given .1)))
-    (λ c. search needs)
+    (λ c. went-waits _ (c .before .before .before .before .before .before .before .before .before .proc-count .ensures .0) (c .before .before .before .before .before .before .before .ended .ensures) _ _ _ (c .before .before .before .before .before .before .before .before .before .before .before .before .before .before .before .pre) (c .before .before .before .before .before .before .if1 .left) (c .before .before .whose .ensures .who) (c .enum-told .given .1))
+    (λ c κs. ((c .before .before .before .before .before .before .before .before .before .before .before .before .before .before .before .before .before .before .before .pre), turn-below _ (c .before .before .before .before .before .before .whose .ensures .who) (c .before .before .before .before .f .given .1), (c .before .before .before .before .before .before .whose .ensures .told) _ (c .before .before .before .before .f .given .1)))
     (λ c. search needs)
     (λ c. search needs)
     (λ c. search needs)
-    (λ c. (went-one _ (c .before .before .before .before .before .before .before .before .before .before .before .before .before .before .before .before .before .before .before .before .before .before .before .proc-count .ensures .0) (c .before .before .before .before .before .before .before .before .before .before .before .before .before .before .before .before .before .before .before .before .before .ended .ensures) _ _ _ (c .before .before .before .before .before .before .before .before .before .before .before .before .before .before .before .before .before .before .before .before .before .before .before .before .before .before .before .before .before .before .pre .0) (c .before .before .before .before .before .before .before .before .before .before .before .before .before .before .before .before .before .before .before .before .if1 .left) (c .before .before .before .before .before .before .before .before .before .before .before .before .before .before .before .whose .ensures .1) (c .before .before .before .before .before .before .before .before .before .before .before .f .given .1) (c .before .before .before .before .before .before .one .ensures), c .before .before .before .before .before .before .before .before .before .before .before .before .before .before .before .whose .ensures .0)))
+    (λ c. went-one _ (c .before .before .before .before .before .before .before .before .before .before .before .before .before .before .before .before .before .before .before .before .proc-count .ensures .0) (c .before .before .before .before .before .before .before .before .before .before .before .before .before .before .before .before .before .before .ended .ensures) _ _ _ (c .before .before .before .before .before .before .before .before .before .before .before .before .before .before .before .before .before .before .before .before .before .before .before .before .before .before .pre) (c .before .before .before .before .before .before .before .before .before .before .before .before .before .before .before .before .before .if1 .left) (c .before .before .before .before .before .before .before .before .before .before .before .before .before .whose .ensures .who) (c .before .before .before .before .before .before .before .before .before .before .before .f .given .1) (c .before .before .before .before .before .before .one .ensures)))

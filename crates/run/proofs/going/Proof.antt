@@ -1,9 +1,8 @@
-use mathlib.Core.Path.{sym}
 use borrow.Author.Needs.{needs}
-use mathlib.Core.Path.{_≡_}
+use mathlib.Core.Path.{_≡_, sym}
 use Prim.Native.Nat.{_-_}
-use lib.ListN.{length}
 use native.Mathlib.Omega.{arith}
+use Rattle.run.proofs.Turning.{turning}
 use Rattle.run.proofs.Runs.{going-on, going-over, going-spent, going-start}
 use Rattle.run.specs.Running.{Going}
 use Rattle.run.proofs.going.Statement.{statement}
@@ -14,10 +13,10 @@ use Rattle.run.proofs.go.Reads as go-reads
 use Rattle.run.proofs.stop.Reads as stop-reads
 
 abbrev Inv-loop : tie.InvT-loop
-Inv-loop image rels clauses head₀ procs₀ vars₀ limit notes₀ k₀ head procs vars notes k = Going image rels clauses (record { head = head₀; procs = procs₀; vars = vars₀ }) (record { head = head; procs = procs; vars = vars }) limit k × (length notes ≡ 512)
+Inv-loop image rels clauses head₀ procs₀ vars₀ limit k₀ head procs vars k = Going image rels clauses (record { head = head₀; procs = procs₀; vars = vars₀ }) (record { head = head; procs = procs; vars = vars }) limit k
 
 abbrev μ-loop : tie.MeasureT-loop
-μ-loop image rels clauses head₀ procs₀ vars₀ limit notes₀ k₀ head procs vars notes k = limit - k
+μ-loop image rels clauses head₀ procs₀ vars₀ limit k₀ head procs vars k = limit - k
 
 pub going-spec : {M : Type 1} → statement M
 going-spec =
@@ -25,21 +24,19 @@ going-spec =
     (tie.spec
     Inv-loop
     μ-loop
-    (λ c. (going-start _ _ _ _ _ (c .before .before .before .before .pre .0) (λ b. omega (arith, (c .before .before .slice-known .given) b)) (λ b. omega (arith, (c .before .slice-known2 .given) b)) (λ b. omega (arith, (c .slice-known3 .given) b)), search needs))
-    (λ c. sym (c .before .before .before .before .before .loop .inv .1))
-    (λ c κs. (c .before .before .before .before .before .loop .inv .0 .inside, c .before .before .before .before .before .loop .inv .1))
+    (λ c. going-start _ _ _ _ _ (c .before .before .before .before .pre .0) (λ b. omega (arith, (c .before .before .slice-known .given) b)) (λ b. omega (arith, (c .before .slice-known2 .given) b)) (λ b. omega (arith, (c .slice-known3 .given) b)))
+    (λ c κs. (c .before .before .before .before .loop .inv .inside))
     (λ c. search needs)
     (λ c. omega arith)
     (λ c. omega arith)
-    (λ c. (going-on _ _ _ _ _ (c .before .before .before .before .before .before .before .before .before .before .before .before .before .before .before .before .before .before .before .before .pre .0) _ _ (c .before .before .before .before .before .before .before .before .before .before .before .before .before .before .before .loop .inv .0) (c .before .before .before .before .before .before .before .before .before .before .before .before .before .before .loop-test .taken) _ (c .before .before .before .before .before .before .before .before .before .go .ensures .0) (c .enum-told .given .1), c .before .before .before .before .before .before .before .before .before .go .ensures .1))
+    (λ c. going-on _ _ _ _ _ (c .before .before .before .before .before .before .before .before .before .before .before .before .before .before .before .before .before .before .pre .0) _ _ (c .before .before .before .before .before .before .before .before .before .before .before .before .before .loop .inv) (c .before .before .before .before .before .before .before .before .before .before .before .before .loop-test .taken) _ (c .before .before .before .before .before .before .before .before .go .ensures) (c .enum-told .given .1))
     (λ c. search needs)
     (λ c. search needs)
     (λ c. search needs)
     (λ c. search needs)
-    (λ c. going-over _ _ _ _ _ (c .before .before .before .before .before .before .before .before .before .before .before .before .before .before .before .before .before .before .before .before .before .pre .0) _ _ (c .before .before .before .before .before .before .before .before .before .before .before .before .before .before .before .before .loop .inv .0) (c .before .before .before .before .before .before .before .before .before .before .before .before .before .before .before .loop-test .taken) _ (c .before .before .before .before .before .before .before .before .before .before .go .ensures .0) (c .before .w .given .1))
-    (λ c. sym (c .before .before .before .before .before .loop .inv .1))
-    (λ c κs. let i = c .before .before .before .before .before .loop .inv .0 .inside in (record { head = omega (arith, i .head); rows = i .rows; procs-most = i .procs-most; cells = i .cells; vars-most = i .vars-most; last = i .last }, c .before .before .before .before .before .loop .inv .1))
+    (λ c. going-over _ _ _ _ _ (c .before .before .before .before .before .before .before .before .before .before .before .before .before .before .before .before .before .before .before .pre .0) _ _ (c .before .before .before .before .before .before .before .before .before .before .before .before .before .before .loop .inv) (c .before .before .before .before .before .before .before .before .before .before .before .before .before .loop-test .taken) _ (c .before .before .before .before .before .before .before .before .before .go .ensures) (c .before .w .given .1))
+    (λ c κs. turning _ _ _ _ (c .before .before .before .before .loop .inv .inside))
     (λ c. search needs)
     (λ c. search needs)
     (λ c. search needs)
-    (λ c. going-spent _ _ _ _ _ (c .before .before .before .before .before .before .before .before .before .before .before .before .pre .0) _ _ (c .before .before .before .before .before .before .before .loop .inv .0) (omega (arith, c .before .before .before .before .before .before .loop-test .left)) (c .before .stop .ensures _)))
+    (λ c. going-spent _ _ _ _ _ (c .before .before .before .before .before .before .before .before .before .before .pre .0) _ _ (c .before .before .before .before .before .loop .inv) (omega (arith, (c .before .before .before .before .loop-test .left))) ((c .stop .ensures) _)))

@@ -10,7 +10,7 @@ pub one-spec : {M : Type 1} → statement M
 one-spec =
     tie.close
     (tie.spec
-    (λ c κs. search needs)
+    (λ c κs. ((c .before .before .before .before .before .before .before .pre .0), (c .before .before .before .before .before .before .before .pre .1), λ w. (c .before .before .before .before .before .before .before .pre .2)))
     (λ c. search needs)
     (λ c. search needs)
     (λ c. search needs)
