@@ -93,7 +93,7 @@ makes-code (suc (suc (suc (suc (suc (suc (suc (suc n)))))))) t =
 
 -- ---- notes
 
-and-one : (b : Bool) → (b && true) ≡ b
+pub and-one : (b : Bool) → (b && true) ≡ b
 and-one true = refl
 and-one false = refl
 

@@ -12,7 +12,8 @@ use Rattle.parlog.specs.Scan.{build}
 use Rattle.parlog.specs.Tables.{headBytes, markerLast, markerSteps, procCount, varCount}
 use Rattle.rows.specs.Rows.{Bytes}
 
-steps-back : (m : ℕ) → m % 256 + m / 256 % 256 * 256 + (m / 65536 % 256 + m / 16777216 * 256) * 65536 ≡ m
+-- the four bytes of a number of turns give it
+pub steps-back : (m : ℕ) → m % 256 + m / 256 % 256 * 256 + (m / 65536 % 256 + m / 16777216 * 256) * 65536 ≡ m
 steps-back m = omega arith
 
 module _ (n m last steps : ℕ) where

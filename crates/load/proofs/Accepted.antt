@@ -11,10 +11,10 @@ use borrow.Author.Count.{below-more}
 use native.Mathlib.Omega.{arith}
 use native.Mathlib.Numerals.{add-one}
 use Rattle.load.proofs.Room.{few-clauses, few-relations}
-use Rattle.load.proofs.Turn.{either-false, ends, whole}
+use Rattle.load.proofs.Turn.{ends, whole}
 use Rattle.load.specs.Reading.{Arities}
 use Rattle.parlog.proofs.Along.{along-snoc}
-use Rattle.parlog.proofs.Bools.{and-true}
+use Rattle.parlog.proofs.Bools.{and-true, or-false}
 use Rattle.parlog.proofs.Steps.{few}
 use Rattle.parlog.proofs.Stuck.{grown}
 use Rattle.parlog.specs.Body.{askBody, bodyRight, clauseBody, relationBody}
@@ -123,9 +123,9 @@ all-passed s g t at e =
 kinds : (g : Progress) (k : ℕ) → kindFault g k ≡ false → (1 ≤ k) × (k ≤ 3) × (g .kind ≤ k) × (g .kind < 3)
 unfolding kindFault
 kinds g k e =
-    let a = either-false (ltb k 1) (ltb 3 k || (ltb k (g .kind) || eqb (g .kind) 3)) e in
-    let b = either-false (ltb 3 k) (ltb k (g .kind) || eqb (g .kind) 3) (a .1) in
-    let d = either-false (ltb k (g .kind)) (eqb (g .kind) 3) (b .1) in
+    let a = or-false (ltb k 1) (ltb 3 k || (ltb k (g .kind) || eqb (g .kind) 3)) e in
+    let b = or-false (ltb 3 k) (ltb k (g .kind) || eqb (g .kind) 3) (a .1) in
+    let d = or-false (ltb k (g .kind)) (eqb (g .kind) 3) (b .1) in
     let low = ltb-false k 1 (a .0) in
     let high = ltb-false 3 k (b .0) in
     let up = ltb-false k (g .kind) (d .0) in

@@ -8,13 +8,14 @@ use lib.ListN.{length}
 use borrow.Author.Tests.{eqb-true, ltb-false, ltb-true}
 use native.Mathlib.Omega.{arith}
 use Rattle.load.proofs.Accepted.{accepted, Right}
-use Rattle.parlog.proofs.Along.{along-add, list-at, list-length, list-past}
+use Rattle.parlog.proofs.Along.{list-at, list-length, list-past}
 use Rattle.parlog.proofs.Bools.{and-true, split}
 use Rattle.parlog.specs.Image.{byteAt, equality, modeEnd, recordAt, recordEnd, termAt, termEnd}
 use Rattle.parlog.specs.Load.{loadOf}
 use Rattle.parlog.specs.Names.{arityOf, relationNamed}
-use Rattle.parlog.specs.Program.{clauseAt, clauseOf, modesAt, modesOf, noClause, programOf}
+use Rattle.parlog.specs.Program.{clauseAt, clauseOf, modesAt, modesOf, programOf}
 use Rattle.parlog.specs.declared.Loaded.the-variants.{Accepted}
+use Rattle.place.proofs.Clauses.{clause-here, clause-past}
 
 module _ (s : List ℕ) (r c : ℕ) (ok : Right s r c) where
   modes-past : (q : ℕ) → r ≤ q → modesAt (programOf s r c) q ≡ []
@@ -24,14 +25,6 @@ module _ (s : List ℕ) (r c : ℕ) (ok : Right s r c) where
   modes-size : (q : ℕ) → q < r → length (modesAt (programOf s r c) q) ≡ arityOf s q
   unfolding programOf modesOf
   modes-size q h = rw (list-at (modesOf s) (recordEnd s) r 0 q [] h) (list-length (byteAt s) modeEnd (byteAt s (recordAt s q + 4)) (recordAt s q + 5))
-
-  clause-here : (k : ℕ) → k < c → clauseAt (programOf s r c) k ≡ clauseOf s (recordAt s (r + k))
-  unfolding programOf
-  clause-here k h = rw (list-at (clauseOf s) (recordEnd s) c (recordAt s r) k noClause h, along-add (recordEnd s) k r 0)
-
-  clause-past : (k : ℕ) → c ≤ k → clauseAt (programOf s r c) k ≡ noClause
-  unfolding programOf
-  clause-past k h = list-past (clauseOf s) (recordEnd s) c (recordAt s r) k noClause h
 
   record-head : (from : ℕ) → relationNamed s r (byteAt s (from + 4)) (byteAt s (from + 5)) ≡ true → length (modesAt (programOf s r c) (clauseOf s from .rel)) ≤ length (clauseOf s from .head)
   unfolding relationNamed clauseOf
@@ -43,8 +36,8 @@ module _ (s : List ℕ) (r c : ℕ) (ok : Right s r c) where
 
   pub right-heads : (k : ℕ) → length (modesAt (programOf s r c) (clauseAt (programOf s r c) k .rel)) ≤ length (clauseAt (programOf s r c) k .head)
   right-heads k = split (ltb k c)
-      (λ h. let l = ltb-true k c h in rw (clause-here k l) (record-head (recordAt s (r + k)) (ok .clause k l .head)))
-      (λ h. rw (clause-past k (ltb-false k c h), modes-past equality (let f = ok .relations in omega arith)) (omega arith))
+      (λ h. let l = ltb-true k c h in rw (clause-here s r c k l) (record-head (recordAt s (r + k)) (ok .clause k l .head)))
+      (λ h. rw (clause-past s r c k (ltb-false k c h), modes-past equality (let f = ok .relations in omega arith)) (omega arith))
 
 -- THE LAW: an accepted image's heads are no shorter than their relations' modes
 pub accepted-heads : (s : List ℕ) (r c : ℕ) → loadOf s ≡ Accepted r c → (k : ℕ) → length (modesAt (programOf s r c) (clauseAt (programOf s r c) k .rel)) ≤ length (clauseAt (programOf s r c) k .head)

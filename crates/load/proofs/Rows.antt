@@ -8,9 +8,9 @@ use lib.ListN.{length}
 use borrow.Author.Tests.{eq-eqb, le-leb, le-ltb, lt-leb, lt-ltb, ltb-false, ne-eqb}
 use native.Mathlib.Omega.{arith}
 use Rattle.load.proofs.Inside.{along-grows, ask-fields, clause-fields, goal-grows}
-use Rattle.load.proofs.Turn.{either-false}
 use Rattle.load.specs.Reading.{Arities, row, stagesRow}
 use Rattle.parlog.proofs.Along.{along-more, less-one}
+use Rattle.parlog.proofs.Bools.{or-false}
 use Rattle.parlog.specs.Body.{bodyRight, goalRange, literalCount, literalsRange, stageRange, stagesRange}
 use Rattle.parlog.specs.Image.{bodyAt, byteAt, equality, goalEnd, guardAt, literalsEnd, recordEnd, stageEnd, stagesEnd, wordAt}
 use Rattle.parlog.specs.Load.{cut}
@@ -206,8 +206,8 @@ ask-ends s at kind n1 n2 b = ask-fields s at (rw (ne-eqb kind 1 n1, ne-eqb kind 
 pub not-cut : (s : List ℕ) (at : ℕ) → cut s at ≡ false → recordEnd s at ≤ length s
 unfolding cut
 not-cut s at e =
-    let d = either-false (ltb (length s) (at + 4)) (ltb (wordAt s at) 4 || ltb (length s) (recordEnd s at)) e .1 in
-    ltb-false (length s) (recordEnd s at) (either-false (ltb (wordAt s at) 4) (ltb (length s) (recordEnd s at)) d .1)
+    let d = or-false (ltb (length s) (at + 4)) (ltb (wordAt s at) 4 || ltb (length s) (recordEnd s at)) e .1 in
+    ltb-false (length s) (recordEnd s at) (or-false (ltb (wordAt s at) 4) (ltb (length s) (recordEnd s at)) d .1)
 
 -- the guard and the body of a clause that ends inside
 module _ (s : List ℕ) (at a to : ℕ) (e : a ≡ byteAt s (at + 5)) (h : goalEnd s (bodyAt s at) ≤ to) where

@@ -1,5 +1,5 @@
 -- How much one move can make of an accepted image: a stage of a goal has at most 8 literals, of a committed body 12; a block at most 8 clauses.
-use mathlib.Core.Path.{_∙_, _≡_, ap, refl}
+use mathlib.Core.Path.{_≡_, refl}
 use mathlib.Core.Bool.{Bool, cond, false, true}
 use mathlib.Core.List.{[], _∷_, List}
 use Prim.Native.Nat.{_+_, _<_, _≤_, suc, zero, ℕ}
@@ -10,15 +10,16 @@ use native.Mathlib.Omega.{arith}
 use Rattle.load.proofs.Accepted.{Right, sizeWith}
 use Rattle.load.proofs.Inside.{ask-fields, clause-fields, goal-fields}
 use Rattle.load.proofs.Sanity.{right-sane}
-use Rattle.parlog.proofs.Along.{along-add, list-at, list-length, list-past}
+use Rattle.parlog.proofs.Along.{list-at, list-length, list-past}
 use Rattle.parlog.proofs.Blocks.{blocks-short, runSize}
 use Rattle.parlog.proofs.Bools.{split}
 use Rattle.parlog.specs.Body.{goalRange}
 use Rattle.parlog.specs.Codes.{Kind, kindOf, the-body, the-goal, the-guard}
-use Rattle.parlog.specs.Image.{bodyAt, byteAt, guardAt, isInput, literalEnd, recordAt, recordEnd, stageEnd}
-use Rattle.parlog.specs.Program.{before, blockOf, clauseAt, clauseOf, committedBody, equation, Goal, goalAt, goalBy, goalOf, Literal, literalOf, modesAt, noClause, outCount, outputs, Program, programOf, stageAt, stageOf, varsOf}
+use Rattle.parlog.specs.Image.{bodyAt, byteAt, guardAt, isInput, literalEnd, recordAt, stageEnd}
+use Rattle.parlog.specs.Program.{before, blockOf, clauseAt, clauseOf, committedBody, equation, Goal, goalAt, goalBy, goalOf, Literal, literalOf, modesAt, outCount, outputs, Program, programOf, stageAt, stageOf, varsOf}
 use Rattle.parlog.specs.declared.Spot.{Spot}
 use Rattle.parlog.specs.declared.Term.{Term}
+use Rattle.place.proofs.Clauses.{clause-count, clause-here, clause-past}
 
 stage-few : (s : List ℕ) (from : ℕ) → goalRange s from ≡ true → (i : ℕ) → length (getD (goalOf s from) i []) ≤ 8
 unfolding goalOf stageOf
@@ -50,25 +51,17 @@ module _ (s : List ℕ) (r c : ℕ) (ok : Right s r c) where
   abbrev pr : Program
   pr = programOf s r c
 
-  clause-some : (k : ℕ) → k < c → clauseAt pr k ≡ clauseOf s (recordAt s (r + k))
-  unfolding programOf
-  clause-some k h = list-at (clauseOf s) (recordEnd s) c (recordAt s r) k noClause h ∙ ap (clauseOf s) (along-add (recordEnd s) k r 0)
-
-  clause-none : (k : ℕ) → c ≤ k → clauseAt pr k ≡ noClause
-  unfolding programOf
-  clause-none k h = list-past (clauseOf s) (recordEnd s) c (recordAt s r) k noClause h
-
   guard-few : (k i : ℕ) → length (getD (clauseAt pr k .guard) i []) ≤ 8
   unfolding clauseOf
   guard-few k i = split (ltb k c)
-      (λ h. let l = ltb-true k c h in rw (clause-some k l) (stage-few s (guardAt s (recordAt s (r + k))) (clause-fields s (recordAt s (r + k)) (ok .clause k l .body) .guard) i))
-      (λ h. rw (clause-none k (ltb-false k c h)) (omega arith))
+      (λ h. let l = ltb-true k c h in rw (clause-here s r c k l) (stage-few s (guardAt s (recordAt s (r + k))) (clause-fields s (recordAt s (r + k)) (ok .clause k l .body) .guard) i))
+      (λ h. rw (clause-past s r c k (ltb-false k c h)) (omega arith))
 
   body-few : (k i : ℕ) → length (getD (clauseAt pr k .body) i []) ≤ 8
   unfolding clauseOf
   body-few k i = split (ltb k c)
-      (λ h. let l = ltb-true k c h in rw (clause-some k l) (stage-few s (bodyAt s (recordAt s (r + k))) (clause-fields s (recordAt s (r + k)) (ok .clause k l .body) .body) i))
-      (λ h. rw (clause-none k (ltb-false k c h)) (omega arith))
+      (λ h. let l = ltb-true k c h in rw (clause-here s r c k l) (stage-few s (bodyAt s (recordAt s (r + k))) (clause-fields s (recordAt s (r + k)) (ok .clause k l .body) .body) i))
+      (λ h. rw (clause-past s r c k (ltb-false k c h)) (omega arith))
 
   goal-few : (i : ℕ) → length (getD (pr .goal) i []) ≤ 8
   unfolding programOf
@@ -92,18 +85,14 @@ module _ (s : List ℕ) (r c : ℕ) (ok : Right s r c) where
   unfolding runSize sizeWith clauseOf
   size-run zero h = refl
   size-run (suc k) h =
-      let a = clause-some k (omega arith) in
-      let b = clause-some (suc k) h in
+      let a = clause-here s r c k (omega arith) in
+      let b = clause-here s r c (suc k) h in
       let e = size-run k (omega arith) in
       rw (a, b, e)
 
-  clause-count : length (pr .clauses) ≡ c
-  unfolding programOf
-  clause-count = list-length (clauseOf s) (recordEnd s) c (recordAt s r)
-
   -- THE LAW: a block has at most 8 clauses
   pub block-small : (q b : ℕ) → length (blockOf pr q b) ≤ 8
-  block-small q b = blocks-short pr 8 (λ k h. let n = clause-count in let l : k < c = omega arith in rw (size-run k l) (ok .blocks k l)) q b
+  block-small q b = blocks-short pr 8 (λ k h. let n = clause-count s r c in let l : k < c = omega arith in rw (size-run k l) (ok .blocks k l)) q b
 
   -- THE LAW: a copy of a clause has at most 20 variables
   out-few : (ms : List ℕ) → outCount ms ≤ length ms
@@ -118,8 +107,8 @@ module _ (s : List ℕ) (r c : ℕ) (ok : Right s r c) where
   own-few : (k : ℕ) → clauseAt pr k .vars ≤ 16
   unfolding clauseOf
   own-few k = split (ltb k c)
-      (λ h. let l = ltb-true k c h in rw (clause-some k l) (clause-fields s (recordAt s (r + k)) (ok .clause k l .body) .vars))
-      (λ h. rw (clause-none k (ltb-false k c h)) (omega arith))
+      (λ h. let l = ltb-true k c h in rw (clause-here s r c k l) (clause-fields s (recordAt s (r + k)) (ok .clause k l .body) .vars))
+      (λ h. rw (clause-past s r c k (ltb-false k c h)) (omega arith))
 
   pub vars-small : (k : ℕ) → varsOf pr k ≤ 20
   unfolding varsOf

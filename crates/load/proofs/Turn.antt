@@ -7,6 +7,7 @@ use lib.Dec.{ltb}
 use lib.ListN.{length}
 use borrow.Author.Tests.{le-ltb, lt-ltb, ltb-false}
 use native.Mathlib.Omega.{arith}
+use Rattle.parlog.proofs.Bools.{or-false}
 use Rattle.parlog.specs.Image.{recordEnd, wordAt}
 use Rattle.parlog.specs.Load.{cut, loadEnd, records, refusal, refuseIf, verdict}
 use Rattle.parlog.specs.Tables.{at}
@@ -20,10 +21,6 @@ use Rattle.parlog.specs.declared.Verdict.the-variants.{Goes, Refuses}
 abbrev pub Left : List ℕ → ℕ → Progress → Loaded → Type 0
 Left s at g R = (k : ℕ) × (length s - at ≤ k) × (records s k at g ≡ R)
 
-pub either-false : (a b : Bool) → (a || b) ≡ false → (a ≡ false) × (b ≡ false)
-either-false true b e = absurd (let z : true ≡ false = e in let y : _≡_ {A = ℕ} 0 1 = cc in omega arith)
-either-false false b e = (refl, e)
-
 refuse-go : (b : Bool) (n : ℕ) (v : Verdict) (t : Progress) → refuseIf b n v ≡ Goes t → b ≡ false
 refuse-go true n v t e = absurd (let z : _≡_ {A = ℕ} 0 1 = cc in omega arith)
 refuse-go false n v t e = refl
@@ -33,8 +30,8 @@ pub whole : (s : List ℕ) (g t : Progress) (at : ℕ) → verdict s g at ≡ Go
 unfolding verdict cut
 whole s g t at e =
     let c : (ltb (length s) (at + 4) || (ltb (wordAt s at) 4 || ltb (length s) (recordEnd s at))) ≡ false = refuse-go (cut s at) 2 _ t e in
-    let d = either-false (ltb (length s) (at + 4)) (ltb (wordAt s at) 4 || ltb (length s) (recordEnd s at)) c .1 in
-    let f = either-false (ltb (wordAt s at) 4) (ltb (length s) (recordEnd s at)) d in
+    let d = or-false (ltb (length s) (at + 4)) (ltb (wordAt s at) 4 || ltb (length s) (recordEnd s at)) c .1 in
+    let f = or-false (ltb (wordAt s at) 4) (ltb (length s) (recordEnd s at)) d in
     (ltb-false _ _ (f .0), ltb-false _ _ (f .1))
 
 pub stops : (s : List ℕ) (g : Progress) (at j : ℕ) (R : Loaded) → at < length s → verdict s g at ≡ Refuses j → Left s at g R → Refused (refusal j at) ≡ R

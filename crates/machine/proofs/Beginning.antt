@@ -1,24 +1,23 @@
 -- The ways through a start, and the bytes that it leaves.
 use mathlib.Core.Path.{_∙_, _≡_, ap, refl, sym}
-use mathlib.Core.Bool.{_&&_, Bool, false, true}
+use mathlib.Core.Bool.{Bool, false, true}
 use mathlib.Core.List.{[], _++_, _∷_, List}
 use Prim.Native.Nat.{_*_, _+_, _<_, _≤_, suc, zero, ℕ}
-use lib.Dec.{eqb}
 use lib.ListN.{getD, length, length-replicate, replicate}
-use borrow.Author.Tests.{eqb-true}
 use native.Mathlib.Omega.{arith}
 use Rattle.load.specs.Bounds.{Bounded}
 use Rattle.load.specs.Fields.{refusalOf}
+use Rattle.machine.proofs.Held.{limits}
 use Rattle.machine.specs.Starting.{BeginSays, SizedOf, StartableSays, StartSays}
-use Rattle.parlog.proofs.Bools.{and-true}
+use Rattle.parlog.proofs.Assume.{full-sizes}
 use Rattle.parlog.proofs.Scans.{every-is}
 use Rattle.parlog.specs.Calls.{startCall}
 use Rattle.parlog.specs.Codes.{kindOf, starting, tagCode, the-goal}
-use Rattle.parlog.specs.Limits.{Limits, small}
+use Rattle.parlog.specs.Limits.{small}
 use Rattle.parlog.specs.Load.{loadOf, refusal}
 use Rattle.parlog.specs.Program.{goalBy, Program, programOf, tagOfGoal}
 use Rattle.parlog.specs.TableRules.{cellKnown, fullSize}
-use Rattle.parlog.specs.Tables.{at, bindingBytes, bindingOf, fresh, freshTables, goalSpot, headBytes, Lent, newProcess, noNotes, nowhere, processBytes, procsOf, putTables, rowsBytes, startedLent, varsIn, written, zeros}
+use Rattle.parlog.specs.Tables.{bindingBytes, bindingOf, fresh, freshTables, goalSpot, headBytes, Lent, newProcess, noNotes, nowhere, processBytes, procsOf, putTables, rowsBytes, startedLent, varsIn, written, zeros}
 use Rattle.parlog.specs.declared.Binding.the-variants.{Free}
 use Rattle.parlog.specs.declared.Loaded.{Loaded}
 use Rattle.parlog.specs.declared.Loaded.the-variants.{Accepted, Refused}
@@ -33,16 +32,8 @@ use Rattle.vars.proofs.Exact.{cells-bytes}
 use Rattle.vars.proofs.Laws.{binding-none, known-none}
 use Rattle.vars.proofs.Tables.{cells-same, vars-is, vars-length}
 
--- the limits, as the tests are given them
-abbrev limits : Limits
-limits = record { procs = 512; vars = 1024 }
-
 lent-sized : (r c : ℕ) (l : Lent) → r ≤ 32 → c ≤ 64 → fullSize limits l ≡ true → SizedOf (Accepted r c) l
-unfolding fullSize
-lent-sized r c l hr hc e =
-    let x = and-true (eqb (length (l .head)) 10) (eqb (length (l .procs)) (512 * 24) && eqb (length (l .vars)) (1024 * 4)) e in
-    let y = and-true (eqb (length (l .procs)) (512 * 24)) (eqb (length (l .vars)) (1024 * 4)) (x .1) in
-    (hr, hc, eqb-true (length (l .head)) 10 (x .0), eqb-true (length (l .procs)) (512 * 24) (y .0), eqb-true (length (l .vars)) (1024 * 4) (y .1))
+lent-sized r c l hr hc e = let (h, p, v) = full-sizes limits l e in (hr, hc, h, p, v)
 
 module _ (s : List ℕ) (l : Lent) {a : Loaded} (is : a ≡ loadOf s) where
   pub startable-refused : {f : Refusal} → a ≡ Refused f → StartableSays s l a

@@ -2,46 +2,39 @@
 use mathlib.Core.Path.{_∙_, _≡_, sym}
 use mathlib.Core.Bool.{_&&_, Bool, false, true}
 use mathlib.Core.List.{List}
-use Prim.Native.Nat.{_*_, _≤_, ℕ}
-use lib.Dec.{eqb, ltb}
+use Prim.Native.Nat.{_≤_, ℕ}
+use lib.Dec.{ltb}
 use lib.ListN.{length}
-use borrow.Author.Tests.{eqb-true, ltb-true}
+use borrow.Author.Tests.{ltb-true}
 use native.Mathlib.Omega.{arith}
 use Rattle.load.specs.Bounds.{Bounded}
+use Rattle.machine.proofs.Held.{limits}
 use Rattle.machine.specs.Entered.{EnterSays, Inside}
-use Rattle.parlog.proofs.Assume.{assume-counts}
+use Rattle.parlog.proofs.Assume.{assume-counts, full-sizes}
 use Rattle.parlog.proofs.Bools.{and-true}
 use Rattle.parlog.specs.Calls.{enter}
-use Rattle.parlog.specs.Limits.{Limits, small}
+use Rattle.parlog.specs.Limits.{small}
 use Rattle.parlog.specs.Load.{loadOf, refusal}
 use Rattle.parlog.specs.Program.{programOf}
 use Rattle.parlog.specs.Scan.{every}
 use Rattle.parlog.specs.TableRules.{cellKnown, fullSize, lentOk, stateOk, tablesOk}
-use Rattle.parlog.specs.Tables.{at, Lent, markerLast, procCount, tablesIn, varCount}
+use Rattle.parlog.specs.Tables.{Lent, markerLast, procCount, tablesIn, varCount}
 use Rattle.parlog.specs.declared.Loaded.{Loaded}
 use Rattle.parlog.specs.declared.Loaded.the-variants.{Accepted, Refused}
 use Rattle.parlog.specs.declared.Refusal.{Refusal}
 use Rattle.rows.proofs.Tables.{procs-length}
 use Rattle.vars.proofs.Tables.{vars-length}
 
--- the limits, as the tests are given them
-abbrev limits : Limits
-limits = record { procs = 512; vars = 1024 }
-
 -- THE LAW: what an accepted image and good tables give
 pub lent-inside : (s : List ℕ) (r c : ℕ) (l : Lent) → loadOf s ≡ Accepted r c → r ≤ 32 → c ≤ 64 → lentOk small (programOf s r c) l ≡ true → Inside s r c l
-unfolding lentOk fullSize tablesOk tablesIn small
+unfolding lentOk tablesOk tablesIn small
 lent-inside s r c l el hr hc e =
     let a = and-true (fullSize limits l) (every (cellKnown (l .vars)) (varCount (l .head)) && tablesOk limits (programOf s r c) (tablesIn l)) e in
     let b = and-true (every (cellKnown (l .vars)) (varCount (l .head))) (tablesOk limits (programOf s r c) (tablesIn l)) (a .1) in
     let t = and-true (stateOk limits (programOf s r c) (tablesIn l .state)) (ltb (markerLast (l .head)) (length (tablesIn l .state .procs))) (b .1) in
     let k = assume-counts limits (programOf s r c) (tablesIn l .state) (t .0) in
     let m = ltb-true (markerLast (l .head)) (length (tablesIn l .state .procs)) (t .1) in
-    let x = and-true (eqb (length (l .head)) 10) (eqb (length (l .procs)) (512 * 24) && eqb (length (l .vars)) (1024 * 4)) (a .0) in
-    let y = and-true (eqb (length (l .procs)) (512 * 24)) (eqb (length (l .vars)) (1024 * 4)) (x .1) in
-    let h = eqb-true (length (l .head)) 10 (x .0) in
-    let p = eqb-true (length (l .procs)) (512 * 24) (y .0) in
-    let v = eqb-true (length (l .vars)) (1024 * 4) (y .1) in
+    let (h, p, v) = full-sizes limits l (a .0) in
     let np = procs-length (l .procs) (procCount (l .head)) in
     let nv = vars-length (l .vars) (varCount (l .head)) in
     record {

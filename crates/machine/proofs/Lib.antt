@@ -1,4 +1,5 @@
 -- The laws of the calls.
+pub mod Held
 pub mod Entering
 pub mod Looking
 pub mod Beginning

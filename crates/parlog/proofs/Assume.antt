@@ -3,7 +3,7 @@ use mathlib.Core.Path.{_∙_, _≡_, ap, sym}
 use mathlib.Core.Logic.{_≢_, _⊎_, inl, inr}
 use mathlib.Core.Bool.{_&&_, not, true}
 use mathlib.Core.List.{[], _∷_, List}
-use Prim.Native.Nat.{_+_, _<_, _≤_, suc, zero, ℕ}
+use Prim.Native.Nat.{_*_, _+_, _<_, _≤_, suc, zero, ℕ}
 use lib.Dec.{eqb, leb, ltb}
 use lib.ListN.{getD, length, List·getD-eq-default, take}
 use lib.Seq.{getD-take, length-take-le}
@@ -26,8 +26,8 @@ use Rattle.parlog.specs.Notions.{Child, me, Reports}
 use Rattle.parlog.specs.Program.{blockCount, clauseAt, goalAt, literalAt, Program, stageAt, varsOf}
 use Rattle.parlog.specs.Rules.{fits}
 use Rattle.parlog.specs.Scan.{implies}
-use Rattle.parlog.specs.TableRules.{allBelow, blockIn, callIn, clauseIn, equalityIn, foundIn, goalIn, goingOk, isEquality, known, literalIn, notesOk, placesOk, stageIn, stateOk, succeeds, tryIn}
-use Rattle.parlog.specs.Tables.{at, noted, State}
+use Rattle.parlog.specs.TableRules.{allBelow, blockIn, callIn, clauseIn, equalityIn, foundIn, fullSize, goalIn, goingOk, isEquality, known, literalIn, notesOk, placesOk, stageIn, stateOk, succeeds, tryIn}
+use Rattle.parlog.specs.Tables.{at, Lent, noted, State}
 use Rattle.parlog.specs.Tree.{reports}
 use Rattle.parlog.specs.declared.Spot.{Spot}
 
@@ -198,3 +198,15 @@ module _ (lim : Limits) (pr : Program) (s : State) (ok : stateOk lim pr s ≡ tr
     assume-try e {c} ch =
         let z : tagOf (me s c .tag) ≡ try-clause = block-makes (tagOf (me s c .tag)) (rw (code-tag or-search (me s p .tag) e) at (state-good lim pr s ok .makes ch)) in
         sym (tag-code (me s c .tag) (state-good lim pr s ok .tags c)) ∙ ap tagCode z
+
+-- lent bytes of the full size
+pub full-sizes : (lim : Limits) (l : Lent) → fullSize lim l ≡ true → (length (l .head) ≡ 10) × (length (l .procs) ≡ lim .procs * 24) × (length (l .vars) ≡ lim .vars * 4)
+unfolding fullSize
+full-sizes lim l e =
+    let x = and-true (eqb (length (l .head)) 10) (eqb (length (l .procs)) (lim .procs * 24) && eqb (length (l .vars)) (lim .vars * 4)) e in
+    let y = and-true (eqb (length (l .procs)) (lim .procs * 24)) (eqb (length (l .vars)) (lim .vars * 4)) (x .1) in
+    (eqb-true (length (l .head)) 10 (x .0), eqb-true (length (l .procs)) (lim .procs * 24) (y .0), eqb-true (length (l .vars)) (lim .vars * 4) (y .1))
+
+pub sizes-full : (lim : Limits) (l : Lent) → length (l .head) ≡ 10 → length (l .procs) ≡ lim .procs * 24 → length (l .vars) ≡ lim .vars * 4 → fullSize lim l ≡ true
+unfolding fullSize
+sizes-full lim l a b c = rw (eq-eqb (length (l .head)) 10 a, eq-eqb (length (l .procs)) (lim .procs * 24) b, eq-eqb (length (l .vars)) (lim .vars * 4) c)

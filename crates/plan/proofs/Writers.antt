@@ -1,7 +1,7 @@
 -- The ways through the writers.
 use mathlib.Core.Path.{_∙_, _≡_, ap, refl, sym}
 use mathlib.Core.Bool.{_&&_, _||_, Bool, false, true}
-use mathlib.Core.List.{[], _++_, _∷_, List, append-assoc, append-nil}
+use mathlib.Core.List.{[], _++_, _∷_, append-assoc, append-nil, List}
 use Prim.Native.Nat.{_+_, _<_, _≤_, ℕ}
 use lib.Dec.{eqb}
 use lib.ListN.{getD, length, length-append, length-replicate, length-set, replicate, set, take}
@@ -10,6 +10,7 @@ use borrow.Author.Tests.{eqb-false, eqb-true}
 use native.Mathlib.Omega.{arith}
 use native.Mathlib.Numerals.{add-one}
 use Rattle.parlog.proofs.Bools.{split}
+use Rattle.parlog.proofs.Effects.{changed-length}
 use Rattle.parlog.proofs.Rows.{build-is}
 use Rattle.parlog.proofs.Unified.{changed-append}
 use Rattle.parlog.specs.Codes.{dormant}
@@ -18,7 +19,6 @@ use Rattle.parlog.specs.Scan.{build}
 use Rattle.parlog.specs.Tables.{at, idle, processAt, procsOf, varsIn}
 use Rattle.parlog.specs.Tree.{below}
 use Rattle.parlog.specs.Unify.{changed}
-use Rattle.parlog.specs.declared.Binding.{Binding}
 use Rattle.parlog.specs.declared.Binding.the-variants.{Bound, Free}
 use Rattle.parlog.specs.declared.Change.{Change}
 use Rattle.parlog.specs.declared.Found.{Found}
@@ -153,11 +153,6 @@ procs-done l l1 l2 l3 l4 n p pl lt t1 t2 t3 t4 =
     rw s at c
 
 -- ---- the variable table
-
-changed-length : (vs : List Binding) (cs : List Change) → length (changed vs cs) ≡ length vs
-unfolding changed
-changed-length vs [] = refl
-changed-length vs (c ∷ cs) = changed-length (set vs (c .var) (Bound (c .to))) cs ∙ length-set vs (c .var) (Bound (c .to))
 
 pub bind-start : (l : List ℕ) (m : ℕ) (cs : List Change) → Cells m l l (changed (varsIn l m) (take 0 cs))
 unfolding changed

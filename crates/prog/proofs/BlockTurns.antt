@@ -9,11 +9,12 @@ use lib.Seq.{getD-append-seam}
 use borrow.Author.Tests.{eq-eqb, eqb-false, eqb-true, ltb-false, ltb-true, ne-eqb}
 use native.Mathlib.Omega.{arith}
 use native.Mathlib.Numerals.{add-one}
-use Rattle.parlog.proofs.Along.{along-snoc, list-length}
+use Rattle.parlog.proofs.Along.{along-snoc}
 use Rattle.parlog.proofs.Says.{there}
 use Rattle.parlog.specs.Image.{byteAt, recordAt, recordEnd, wordAt}
-use Rattle.parlog.specs.Program.{blockCount, blockOf, clauseAt, clauseOf, inBlock, opens, Program, programOf}
+use Rattle.parlog.specs.Program.{blockCount, blockOf, clauseAt, inBlock, opens, Program, programOf}
 use Rattle.parlog.specs.Scan.{tally, those}
+use Rattle.place.proofs.Clauses.{clause-count}
 use Rattle.prog.proofs.Clauses.{mark-some, relation-some}
 use Rattle.prog.specs.Parts.{opensBy, relationBefore}
 
@@ -130,8 +131,7 @@ scan-clause test j = refl
 
 module _ (s : List ℕ) (r c q k : ℕ) (z : k ≡ c) where
   all : k ≡ length (programOf s r c .clauses)
-  unfolding programOf
-  all = z ∙ sym (list-length (clauseOf s) (recordEnd s) c (recordAt s r))
+  all = z ∙ sym (clause-count s r c)
 
   pub count-end : {x : ℕ} → x ≡ tally (opens (programOf s r c) q) k → x ≡ blockCount (programOf s r c) q
   unfolding blockCount

@@ -11,14 +11,15 @@ use Rattle.parlog.specs.Program.{Clause, clauseAt, clauseOf, modesAt, modesOf, 
 use Rattle.parlog.specs.Scan.{listOf}
 use Rattle.parlog.specs.declared.Term.{Term}
 use Rattle.parlog.specs.declared.Term.the-variants.{Const}
-use Rattle.prog.proofs.Goals.{clause-none, clause-some}
+use Rattle.place.proofs.Clauses.{clause-past}
+use Rattle.prog.proofs.Goals.{clause-some}
 use Rattle.prog.proofs.Rows.{goal-length}
 
 module _ (s : List ℕ) (r c k : ℕ) where
   -- past the end
   module _ (h : c ≤ k) where
     past : clauseAt (programOf s r c) k ≡ noClause
-    past = clause-none s r c k h
+    past = clause-past s r c k h
 
     pub relation-none : 255 ≡ clauseAt (programOf s r c) k .rel
     relation-none = sym (ap (λ (z : Clause). z .rel) past)

@@ -5,11 +5,11 @@ use Prim.Native.Nat.{_+_, _-_, _<_, _≤_, suc, zero, ℕ}
 use lib.ListN.{getD, length, length-append, List·getD-append}
 use lib.Seq.{getD-append-add}
 use native.Mathlib.Omega.{arith}
-use Rattle.parlog.proofs.Along.{along-add, list-at, list-past}
 use Rattle.parlog.specs.Codes.{kindOf}
-use Rattle.parlog.specs.Image.{bodyAt, byteAt, guardAt, recordAt, recordEnd}
+use Rattle.parlog.specs.Image.{bodyAt, byteAt, guardAt, recordAt}
 use Rattle.parlog.specs.Program.{before, Clause, clauseAt, clauseOf, committedBody, Goal, goalAt, goalBy, goalOf, Literal, literalAt, noClause, noLiteral, Program, programOf, stageAt}
 use Rattle.parlog.specs.declared.Spot.{Spot}
+use Rattle.place.proofs.Clauses.{clause-here, clause-past}
 use Rattle.prog.proofs.Outs.{no-terms}
 use Rattle.prog.proofs.Rows.{goal-length}
 use Rattle.prog.specs.Parts.{clauseOuts, shown, stagesWith}
@@ -89,13 +89,8 @@ unfolding committedBody programOf clauseOf clauseOuts
 body-of s r c from = refl
 
 module _ (s : List ℕ) (r c k : ℕ) where
-  pub clause-none : c ≤ k → clauseAt (programOf s r c) k ≡ noClause
-  unfolding programOf
-  clause-none h = list-past (clauseOf s) (recordEnd s) c (recordAt s r) k noClause h
-
   pub clause-some : k < c → {from : ℕ} → from ≡ recordAt s (r + k) → clauseAt (programOf s r c) k ≡ clauseOf s from
-  unfolding programOf
-  clause-some h e = list-at (clauseOf s) (recordEnd s) c (recordAt s r) k noClause h ∙ ap (clauseOf s) (along-add (recordEnd s) k r 0 ∙ sym e)
+  clause-some h e = clause-here s r c k h ∙ ap (clauseOf s) (sym e)
 
   pub goal-own : {kind : ℕ} → kind ≡ 0 → {g : ℕ} → g ≡ recordAt s (r + c) → goalBy (kindOf kind) (programOf s r c) k ≡ goalOf s (g + 5)
   unfolding programOf
@@ -103,7 +98,7 @@ module _ (s : List ℕ) (r c k : ℕ) where
 
   module _ {kind : ℕ} (n0 : (kind ≡ 0 → ⊥)) where
     pub goal-none : c ≤ k → goalBy (kindOf kind) (programOf s r c) k ≡ []
-    goal-none h = none-by (programOf s r c) k (clause-none h) kind n0
+    goal-none h = none-by (programOf s r c) k (clause-past s r c k h) kind n0
 
     module _ (h : k < c) {from : ℕ} (e : from ≡ recordAt s (r + k)) where
       pub goal-guard : kind ≡ 1 → {g : ℕ} → g ≡ guardAt s from → goalBy (kindOf kind) (programOf s r c) k ≡ goalOf s g

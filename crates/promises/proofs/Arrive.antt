@@ -4,6 +4,7 @@ use mathlib.Core.Bool.{true}
 use mathlib.Core.List.{List}
 use Prim.Native.Nat.{_≤_, ℕ}
 use Rattle.load.proofs.Accepted.{reached}
+use Rattle.machine.proofs.Held.{same-lent}
 use Rattle.parlog.proofs.Kept.{run-keeps, step-keeps, supply-keeps, turn-keeps}
 use Rattle.parlog.proofs.Repeated.{run-reached}
 use Rattle.parlog.proofs.Stable.{supply-grows}
@@ -15,12 +16,12 @@ use Rattle.parlog.specs.Load.{loadOf, refusal}
 use Rattle.parlog.specs.Program.{Program, programOf}
 use Rattle.parlog.specs.Run.{given, made, runTables, Stepping, stepTables, Supplying, supplyTables, turnTables, ungiven, unmade}
 use Rattle.parlog.specs.TableRules.{tablesOk}
-use Rattle.parlog.specs.Tables.{at, freshTables, Lent, putTables, Tables, tablesIn}
+use Rattle.parlog.specs.Tables.{freshTables, Lent, putTables, Tables, tablesIn}
 use Rattle.parlog.specs.declared.Loaded.the-variants.{Accepted}
 use Rattle.parlog.specs.declared.Move.{Move}
 use Rattle.promises.proofs.Demand1.{step-as, supply-as, turn-as}
 use Rattle.promises.proofs.Demand2.{demand-2-start, holds-in, image-sane}
-use Rattle.promises.proofs.Entry.{let-ok, put-holds, put-let, run-let, same-lent}
+use Rattle.promises.proofs.Entry.{let-ok, put-holds, put-let, run-let}
 use Rattle.promises.proofs.Fours.{Fours, fours-in, fours-run, fours-step, fours-supply, fours-turn}
 use Rattle.promises.proofs.Keeping.{kept-start}
 use Rattle.promises.proofs.Words.{moved-told, refused-told}

@@ -7,6 +7,7 @@ use Prim.Native.Nat.{_<_, _≤_, ℕ}
 use lib.Dec.{ltb}
 use borrow.Author.Tests.{ltb-false, ltb-true}
 use native.Mathlib.Omega.{arith}
+use Rattle.machine.proofs.Held.{same-lent, tables-state}
 use Rattle.parlog.proofs.Bools.{split}
 use Rattle.parlog.proofs.Says.{says}
 use Rattle.parlog.proofs.Stable.{can-here}
@@ -18,7 +19,7 @@ use Rattle.parlog.specs.Numbers.{refusedAs, word}
 use Rattle.parlog.specs.Program.{Program, programOf}
 use Rattle.parlog.specs.Run.{Looking, Running, runTables, Stepping, stepTables, Supplying, supplyTables, turnFor, turnTables, turnTo, unmade, valueTables}
 use Rattle.parlog.specs.TableRules.{fullSize}
-use Rattle.parlog.specs.Tables.{at, Lent, procCount, startedLent, Tables, tablesIn}
+use Rattle.parlog.specs.Tables.{Lent, procCount, startedLent, Tables, tablesIn}
 use Rattle.parlog.specs.Unify.{value}
 use Rattle.parlog.specs.declared.Found.{Found}
 use Rattle.parlog.specs.declared.Found.the-variants.{At, Nothing}
@@ -30,10 +31,10 @@ use Rattle.parlog.specs.declared.Stepped.the-variants.{Unmoved}
 use Rattle.parlog.specs.declared.Supplied.the-variants.{Ungiven}
 use Rattle.parlog.specs.declared.Term.the-variants.{Var}
 use Rattle.parlog.specs.declared.Valued.the-variants.{Unvalued}
-use Rattle.promises.proofs.Entry.{away, away-numbered, Door, door, inside, let-count, let-in-same, let-ok, run-let, run-turned, same-lent, step-let, step-turned, supply-let, supply-turned, turn-let, turn-turned, value-let, value-turned}
+use Rattle.promises.proofs.Entry.{away, away-numbered, Door, door, inside, let-count, let-in-same, let-ok, run-let, run-turned, step-let, step-turned, supply-let, supply-turned, turn-let, turn-turned, value-let, value-turned}
 use Rattle.promises.proofs.Giving.{is-constant, is-taken, look-sees, look-twelve, not-there, Offer, offer, supply-fourteen, supply-thirteen, supply-twelve, too-large}
 use Rattle.promises.proofs.Loaded.{accepted-few, refused-number}
-use Rattle.promises.proofs.Whose.{goes, is-full, is-still, move-can, none-turn, of-turn, step-eleven, step-nine, step-ten, tables-state, too-high, Trial, trial, turn-moves, turn-none, turn-of}
+use Rattle.promises.proofs.Whose.{goes, is-full, is-still, move-can, none-turn, of-turn, step-eleven, step-nine, step-ten, too-high, Trial, trial, turn-moves, turn-none, turn-of}
 use Rattle.promises.proofs.Words.{accepted-told, begun-told, ended-told, given-told, moved-told, refused-told, term-told}
 use Rattle.promises.specs.Outcomes.{firstIn, largeIn, LoadMeets, refusalIn, RunMeets, secondIn, StartMeets, StepMeets, SupplyMeets, TurnMeets, ValueMeets}
 use Rattle.promises.specs.Refusals.{bad-image, BadImage, has-constant, LetIn, no-constant, no-process, no-room-for, no-room-in-turn, no-rule-for, no-variable, no-variable-seen, nobody, RefusesBy, Refusing, run-away, RunRefused, start-image, start-sizes, StartRefused, stateIn, step-away, StepRefused, supply-away, SupplyRefused, Turn, turn-away, TurnRefused, value-away, ValueRefused}

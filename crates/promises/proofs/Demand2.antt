@@ -7,8 +7,9 @@ use Prim.Native.Nat.{_*_, _<_, _≤_, ℕ}
 use lib.ListN.{getD, length}
 use native.Mathlib.Omega.{arith}
 use Rattle.load.proofs.Sanity.{accepted-sane}
+use Rattle.machine.proofs.Held.{same-lent, started-good, started-read, tables-state}
 use Rattle.parlog.proofs.Exact.{at-most-one}
-use Rattle.parlog.proofs.Kept.{fresh-keeps, run-keeps, step-keeps, supply-keeps}
+use Rattle.parlog.proofs.Kept.{run-keeps, step-keeps, supply-keeps}
 use Rattle.parlog.proofs.Repeated.{runs, runs-only}
 use Rattle.parlog.proofs.Rows.{rows-length, written-past}
 use Rattle.parlog.proofs.Sane.{Sane}
@@ -17,23 +18,22 @@ use Rattle.parlog.specs.Load.{loadOf, refusal}
 use Rattle.parlog.specs.Program.{Program, programOf}
 use Rattle.parlog.specs.Relation.{Fits, Rule}
 use Rattle.parlog.specs.Run.{made, Running, runTables, Stepping, stepTables, supplied, Supplying, supplyTables, unmade}
-use Rattle.parlog.specs.TableRules.{fullSize, stateOk, tablesOk}
-use Rattle.parlog.specs.Tables.{at, bindingBytes, cellSize, freshTables, headSize, Lent, procCount, processBytes, putTables, rowsBytes, rowSize, startedLent, State, Tables, tablesIn, zeros}
+use Rattle.parlog.specs.TableRules.{stateOk, tablesOk}
+use Rattle.parlog.specs.Tables.{bindingBytes, Lent, procCount, processBytes, putTables, rowsBytes, startedLent, State, Tables, tablesIn}
 use Rattle.parlog.specs.declared.Loaded.the-variants.{Accepted}
 use Rattle.parlog.specs.declared.Move.{Move}
-use Rattle.promises.proofs.Codec.{put-good, put-read, sizes-full}
 use Rattle.promises.proofs.Demand1.{demand-1-start, is-begun, is-refused, Start, start-begun, starting-so, step-as, supply-as, turn-meets-step, turn-there, value-as}
-use Rattle.promises.proofs.Entry.{let-count, let-ok, put-holds, run-let, same-lent}
-use Rattle.promises.proofs.Fours.{Fours, fours-fresh, fours-in, fours-run, fours-step, fours-supply}
+use Rattle.promises.proofs.Entry.{let-count, let-ok, put-holds, run-let}
+use Rattle.promises.proofs.Fours.{Fours, fours-in, fours-run, fours-step, fours-supply}
 use Rattle.promises.proofs.Giving.{is-constant, is-taken, look-is, look-sees, look-value, not-there, Offer, offer, too-large}
 use Rattle.promises.proofs.Loaded.{accepted-few}
-use Rattle.promises.proofs.Whose.{goes, is-full, is-still, tables-state, too-high, Trial, trial}
+use Rattle.promises.proofs.Whose.{goes, is-full, is-still, too-high, Trial, trial}
 use Rattle.promises.proofs.Words.{ended-told, moved-told, refused-told, term-told}
 use Rattle.promises.specs.Moves.{afterStep, Holds, MovesExactly, Ran-to, RunsExactly, Sees, Shows, Supplies}
 use Rattle.promises.specs.Outcomes.{refusalIn, RunMeets, StartMeets, StepMeets, SupplyMeets, TurnMeets, ValueMeets}
 use Rattle.promises.specs.Reach.{Begins}
 use Rattle.promises.specs.Refusals.{CanMove, LacksRoom, LetIn, stateIn, Turn}
-use Rattle.rows.proofs.Laws.{row-length, zeros-length}
+use Rattle.rows.proofs.Laws.{row-length}
 use Rattle.vars.proofs.Laws.{cell-length}
 
 module _ (s : List ℕ) (l : Lent) {r c : ℕ} (i : LetIn s l r c) where
@@ -172,30 +172,12 @@ module _ (s : List ℕ) (l : Lent) {r c : ℕ} (i : LetIn s l r c) where
 
 -- ---- a start
 
-zeros-lent : Lent
-zeros-lent = record { head = zeros headSize; procs = zeros (small .procs * rowSize); vars = zeros (small .vars * cellSize) }
-
-zeros-full : fullSize small zeros-lent ≡ true
-unfolding zeros-lent small
-zeros-full = sizes-full (record { procs = 512; vars = 1024 }) _ (zeros-length 10) (zeros-length 12288) (zeros-length 4096)
-
 module _ (s : List ℕ) {r c : ℕ} (e : loadOf s ≡ Accepted r c) where
-  fresh-ok : tablesOk small (programOf s r c) (freshTables (programOf s r c)) ≡ true
-  unfolding small
-  fresh-ok = let a = accepted-few s e in fresh-keeps (record { procs = 512; vars = 1024 }) (programOf s r c) (omega arith) (omega (arith, a .2))
-
-  started-is : startedLent small (programOf s r c) ≡ putTables zeros-lent (freshTables (programOf s r c))
-  unfolding startedLent zeros-lent
-  started-is = refl
+  goal-few : programOf s r c .goalVars ≤ 255
+  goal-few = omega (arith, accepted-few s e .2)
 
   pub started-let : LetIn s (startedLent small (programOf s r c)) r c
-  started-let = record {
-    image = e;
-    tables = rw started-is (put-good small (programOf s r c) zeros-lent (freshTables (programOf s r c)) zeros-full (fours-fresh (programOf s r c)) fresh-ok);
-  }
-
-  pub started-read : tablesIn (startedLent small (programOf s r c)) ≡ freshTables (programOf s r c)
-  started-read = rw started-is (put-read small (programOf s r c) zeros-lent (freshTables (programOf s r c)) zeros-full (fours-fresh (programOf s r c)) fresh-ok)
+  started-let = record { image = e; tables = started-good (programOf s r c) goal-few }
 
 -- a start that is not refused leaves a fresh start
 pub demand-2-start : (s : List ℕ) (l : Lent) (w : ℕ) (l′ : Lent) → StartMeets s l w l′ → refusalIn w ≡ 0 → Begins s l′
@@ -206,7 +188,7 @@ demand-2-start s l w l′ meets z = go (starting-so s l)
     go (is-begun {r} {c} e h) =
         let q = start-begun s l e h in
         let k : l′ ≡ startedLent small (programOf s r c) = same-lent l′ (startedLent small (programOf s r c)) (meets .contract .head ∙ rw q) (meets .contract .procs ∙ rw q) (meets .contract .vars ∙ rw q) in
-        record { relations = r; clauses = c; image = e; read = rw k (started-read s e); bytes = k }
+        record { relations = r; clauses = c; image = e; read = rw k (started-read (programOf s r c) (goal-few s e)); bytes = k }
 
 -- ---- bytes past what a call writes
 

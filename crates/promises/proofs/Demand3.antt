@@ -6,6 +6,7 @@ use mathlib.Core.Bool.{true}
 use mathlib.Core.List.{[], _∷_, List}
 use Prim.Native.Nat.{_<_, ℕ}
 use native.Mathlib.Omega.{arith}
+use Rattle.machine.proofs.Held.{tables-state}
 use Rattle.parlog.proofs.Able.{wakes-exactly}
 use Rattle.parlog.proofs.Bools.{not-so}
 use Rattle.parlog.proofs.Fair.{served}
@@ -20,7 +21,7 @@ use Rattle.parlog.specs.Numbers.{endNumber}
 use Rattle.parlog.specs.Program.{Program, programOf}
 use Rattle.parlog.specs.Run.{canMove, Running}
 use Rattle.parlog.specs.TableRules.{stateOk}
-use Rattle.parlog.specs.Tables.{at, Lent, markerLast, procCount, Tables, tablesIn}
+use Rattle.parlog.specs.Tables.{Lent, markerLast, procCount, Tables, tablesIn}
 use Rattle.parlog.specs.declared.End.{End}
 use Rattle.parlog.specs.declared.End.the-variants.{Budget, Failure, Room, Success, Waiting}
 use Rattle.parlog.specs.declared.Loaded.the-variants.{Accepted}
@@ -28,7 +29,7 @@ use Rattle.promises.proofs.Arrive.{arrive-supply, arrive-turn, Arrived,
 use Rattle.promises.proofs.Demand1.{demand-1-turn}
 use Rattle.promises.proofs.Demand2.{demand-2-run}
 use Rattle.promises.proofs.Entry.{away-numbered, let-count, let-in-same, let-ok}
-use Rattle.promises.proofs.Whose.{can-move, move-can, tables-state}
+use Rattle.promises.proofs.Whose.{can-move, move-can}
 use Rattle.promises.specs.Outcomes.{firstIn, refusalIn, RunMeets, SupplyMeets, TurnMeets}
 use Rattle.promises.specs.Reach.{a-supply-between, a-supply-call, a-turn-call, another-does, calls-over, Came, Follow, for-room, is-dormant, it-moves, no-more-calls, ServedBy}
 use Rattle.promises.specs.Refusals.{CanMove, LetIn, no-room-in-turn, nobody, stateIn, turn-away, TurnRefused}

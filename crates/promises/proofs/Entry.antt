@@ -2,9 +2,9 @@
 use mathlib.Core.Path.{_∙_, _≡_, refl, sym}
 use mathlib.Core.Bool.{_&&_, Bool, false, true}
 use mathlib.Core.List.{List}
-use Prim.Native.Nat.{_*_, _≤_, ℕ}
-use lib.ListN.{length}
+use Prim.Native.Nat.{_≤_, ℕ}
 use native.Mathlib.Omega.{arith}
+use Rattle.machine.proofs.Held.{put-good, put-read}
 use Rattle.parlog.proofs.Bools.{and-true}
 use Rattle.parlog.specs.Calls.{enter, enterBy, entered, enterLoaded, Entry, runCall, runEntry, stepAnswer, stepCall, supplyAnswer, supplyCall, turnCall, turned-away, valueAnswer, valueCall}
 use Rattle.parlog.specs.Limits.{small}
@@ -21,7 +21,6 @@ use Rattle.parlog.specs.declared.Refusal.{Refusal}
 use Rattle.parlog.specs.declared.Stepped.the-variants.{Unmoved}
 use Rattle.parlog.specs.declared.Supplied.the-variants.{Ungiven}
 use Rattle.parlog.specs.declared.Valued.the-variants.{Unvalued}
-use Rattle.promises.proofs.Codec.{cells-fit, put-good, put-read, rows-fit}
 use Rattle.promises.proofs.Fours.{Fours}
 use Rattle.promises.proofs.Loaded.{refused-number}
 use Rattle.promises.specs.Moves.{Holds}
@@ -78,11 +77,6 @@ let-in-same {r = r} {c} {r′} {c′} a b =
 pub away-numbered : {s : List ℕ} {l : Lent} {n o : ℕ} → TurnedAway s l n o → (1 ≤ n) × (n ≤ 8)
 away-numbered {s} (for-image (bad-image e)) = let a = refused-number s e in (a .0, omega (arith, a .1))
 away-numbered (for-tables e h) = (omega arith, omega arith)
-
--- ---- bytes with the same three rows
-
-pub same-lent : (l m : Lent) → l .head ≡ m .head → l .procs ≡ m .procs → l .vars ≡ m .vars → l ≡ m
-same-lent l m a b c = λ i. record { head = a i; procs = b i; vars = c i }
 
 -- ---- the calls
 
@@ -142,26 +136,13 @@ module _ (s : List ℕ) (l : Lent) where
     unfolding lentOk
     let-full = and-true (fullSize small l) (every (cellKnown (l .vars)) (varCount (l .head)) && tablesOk small (programOf s r c) (tablesIn l)) (i .tables) .0
 
-    pub let-cells : every (cellKnown (l .vars)) (varCount (l .head)) ≡ true
-    unfolding lentOk
-    let-cells =
-        let pr : Program = programOf s r c in
-        and-true (every (cellKnown (l .vars)) (varCount (l .head))) (tablesOk small pr (tablesIn l))
-        (and-true (fullSize small l) (every (cellKnown (l .vars)) (varCount (l .head)) && tablesOk small pr (tablesIn l)) (i .tables) .1) .0
-
-    pub rows-in : length (tablesIn l .state .procs) * 24 ≤ length (l .procs)
-    rows-in = rows-fit small (programOf s r c) l (tablesIn l) let-full let-ok
-
-    pub cells-in : length (tablesIn l .state .vars) * 4 ≤ length (l .vars)
-    cells-in = cells-fit small (programOf s r c) l (tablesIn l) let-full let-ok
-
     pub let-count : procsIn (tablesIn l) ≡ procCount (l .head)
     unfolding tablesIn
     let-count = procs-length (l .procs) (procCount (l .head))
 
     module _ (t : Tables) (f : Fours (t .state)) (ok : tablesOk small (programOf s r c) t ≡ true) where
       pub put-let : LetIn s (putTables l t) r c
-      put-let = record { image = i .image; tables = put-good small (programOf s r c) l t let-full f ok }
+      put-let = record { image = i .image; tables = put-good small (programOf s r c) l t let-full ok (λ j h. f j) }
 
       pub put-holds : Holds l t (putTables l t)
-      put-holds = record { read = put-read small (programOf s r c) l t let-full f ok; bytes = refl }
+      put-holds = record { read = put-read small (programOf s r c) l t let-full ok (λ j h. f j); bytes = refl }

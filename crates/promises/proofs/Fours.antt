@@ -1,4 +1,4 @@
--- Every process has four notes, as its row does: in the tables that bytes hold, in a fresh start, and after every move and supply.
+-- Every process has four notes, as its row does: in the tables that bytes hold, and after every move and supply.
 use mathlib.Core.Path.{_≡_, refl}
 use mathlib.Core.Bool.{_&&_, _||_, Bool, false, true}
 use mathlib.Core.List.{[], _∷_, List}
@@ -11,15 +11,15 @@ use Rattle.parlog.proofs.Bools.{split}
 use Rattle.parlog.proofs.Effects.{apply-new, apply-row}
 use Rattle.parlog.proofs.Repeated.{runs}
 use Rattle.parlog.proofs.Steps.{step-made, turn-made}
-use Rattle.parlog.specs.Codes.{and-par, and-seq, dormant, equate, failure, guard-eval, input-match, Mode, modeOf, or-par, or-search, ready, reporting, Result, seq-search, starting, success, suspended, Tag, the-goal, try-clause, waiting}
+use Rattle.parlog.specs.Codes.{and-par, and-seq, dormant, equate, failure, guard-eval, input-match, Mode, modeOf, or-par, or-search, ready, reporting, Result, seq-search, starting, success, suspended, Tag, try-clause, waiting}
 use Rattle.parlog.specs.Delta.{apply, asleep, Delta, fourOf, isAt, literalSpot, making, only, report, reporting-with, rowAfter, trySpot, withMode, withNotes, withResult, withSpot, woken}
 use Rattle.parlog.specs.Demands.{no-more, once-more, Repeats}
 use Rattle.parlog.specs.Limits.{Limits}
-use Rattle.parlog.specs.Program.{Goal, Program, stageAt, tagOfGoal, varsOf}
+use Rattle.parlog.specs.Program.{Goal, Program, stageAt, varsOf}
 use Rattle.parlog.specs.Rules.{andParStart, andParWait, andSeqStart, andSeqWait, Applied, bodyChild, by-rule, equateStart, guardEvalStart, guardEvalWait, inputMatchStart, member, members, no-rule, orParHeard, orParStart, orParWait, orSearchStart, orSearchWait, ruleIn, ruleOf, searching, seqSearchNext, seqSearchStart, seqSearchWait, startRule, stopRule, tries, tryClauseStart, tryClauseWait, waitRule, wakeRule, withFound}
 use Rattle.parlog.specs.Run.{made, runTables, stepped, stepTables, supplied, turnTables}
 use Rattle.parlog.specs.Scan.{build}
-use Rattle.parlog.specs.Tables.{at, fresh, freshTables, goalSpot, Lent, newProcess, notesAt, procCount, processAt, procsOf, State, Tables, tablesIn}
+use Rattle.parlog.specs.Tables.{at, Lent, newProcess, procCount, State, Tables, tablesIn}
 use Rattle.parlog.specs.Tree.{bad, below, good, Heard, silent}
 use Rattle.parlog.specs.Unify.{binds, Decided, fails, suspends}
 use Rattle.parlog.specs.declared.Change.{Change}
@@ -28,6 +28,7 @@ use Rattle.parlog.specs.declared.Found.the-variants.{At, Nothing}
 use Rattle.parlog.specs.declared.Move.{Move}
 use Rattle.parlog.specs.declared.Process.{Process}
 use Rattle.parlog.specs.declared.Spot.{Spot}
+use Rattle.rows.proofs.Tables.{procs-four}
 use Rattle.rows.specs.Rows.{Four}
 
 abbrev pub Fours : State → Type 0
@@ -269,17 +270,9 @@ fours-apply s p d f g i = split (ltb i (length (s .procs)))
     let z : i ≡ length (s .procs) + j = omega arith in
     rw (z, apply-new s p d j) (four-at (g .new) j))
 
-pub fours-fresh : (pr : Program) → Fours (freshTables pr .state)
-unfolding freshTables fresh
-fours-fresh pr = four-at (four-one _ (four-new (tagOfGoal (pr .goal)) starting 0 (goalSpot the-goal 0 0)))
-
-four-row : (l : List ℕ) (i : ℕ) → Four (processAt l i)
-unfolding processAt notesAt
-four-row l i = refl
-
 pub fours-in : (l : Lent) → Fours (tablesIn l .state)
-unfolding tablesIn procsOf
-fours-in l = four-at (four-build (processAt (l .procs)) (four-row (l .procs)) (procCount (l .head)))
+unfolding tablesIn
+fours-in l = procs-four (l .procs) (procCount (l .head))
 
 pub fours-step : (lim : Limits) (pr : Program) (t : Tables) → Fours (t .state) → (p : ℕ) (m : Move) (t′ : Tables) → stepTables lim pr t p ≡ made m t′ → Fours (t′ .state)
 unfolding stepped

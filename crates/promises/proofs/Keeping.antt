@@ -3,6 +3,7 @@ use mathlib.Core.Path.{_∙_, _≡_, refl, sym}
 use mathlib.Core.Bool.{true}
 use mathlib.Core.List.{List}
 use Prim.Native.Nat.{ℕ}
+use Rattle.machine.proofs.Held.{same-lent}
 use Rattle.parlog.proofs.Kept.{run-keeps, step-keeps, supply-keeps, turn-keeps}
 use Rattle.parlog.proofs.Stable.{supply-grows}
 use Rattle.parlog.proofs.Steps.{steady-kept}
@@ -12,12 +13,12 @@ use Rattle.parlog.specs.Load.{loadOf}
 use Rattle.parlog.specs.Program.{Program, programOf}
 use Rattle.parlog.specs.Run.{given, made, runTables, Stepping, stepTables, Supplying, supplyTables, turnTables, ungiven, unmade}
 use Rattle.parlog.specs.TableRules.{tablesOk}
-use Rattle.parlog.specs.Tables.{at, Lent, putTables, startedLent, Tables, tablesIn}
+use Rattle.parlog.specs.Tables.{Lent, putTables, startedLent, Tables, tablesIn}
 use Rattle.parlog.specs.declared.Loaded.the-variants.{Accepted}
 use Rattle.parlog.specs.declared.Move.{Move}
 use Rattle.promises.proofs.Demand1.{supply-as}
 use Rattle.promises.proofs.Demand2.{demand-2-start, image-sane, started-let}
-use Rattle.promises.proofs.Entry.{let-ok, put-let, run-let, same-lent, step-let, turn-let}
+use Rattle.promises.proofs.Entry.{let-ok, put-let, run-let, step-let, turn-let}
 use Rattle.promises.proofs.Fours.{Fours, fours-in, fours-run, fours-step, fours-supply, fours-turn}
 use Rattle.promises.specs.Outcomes.{refusalIn, RunMeets, StartMeets, StepMeets, SupplyMeets, TurnMeets}
 use Rattle.promises.specs.Refusals.{LetIn}

@@ -2,13 +2,13 @@
 use mathlib.Core.Path.{_∙_, _≡_, ap, sym}
 use mathlib.Core.List.{List}
 use Prim.Native.Nat.{ℕ}
+use Rattle.machine.proofs.Held.{same-lent}
 use Rattle.parlog.specs.Run.{watchOf}
 use Rattle.parlog.specs.Tables.{Lent}
 use Rattle.parlog.specs.declared.Found.{Found}
 use Rattle.parlog.specs.declared.Marker.{Marker}
 use Rattle.parlog.specs.declared.Process.{Process}
 use Rattle.parlog.specs.declared.Stepped.{Stepped}
-use Rattle.promises.proofs.Entry.{same-lent}
 use Rattle.promises.specs.Outcomes.{LoadMeets, RunMeets, StartMeets, StepMeets, SupplyMeets, TurnMeets, ValueMeets, WatchMeets}
 use Rattle.turned.specs.Turned.{turnedFrom, TurnedSays}
 use Rattle.turned.specs.declared.Turned.{Turned}

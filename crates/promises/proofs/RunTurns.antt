@@ -1,14 +1,16 @@
 -- A run leaves the word's count of turn calls behind it: the bytes after it are those after as many turn calls, each of them made.
-use mathlib.Core.Path.{_∙_, _≡_, refl, subst, sym}
+use mathlib.Core.Path.{_≡_, refl, subst, sym}
 use mathlib.Core.Bool.{false, true}
 use mathlib.Core.List.{List}
 use Prim.Native.Nat.{_*_, _≤_, ℕ}
 use lib.ListN.{length}
 use native.Mathlib.Omega.{arith}
-use Rattle.head.proofs.Laws.{head-is}
+use Rattle.load.proofs.Accepted.{accepted}
+use Rattle.machine.proofs.Entering.{lent-inside}
+use Rattle.machine.proofs.Held.{cells-fit, rows-fit, same-lent}
 use Rattle.parlog.proofs.Effects.{apply-count, apply-vars}
 use Rattle.parlog.proofs.Kept.{turn-keeps}
-use Rattle.parlog.proofs.Rows.{rows-length, written-in, written-is, written-length, written-past}
+use Rattle.parlog.proofs.Rows.{rows-length, written-over}
 use Rattle.parlog.proofs.Sane.{Sane}
 use Rattle.parlog.proofs.Steps.{step-made, turn-made}
 use Rattle.parlog.specs.Demands.{no-more, once-more, Repeats}
@@ -17,34 +19,22 @@ use Rattle.parlog.specs.Numbers.{stepNumbers, word}
 use Rattle.parlog.specs.Program.{Program, programOf}
 use Rattle.parlog.specs.Run.{goalEnded, made, stepped, stepTables, turnTables}
 use Rattle.parlog.specs.TableRules.{tablesOk}
-use Rattle.parlog.specs.Tables.{at, bindingBytes, Lent, procCount, processBytes, putTables, rowsBytes, Tables, tablesIn, varCount, written}
+use Rattle.parlog.specs.Tables.{bindingBytes, Lent, processBytes, putTables, rowsBytes, Tables, tablesIn}
 use Rattle.parlog.specs.declared.Move.{Move}
 use Rattle.parlog.specs.declared.Stepped.the-variants.{Moved}
-use Rattle.promises.proofs.Codec.{cells-fit, full-sizes, rows-fit}
 use Rattle.promises.proofs.Demand1.{turn-as}
 use Rattle.promises.proofs.Demand2.{demand-2-run, image-sane}
-use Rattle.promises.proofs.Entry.{cells-in, let-cells, let-full, let-ok, put-holds, put-let, rows-in, same-lent}
+use Rattle.promises.proofs.Entry.{let-full, let-ok, put-holds, put-let}
 use Rattle.promises.proofs.Fours.{Fours, fours-in, fours-turn}
 use Rattle.promises.proofs.Words.{moved-told}
 use Rattle.promises.specs.Moves.{AllBytes, no-turn, one-turn, Turns}
 use Rattle.promises.specs.Outcomes.{largeIn, RunMeets, TurnMeets}
 use Rattle.promises.specs.Refusals.{LetIn}
-use Rattle.rows.proofs.Exact.{table-bytes}
 use Rattle.rows.proofs.Laws.{row-length}
-use Rattle.rows.proofs.Tables.{procs-length, table-same}
-use Rattle.vars.proofs.Exact.{cells-bytes}
+use Rattle.run.proofs.Runs.{grown-same}
 use Rattle.vars.proofs.Laws.{cell-length}
-use Rattle.vars.proofs.Tables.{cells-same, vars-length}
 
--- ---- bytes written over
-
-over : (a b old : List ℕ) → length a ≤ length b → length b ≤ length old → written b (written a old) ≡ written b old
-over a b old h g =
-    let n : length (written a old) ≡ length old = written-length a old (omega arith) in
-    let m : length b ≤ length (written a old) = omega arith in
-    written-is b old (written b (written a old)) (written-length b (written a old) m ∙ n) g
-    (λ j u. written-in b (written a old) j u)
-    (λ j u. written-past b (written a old) j u ∙ written-past a old j (omega arith))
+-- ---- tables written over
 
 -- no fewer rows
 record Grown (t u : Tables) : Type 0 where
@@ -61,8 +51,8 @@ put-over l t u g h k =
     let c = rows-length bindingBytes 4 cell-length (t .state .vars) in
     let d = rows-length bindingBytes 4 cell-length (u .state .vars) in
     same-lent _ _ refl
-    (over (rowsBytes processBytes (t .state .procs)) (rowsBytes processBytes (u .state .procs)) (l .procs) (omega (arith, g .procs)) (omega arith))
-    (over (rowsBytes bindingBytes (t .state .vars)) (rowsBytes bindingBytes (u .state .vars)) (l .vars) (omega (arith, g .vars)) (omega arith))
+    (written-over (rowsBytes processBytes (t .state .procs)) (rowsBytes processBytes (u .state .procs)) (l .procs) (omega (arith, g .procs)) (omega arith))
+    (written-over (rowsBytes bindingBytes (t .state .vars)) (rowsBytes bindingBytes (u .state .vars)) (l .vars) (omega (arith, g .vars)) (omega arith))
 
 -- ---- repeated moves
 
@@ -115,15 +105,11 @@ module _ (s : List ℕ) (r c : ℕ) where
 
 -- bytes that hold good tables are those that the tables are written to
 put-same : (s : List ℕ) (l : Lent) {r c : ℕ} → LetIn s l r c → AllBytes l → putTables l (tablesIn l) ≡ l
-unfolding putTables tablesIn
-put-same s l i b =
-    let z = full-sizes small l (let-full s l i) in
-    let n = procs-length (l .procs) (procCount (l .head)) in
-    let m = vars-length (l .vars) (varCount (l .head)) in
-    same-lent _ l
-    (rw (n, m) (sym (head-is (l .head) (z .0) (b .head))))
-    (sym (table-bytes (table-same (l .procs) (procCount (l .head))) (b .procs) (unfold tablesIn in rows-in s l i)))
-    (sym (cells-bytes (cells-same (l .vars) (varCount (l .head))) (let-cells s l i) (b .vars) (unfold tablesIn in cells-in s l i)))
+put-same s l {r} {c} i b =
+    let a = accepted s r c (i .image) in
+    let k = lent-inside s r c l (i .image) (a .relations) (a .clauses) (i .tables) in
+    let g = grown-same l k (b .head) (b .procs) (b .vars) in
+    same-lent (putTables l (tablesIn l)) l (sym (g .head)) (sym (g .procs)) (sym (g .vars))
 
 -- demand 2: the count of a run is the number of turn calls that come to the same bytes
 pub demand-2-run-turns : (s : List ℕ) (l : Lent) {r c : ℕ} → LetIn s l r c → AllBytes l → (limit w : ℕ) (l′ : Lent) → RunMeets s l limit w l′ → Turns s l (largeIn w) l′

@@ -3,16 +3,16 @@ use mathlib.Core.Path.{_∙_, _≡_, ap, refl, sym}
 use mathlib.Core.Bool.{_&&_, Bool, true}
 use Prim.Native.Nat.{_<_, _≤_, ℕ}
 use lib.Dec.{ltb}
-use lib.ListN.{length}
 use borrow.Author.Tests.{le-ltb, lt-ltb, ltb-false, ltb-true}
 use native.Mathlib.Omega.{arith}
+use Rattle.machine.proofs.Held.{tables-state}
 use Rattle.parlog.proofs.Bools.{and-true, never, split, true-and}
 use Rattle.parlog.proofs.Exact.{exactly-makes, exactly-room, exactly-still, makes-exactly, room-exactly, still-exactly}
 use Rattle.parlog.proofs.Scans.{lowest-at, lowest-none}
 use Rattle.parlog.proofs.Stable.{can-applies, can-here}
 use Rattle.parlog.specs.Codes.{none}
 use Rattle.parlog.specs.Delta.{apply, Delta}
-use Rattle.parlog.specs.Limits.{Limits, small}
+use Rattle.parlog.specs.Limits.{small}
 use Rattle.parlog.specs.Program.{Program}
 use Rattle.parlog.specs.Relation.{Fits, Rule}
 use Rattle.parlog.specs.Rules.{Decision, move, moved, room, still}
@@ -44,10 +44,6 @@ module _ (pr : Program) (s : State) (ok : stateOk small pr s ≡ true) (p : ℕ)
 
   pub room-not : move small pr s p ≡ room → LacksRoom pr s p
   room-not e = let a = exactly-room small pr s ok p e in record { rule = a .rule; after = a .after; holds = a .holds; full = a .full }
-
-pub tables-state : (lim : Limits) (pr : Program) (t : Tables) → tablesOk lim pr t ≡ true → stateOk lim pr (t .state) ≡ true
-unfolding tablesOk
-tables-state lim pr t ok = and-true (stateOk lim pr (t .state)) (ltb (t .last) (length (t .state .procs))) ok .0
 
 -- ---- whose turn it is
 

@@ -2,14 +2,17 @@
 use mathlib.Core.Path.{_∙_, _≡_, ap, refl, sym}
 use mathlib.Core.List.{[], _++_, _∷_, List}
 use Prim.Native.Nat.{_*_, _+_, _<_, _≤_, suc, ℕ}
+use lib.Dec.{ltb}
 use lib.ListN.{length, length-append, length-set, set}
+use borrow.Author.Tests.{ltb-false, ltb-true}
 use native.Mathlib.Omega.{arith}
+use Rattle.parlog.proofs.Bools.{split}
 use Rattle.parlog.proofs.Rows.{build-cong, build-is, build-past, build-set, build-snoc}
 use Rattle.parlog.proofs.Scans.{build-at, build-length}
 use Rattle.parlog.specs.Scan.{build}
 use Rattle.parlog.specs.Tables.{at, idle, processAt, procsOf}
 use Rattle.parlog.specs.declared.Process.{Process}
-use Rattle.rows.proofs.Laws.{byte-past, process-other, process-same, put-length}
+use Rattle.rows.proofs.Laws.{byte-past, process-four, process-other, process-same, put-length}
 use Rattle.rows.specs.Rows.{Four, putProcess, Table}
 
 pub procs-length : (l : List ℕ) (n : ℕ) → length (procsOf l n) ≡ n
@@ -24,6 +27,12 @@ procs-at l n i h = build-at (processAt l) n i idle h
 pub procs-past : (l : List ℕ) (n i : ℕ) → n ≤ i → at (procsOf l n) i ≡ idle
 unfolding procsOf
 procs-past l n i h = build-past (processAt l) n i idle h
+
+-- every process has four notes, also past the used rows
+pub procs-four : (l : List ℕ) (n i : ℕ) → Four (at (procsOf l n) i)
+procs-four l n i = split (ltb i n)
+    (λ e. rw (procs-at l n i (ltb-true i n e)) (process-four l i))
+    (λ e. rw (procs-past l n i (ltb-false i n e)))
 
 -- rows that agree give the same list
 pub procs-cong : (l m : List ℕ) (n : ℕ) → ((i : ℕ) → i < n → processAt l i ≡ processAt m i) → procsOf l n ≡ procsOf m n

@@ -9,12 +9,12 @@ use lib.ListN.{length}
 use native.Mathlib.Omega.{arith}
 use Rattle.head.proofs.Laws.{head-is}
 use Rattle.machine.specs.Entered.{Inside}
-use Rattle.parlog.proofs.Rows.{rows-length, written-in, written-is, written-length, written-past}
+use Rattle.parlog.proofs.Rows.{rows-length, written-over}
 use Rattle.parlog.specs.Codes.{isLive, resultOf}
 use Rattle.parlog.specs.Limits.{Limits, small}
 use Rattle.parlog.specs.Program.{Program, programOf}
 use Rattle.parlog.specs.Run.{endOf, goalEnded, goalResult, halt, made, runFrom, runStep, runTables, runTest, runTurn, stepTables, turnFor, unmade}
-use Rattle.parlog.specs.Tables.{at, bindingBytes, Lent, procCount, processBytes, putTables, rowsBytes, Tables, tablesIn, varCount, written}
+use Rattle.parlog.specs.Tables.{bindingBytes, Lent, procCount, processBytes, putTables, rowsBytes, Tables, tablesIn, varCount}
 use Rattle.parlog.specs.declared.Binding.{Binding}
 use Rattle.parlog.specs.declared.End.{End}
 use Rattle.parlog.specs.declared.End.the-variants.{Budget, Failure, Room, Success, Waiting}
@@ -79,14 +79,7 @@ module _ (lim : Limits) (pr : Program) (t : Tables) where
       unfolding runFrom runTest runTurn runStep
       run-goes k n g = rw (e, f, g)
 
--- ---- bytes written twice
-
-twice : (a b l : List ℕ) → length a ≤ length l → length b ≤ length l → length a ≤ length b → written b (written a l) ≡ written b l
-twice a b l ha hb h =
-    let n = written-length a l ha in
-    written-is b l (written b (written a l)) (written-length b (written a l) (omega arith) ∙ n) hb
-    (λ j u. written-in b (written a l) j u)
-    (λ j u. written-past b (written a l) j u ∙ written-past a l j (omega arith))
+-- ---- tables written over
 
 rows-in : (ps : List Process) → length (rowsBytes processBytes ps) ≡ length ps * 24
 rows-in = rows-length processBytes 24 row-length
@@ -116,7 +109,7 @@ module _ {s : List ℕ} {r c : ℕ} (l₀ l l′ : Lent) (i₀ : Inside s r c l�
       let m = i .procs-most in
       let m′ = i′ .procs-most in
       let g = b .more-procs in
-      b .procs ∙ rw (a .procs) (twice (rowsBytes processBytes (tablesIn l .state .procs)) (rowsBytes processBytes (tablesIn l′ .state .procs)) (l₀ .procs) (omega arith) (omega arith) (omega arith))
+      b .procs ∙ rw (a .procs) (written-over (rowsBytes processBytes (tablesIn l .state .procs)) (rowsBytes processBytes (tablesIn l′ .state .procs)) (l₀ .procs) (omega arith) (omega arith))
 
   vars-over : l′ .vars ≡ putTables l₀ (tablesIn l′) .vars
   unfolding putTables
@@ -129,7 +122,7 @@ module _ {s : List ℕ} {r c : ℕ} (l₀ l l′ : Lent) (i₀ : Inside s r c l�
       let m = i .vars-most in
       let m′ = i′ .vars-most in
       let g = b .more-vars in
-      b .vars ∙ rw (a .vars) (twice (rowsBytes bindingBytes (tablesIn l .state .vars)) (rowsBytes bindingBytes (tablesIn l′ .state .vars)) (l₀ .vars) (omega arith) (omega arith) (omega arith))
+      b .vars ∙ rw (a .vars) (written-over (rowsBytes bindingBytes (tablesIn l .state .vars)) (rowsBytes bindingBytes (tablesIn l′ .state .vars)) (l₀ .vars) (omega arith) (omega arith))
 
   head-over : l′ .head ≡ putTables l₀ (tablesIn l′) .head
   unfolding putTables
@@ -139,7 +132,7 @@ module _ {s : List ℕ} {r c : ℕ} (l₀ l l′ : Lent) (i₀ : Inside s r c l�
   grown-then = record { head = head-over; procs = procs-over; vars = vars-over; more-procs = let x = a .more-procs in let y = b .more-procs in omega arith; more-vars = let x = a .more-vars in let y = b .more-vars in omega arith }
 
 -- the same bytes hold their own tables
-grown-same : {s : List ℕ} {r c : ℕ} (l : Lent) → Inside s r c l → Bytes (l .head) → Bytes (l .procs) → Bytes (l .vars) → Grown l l
+pub grown-same : {s : List ℕ} {r c : ℕ} (l : Lent) → Inside s r c l → Bytes (l .head) → Bytes (l .procs) → Bytes (l .vars) → Grown l l
 grown-same l i hs ps vs = record { head = head-same; procs = procs-same; vars = vars-same; more-procs = omega arith; more-vars = omega arith }
   where
     head-same : l .head ≡ putTables l (tablesIn l) .head

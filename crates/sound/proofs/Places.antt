@@ -7,34 +7,30 @@ use lib.Dec.{eqb, leb, ltb}
 use lib.ListN.{length}
 use borrow.Author.Tests.{eq-eqb, le-leb, le-ltb, lt-ltb, ltb-true, ne-eqb}
 use native.Mathlib.Omega.{arith}
+use Rattle.checks.proofs.Laws.{and-one}
 use Rattle.checks.specs.Tests.{choose}
 use Rattle.parlog.proofs.Bools.{split}
 use Rattle.parlog.specs.Codes.{kindOf, tagOf}
-use Rattle.parlog.specs.Image.{recordAt, recordEnd}
-use Rattle.parlog.specs.Program.{blockCount, clauseAt, clauseOf, goalAt, Literal, literalAt, Program, programOf, stageAt, varsOf}
+use Rattle.parlog.specs.Program.{blockCount, clauseAt, goalAt, Literal, literalAt, Program, programOf, stageAt, varsOf}
 use Rattle.parlog.specs.Scan.{implies}
 use Rattle.parlog.specs.TableRules.{blockIn, callIn, clauseIn, equalityIn, foundIn, goalIn, goalInBy, goingOk, isEquality, literalIn, placesOk, succeeds, tryIn}
 use Rattle.parlog.specs.declared.Process.{Process}
 use Rattle.parlog.specs.declared.Spot.{Spot}
-use Rattle.parlog.proofs.Along.{list-length}
+use Rattle.place.proofs.Clauses.{clause-count}
 use Rattle.prog.specs.Parts.{shown}
 use Rattle.prog.specs.declared.Lit.{Lit}
 use Rattle.sound.specs.Parts.{behindCall, behindGoal, behindLiteral}
 
 -- ---- clauses
 
-clauses-length : (s : List ℕ) (r c : ℕ) → length (programOf s r c .clauses) ≡ c
-unfolding programOf
-clauses-length s r c = list-length (clauseOf s) (recordEnd s) c (recordAt s r)
-
 module _ (s : List ℕ) (r c n k v : ℕ) where
   pub clause-none : c ≤ k → false ≡ clauseIn (programOf s r c) n k v
   unfolding clauseIn
-  clause-none h = rw (clauses-length s r c, le-ltb k c h)
+  clause-none h = rw (clause-count s r c, le-ltb k c h)
 
   pub clause-some : k < c → {m : ℕ} → m ≡ varsOf (programOf s r c) k → leb (v + m) n ≡ clauseIn (programOf s r c) n k v
   unfolding clauseIn
-  clause-some h e = rw (clauses-length s r c, lt-ltb k c h, e)
+  clause-some h e = rw (clause-count s r c, lt-ltb k c h, e)
 
 -- ---- goals
 
@@ -110,10 +106,6 @@ pub told-none : {told : Bool} → told ≡ false → (a : Bool) → true ≡ imp
 told-none h a = rw h
 
 -- ---- all that a row's tag and mode read
-
-and-one : (b : Bool) → (b && true) ≡ b
-and-one true = refl
-and-one false = refl
 
 pub and-none : (b : Bool) → (b && false) ≡ false
 and-none true = refl

@@ -5,9 +5,11 @@ use mathlib.Core.List.{List}
 use Prim.Native.Nat.{_*_, _-_, _<_, _≤_, suc, zero, ℕ}
 use lib.Dec.{eqb, leb, ltb}
 use lib.ListN.{length}
-use borrow.Author.Tests.{eqb-true, leb-true}
+use borrow.Author.Tests.{leb-true}
 use native.Mathlib.Omega.{arith}
 use native.Mathlib.Nat.{not-suc-le-zero}
+use Rattle.parlog.proofs.Along.{less-one}
+use Rattle.parlog.proofs.Assume.{full-sizes}
 use Rattle.parlog.proofs.Bools.{and-true}
 use Rattle.parlog.specs.Limits.{Limits}
 use Rattle.parlog.specs.Program.{Program}
@@ -20,9 +22,6 @@ use Rattle.sound.specs.Parts.{cellOk}
 use Rattle.vars.proofs.Tables.{vars-at, vars-length}
 
 -- ---- counting down
-
-less-one : (n : ℕ) → suc n - 1 ≡ n
-less-one n = omega arith
 
 module _ (f : ℕ → Bool) where
   pub down-step : (q : ℕ) → 0 < q → {b : Bool} → b ≡ f (q - 1) → b ≡ true → every f q ≡ every f (q - 1)
@@ -104,11 +103,7 @@ module _ (most cap : ℕ) (pr : Program) (h l w : List ℕ) where
     module _ (q : a ≡ true) where
       -- the sizes themselves
       sizes : (length h ≡ 10) × (length l ≡ most * 24) × (length w ≡ cap * 4)
-      unfolding fullSize
-      sizes =
-          let x = and-true (eqb (length h) 10) (eqb (length l) (most * 24) && eqb (length w) (cap * 4)) (sym ea ∙ q) in
-          let y = and-true (eqb (length l) (most * 24)) (eqb (length w) (cap * 4)) (x .1) in
-          (eqb-true (length h) 10 (x .0), eqb-true (length l) (most * 24) (y .0), eqb-true (length w) (cap * 4) (y .1))
+      sizes = full-sizes lim lent (sym ea ∙ q)
 
       pub head-fits : 10 ≤ length h
       head-fits = omega (arith, sizes .0)
