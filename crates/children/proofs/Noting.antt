@@ -1,23 +1,22 @@
 -- The note of a process through the pass: at its start, after each row, and what it tells at the end.
 use mathlib.Core.Path.{_∙_, _≡_, ap, refl, sym}
-use mathlib.Core.Bool.{_&&_, _||_, Bool, cond, false, not, true}
-use mathlib.Core.List.{List}
+use mathlib.Core.Bool.{_&&_, _||_, and-assoc, and-comm, Bool, cond, false, not, or-assoc, or-comm, true}
+use mathlib.Core.List.{[], List}
 use Prim.Native.Nat.{_<_, suc, zero, ℕ}
 use lib.Dec.{eqb}
 use lib.ListN.{length}
-use borrow.Author.Tests.{eqb-true}
 use native.Mathlib.Omega.{arith}
 use Rattle.children.proofs.Small.{hear-bad, hear-done, hear-good, hear-late, hear-lost, hear-small, hear-some, says, says-good}
-use Rattle.children.specs.Notes.{firstHeard, foundBy, hear, heardBy, heardIn, latestIn, Noted, noneSilent, noteOf, someBad, someGood, spoke}
+use Rattle.children.specs.Notes.{firstHeard, foundBy, heardBy, latestIn, noneSilent, Noted, noteOf, someBad, someGood, spoke}
 use Rattle.children.specs.Telling.{heardOf, Tells}
-use Rattle.children.specs.declared.News.{News}
 use Rattle.children.specs.declared.Note.{Note}
 use Rattle.children.specs.declared.Told.{Told}
-use Rattle.parlog.proofs.Bools.{or-none, split}
+use Rattle.parlog.proofs.Bools.{not-so, or-none, split}
+use Rattle.parlog.proofs.Kin.{not-both, reports-at}
 use Rattle.parlog.specs.Codes.{failure, success}
 use Rattle.parlog.specs.Scan.{every, highest, lowest, orElse, some}
-use Rattle.parlog.specs.Tables.{at}
-use Rattle.parlog.specs.Tree.{allChildren, anyChild, bad, childDone, childReports, good, Heard, heard, heardFrom, isChild, latest, lowestChild, reports, silent}
+use Rattle.parlog.specs.Tables.{at, State}
+use Rattle.parlog.specs.Tree.{allChildren, anyChild, childDone, childReports, heard, heardFrom, isChild, latest, lowestChild, reports}
 use Rattle.parlog.specs.declared.Found.{Found}
 use Rattle.parlog.specs.declared.Found.the-variants.{At, Nothing}
 use Rattle.parlog.specs.declared.Process.{Process}
@@ -25,23 +24,10 @@ use Rattle.parlog.specs.declared.Process.{Process}
 -- ---- laws of tests
 
 or-move : (b r s : Bool) → (r || (s || b)) ≡ ((b || r) || s)
-or-move true true s = refl
-or-move true false true = refl
-or-move true false false = refl
-or-move false true s = refl
-or-move false false s = or-none s
+or-move b r s = sym (or-assoc r s b) ∙ or-comm (r || s) b ∙ sym (or-assoc b r s)
 
 and-move : (a r s : Bool) → (r && (s && a)) ≡ ((a && r) && s)
-and-move true true true = refl
-and-move true true false = refl
-and-move true false s = refl
-and-move false true true = refl
-and-move false true false = refl
-and-move false false s = refl
-
-and-all : (b : Bool) → (b && true) ≡ b
-and-all true = refl
-and-all false = refl
+and-move a r s = sym (and-assoc r s a) ∙ and-comm (r && s) a ∙ sym (and-assoc a r s)
 
 pub or-nothing : (f : Found) → orElse f Nothing ≡ f
 or-nothing (At c) = refl
@@ -59,19 +45,13 @@ late-move true q v = refl
 late-move false q v = refl
 
 -- success and failure are not told together
-exclusive : (x : Process) → not (reports success x && reports failure x) ≡ true
-unfolding reports
-exclusive x = split (eqb (x .result) 1)
-    (λ e. let w : x .result ≡ 1 = eqb-true (x .result) 1 e in rw w (one (eqb (x .mode) 4)))
-    (λ e. rw e (other (eqb (x .mode) 4) (eqb (x .result) 2)))
+exclusive : (ps : List Process) (c : ℕ) → not (reports success (at ps c) && reports failure (at ps c)) ≡ true
+exclusive ps c = split (reports success (at ps c))
+    (λ a. rw (a, not-so (reports failure (at ps c)) (λ b. not-both here c (reports-at here c success a) (reports-at here c failure b))))
+    (λ a. rw a)
   where
-    one : (m : Bool) → not ((m && true) && (m && false)) ≡ true
-    one true = refl
-    one false = refl
-
-    other : (m z : Bool) → not ((m && false) && (m && z)) ≡ true
-    other true z = refl
-    other false z = refl
+    here : State
+    here = record { procs = ps; vars = [] }
 
 -- ---- the pass
 
@@ -81,8 +61,8 @@ unfolding anyChild allChildren lowestChild latest
 noted-start ps p n v w e = rw e (record {
   small = omega arith;
   failed = or-none (some (childReports failure ps p) (length ps));
-  succeeded = and-all (every (childDone success ps p) (length ps));
-  hopeless = and-all (every (childDone failure ps p) (length ps));
+  succeeded = and-comm (every (childDone success ps p) (length ps)) true;
+  hopeless = and-comm (every (childDone failure ps p) (length ps)) true;
   lowest = or-nothing (lowest (childReports success ps p) (length ps));
   latest = refl;
   told = refl;
@@ -129,7 +109,7 @@ module _ (ps : List Process) (p q : ℕ) (x : Note) (so : Noted ps p (suc q) x) 
     s = x .said
 
     o : not (a && b) ≡ true
-    o = exclusive (at ps q)
+    o = exclusive ps q
 
     told-some : some (childReports failure ps p) (suc q) ≡ (b || some (childReports failure ps p) q)
     unfolding some childReports

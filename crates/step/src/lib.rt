@@ -1,7 +1,5 @@
 // The step by number: the move of one process, over lent bytes.
-use children::News;
 use children::Told;
-use parlog::Found;
 use parlog::Loaded;
 use parlog::Stepped;
 ghost use mathlib.Core.Path.{_≡_};
@@ -59,17 +57,6 @@ pub fn stepped(
     Stepped::Moved(mv)
 }
 
-// Nothing is told.
-fn nothing() -> Told {
-    Told {
-        failed: false,
-        succeeded: false,
-        hopeless: false,
-        lowest: Found::Nothing,
-        latest: News::Silent,
-    }
-}
-
 // What process p is told of its children; only one that waits asks.
 fn ask(procs: &[u8], n: usize, p: usize) -> Told
     requires { ⌜ (n * 24 ≤ length (now procs)) × (n ≤ 65535) ⌝ }
@@ -78,7 +65,7 @@ fn ask(procs: &[u8], n: usize, p: usize) -> Told
     if rows::mode_at(procs, n, p) == 3 {
         return children::asked(procs, n, p);
     }
-    nothing()
+    children::nothing()
 }
 
 // The step by number.

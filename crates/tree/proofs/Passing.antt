@@ -9,6 +9,7 @@ use lib.Seq.{set-getD}
 use borrow.Author.Tests.{le-ltb, lt-ltb, ltb-false, ltb-true}
 use native.Mathlib.Omega.{arith}
 use Rattle.parlog.proofs.Bools.{split}
+use Rattle.parlog.proofs.Fine.{asleep-parent}
 use Rattle.parlog.proofs.Rows.{build-cong, build-is, build-set}
 use Rattle.parlog.proofs.Scans.{build-at, build-length}
 use Rattle.parlog.specs.Codes.{dormant}
@@ -27,11 +28,6 @@ asleep-still : (b : Bool) (x : Process) → x .mode ≡ 0 → asleep b x ≡ x
 unfolding withMode
 asleep-still true x e = λ i. record { tag = x .tag; mode = sym e i; result = x .result; count = x .count; parent = x .parent; spot = x .spot; notes = x .notes }
 asleep-still false x e = refl
-
-pub asleep-parent : (b : Bool) (x : Process) → asleep b x .parent ≡ x .parent
-unfolding withMode
-asleep-parent true x = refl
-asleep-parent false x = refl
 
 -- ---- one row
 

@@ -2,10 +2,10 @@
 use mathlib.Core.Path.{_∙_, _≡_, refl, sym}
 use mathlib.Core.Logic.{_≢_}
 use mathlib.Core.Bool.{_&&_, Bool, cond, false, true}
-use mathlib.Core.List.{List}
-use Prim.Native.Nat.{_-_, _<_, _≤_, suc, zero, ℕ}
+use mathlib.Core.List.{[], List}
+use Prim.Native.Nat.{_-_, _<_, _≤_, suc, ℕ}
 use lib.Dec.{eqb, ltb}
-use lib.ListN.{getD, length, length-set, replicate, set}
+use lib.ListN.{getD, getD-replicate, length, length-set, replicate, set}
 use lib.Seq.{getD-set-other, getD-set-same}
 use borrow.Author.Tests.{eq-eqb, eqb-false, eqb-true, ne-eqb}
 use native.Mathlib.Omega.{arith}
@@ -14,10 +14,13 @@ use Rattle.children.specs.Notes.{heardBy, Noted, noteOf}
 use Rattle.children.specs.Telling.{Tells}
 use Rattle.children.specs.declared.Note.{Note}
 use Rattle.children.specs.declared.Told.{Told}
-use Rattle.parlog.proofs.Bools.{split}
-use Rattle.parlog.proofs.Scans.{lowest-at}
+use Rattle.parlog.proofs.Bools.{not-so, split}
+use Rattle.parlog.proofs.Fine.{child-lower}
+use Rattle.parlog.proofs.Kin.{child-at}
+use Rattle.parlog.proofs.Repeated.{turn-can}
+use Rattle.parlog.specs.Limits.{small}
 use Rattle.parlog.specs.Program.{Program}
-use Rattle.parlog.specs.Run.{canMove, turnOf}
+use Rattle.parlog.specs.Run.{canMove, turnFor, turnOf}
 use Rattle.parlog.specs.Scan.{lowest, orElse}
 use Rattle.parlog.specs.Tables.{at, State}
 use Rattle.parlog.specs.Tree.{isChild}
@@ -29,25 +32,18 @@ use Rattle.turns.specs.Notes.{AllNoted, noteIn}
 
 -- ---- the notes
 
-zeros-at : (k p : ℕ) → _≡_ {A = ℕ} (getD (replicate k 0) p 0) 0
-zeros-at zero p = refl
-zeros-at (suc k) zero = refl
-zeros-at (suc k) (suc p) = zeros-at k p
-
 module _ (ps : List Process) (n : ℕ) (en : length ps ≡ n) where
-  pub all-start : (k : ℕ) (latest lowest : List ℕ) → AllNoted ps n n (replicate k 0) latest lowest
+  pub all-start : (k : ℕ) (latest lowest : List ℕ) → n ≤ k → AllNoted ps n n (replicate k 0) latest lowest
   unfolding AllNoted
-  all-start k latest lowest p h = rw (zeros-at k p) (noted-start ps p n (getD latest p 0) (getD lowest p 0) (sym en))
+  all-start k latest lowest l p h = rw (getD-replicate {A = ℕ} k p 0 0 (omega arith)) (noted-start ps p n (getD latest p 0) (getD lowest p 0) (sym en))
 
   module _ (falls : Falls ps) where
     -- no child of p stands at p or before it
     before : (p i : ℕ) → i ≤ p → i < n → isChild ps p i ≡ false
-    unfolding isChild
-    before p i h l = split (eqb i 0)
-        (λ e. rw e)
-        (λ e. let u : at ps i .parent < i = falls i (omega arith) (eqb-false i 0 e) in
-        let ne : at ps i .parent ≢ p = λ z. omega (arith, z) in
-        rw (e, ne-eqb (at ps i .parent) p ne))
+    before p i h l = not-so (isChild ps p i) (λ e. let u = child-lower here (record { lower = falls }) p (child-at here p i (omega arith) e) in omega arith)
+      where
+        here : State
+        here = record { procs = ps; vars = [] }
 
     module _ (q : ℕ) (said latest lowest : List ℕ) where
       -- row q - 1 is reached: all its children were heard
@@ -149,13 +145,9 @@ module _ (st : State) (n last : ℕ) where
       rw (← kept-end (λ i. ltb last i && canMove pr st i) n b u, ← kept-end (canMove pr st) n r v) ef
 
 -- whose turn it is stands in the table
-pub turn-there : (f : ℕ → Bool) (n last : ℕ) {p : ℕ} → turnOf f n last ≡ At p → p < n
-unfolding turnOf
-turn-there f n last {p} e = go (lowest (λ i. ltb last i && f i) n) refl e
-  where
-    go : (g : Found) → lowest (λ i. ltb last i && f i) n ≡ g → orElse g (lowest f n) ≡ At p → p < n
-    go (At q) w z = lowest-at (λ i. ltb last i && f i) n p (w ∙ z) .there
-    go Nothing w z = lowest-at f n p z .there
+pub turn-there : (pr : Program) (st : State) (n last : ℕ) → length (st .procs) ≡ n → {p : ℕ} → turnOf (canMove pr st) n last ≡ At p → p < n
+unfolding turnFor
+turn-there pr st n last en {p} e = let h = turn-can small pr (record { state = st; last = last; steps = 0 }) p (rw en e) in omega (arith, h .0, en)
 
 -- ---- what the children of the process that was found report
 

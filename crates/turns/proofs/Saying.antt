@@ -1,11 +1,11 @@
 -- What was said of all children says whether a waiting process can move.
-use mathlib.Core.Path.{_∙_, _≡_, ap, refl, sym}
+use mathlib.Core.Path.{_∙_, _≡_, ap, refl}
 use mathlib.Core.Bool.{_&&_, _||_, Bool, cond, false, not, true}
 use mathlib.Core.List.{List}
 use Prim.Native.Nat.{ℕ}
 use lib.Dec.{eqb}
 use Rattle.children.proofs.Noting.{all-failed, all-hopeless, all-latest, all-lowest, all-succeeded}
-use Rattle.children.specs.Notes.{firstHeard, foundBy, latestIn, Noted, noneSilent, someBad, someGood, spoke}
+use Rattle.children.specs.Notes.{foundBy, latestIn, noneSilent, Noted, someBad, someGood, spoke}
 use Rattle.children.specs.declared.Note.{Note}
 use Rattle.parlog.proofs.Able.{canWait, isFound, isHeard}
 use Rattle.parlog.specs.Codes.{and-par, and-seq, equate, failure, guard-eval, input-match, or-par, or-search, seq-search, success, Tag, try-clause}
