@@ -9,15 +9,19 @@ use Rattle.head.proofs.Laws.{head-last, head-length, head-procs, head-steps, he
 use Rattle.parlog.proofs.Assume.{assume-counts, full-sizes, sizes-full}
 use Rattle.parlog.proofs.Bools.{and-true}
 use Rattle.parlog.proofs.Kept.{fresh-keeps}
+use Rattle.parlog.proofs.Rows.{rows-length, written-over}
 use Rattle.parlog.specs.Limits.{Limits, small}
 use Rattle.parlog.specs.Program.{Program}
 use Rattle.parlog.specs.Scan.{every}
 use Rattle.parlog.specs.TableRules.{cellKnown, fullSize, lentOk, stateOk, tablesOk}
-use Rattle.parlog.specs.Tables.{at, fresh, freshTables, Lent, markerLast, markerSteps, newProcess, procCount, procsOf, putTables, startedLent, Tables, tablesIn, varCount, varsIn, zeros}
+use Rattle.parlog.specs.Tables.{at, bindingBytes, fresh, freshTables, Lent, markerLast, markerSteps, newProcess, procCount, processBytes, procsOf, putTables, rowsBytes, startedLent, Tables, tablesIn, varCount, varsIn, zeros}
 use Rattle.rows.proofs.Exact.{table-written}
-use Rattle.rows.proofs.Laws.{zeros-length}
+use Rattle.rows.proofs.Laws.{row-length, zeros-length}
+use Rattle.rows.proofs.Tables.{procs-length}
 use Rattle.rows.specs.Rows.{Four}
 use Rattle.vars.proofs.Exact.{cells-written}
+use Rattle.vars.proofs.Laws.{cell-length}
+use Rattle.vars.proofs.Tables.{vars-length}
 
 -- the limits, as the tests are given them
 abbrev pub limits : Limits
@@ -26,6 +30,15 @@ limits = record { procs = 512; vars = 1024 }
 -- bytes with the same three rows
 pub same-lent : (l m : Lent) → l .head ≡ m .head → l .procs ≡ m .procs → l .vars ≡ m .vars → l ≡ m
 same-lent l m a b c = λ i. record { head = a i; procs = b i; vars = c i }
+
+-- how many rows the tables of these bytes have
+pub count-procs : (l : Lent) → length (tablesIn l .state .procs) ≡ procCount (l .head)
+unfolding tablesIn
+count-procs l = procs-length (l .procs) (procCount (l .head))
+
+pub count-vars : (l : Lent) → length (tablesIn l .state .vars) ≡ varCount (l .head)
+unfolding tablesIn
+count-vars l = vars-length (l .vars) (varCount (l .head))
 
 -- ---- tables written into lent bytes
 
@@ -77,6 +90,19 @@ module _ (l : Lent) (t : Tables) where
       tables-back : tablesIn (putTables l t) ≡ t
       unfolding tablesIn
       tables-back = λ i. record { state = record { procs = procs-back i; vars = vars-back i }; last = last-back i; steps = steps-back i }
+
+-- tables over others that had no more rows
+pub put-over : (l : Lent) (t u : Tables) → length (t .state .procs) ≤ length (u .state .procs) → length (t .state .vars) ≤ length (u .state .vars)
+    → length (u .state .procs) * 24 ≤ length (l .procs) → length (u .state .vars) * 4 ≤ length (l .vars) → putTables (putTables l t) u ≡ putTables l u
+unfolding putTables
+put-over l t u more-procs more-vars rows cells =
+    let a = rows-length processBytes 24 row-length (t .state .procs) in
+    let b = rows-length processBytes 24 row-length (u .state .procs) in
+    let c = rows-length bindingBytes 4 cell-length (t .state .vars) in
+    let d = rows-length bindingBytes 4 cell-length (u .state .vars) in
+    same-lent _ _ refl
+    (written-over (rowsBytes processBytes (t .state .procs)) (rowsBytes processBytes (u .state .procs)) (l .procs) (omega arith) (omega arith))
+    (written-over (rowsBytes bindingBytes (t .state .vars)) (rowsBytes bindingBytes (u .state .vars)) (l .vars) (omega arith) (omega arith))
 
 -- ---- good tables in bytes of the full size
 

@@ -7,7 +7,7 @@ use Prim.Native.Nat.{_<_, _≤_, ℕ}
 use lib.Dec.{ltb}
 use borrow.Author.Tests.{ltb-false, ltb-true}
 use native.Mathlib.Omega.{arith}
-use Rattle.machine.proofs.Held.{same-lent, tables-state}
+use Rattle.machine.proofs.Held.{count-procs, same-lent, tables-state}
 use Rattle.parlog.proofs.Bools.{split}
 use Rattle.parlog.proofs.Says.{says}
 use Rattle.parlog.proofs.Stable.{can-here}
@@ -31,7 +31,7 @@ use Rattle.parlog.specs.declared.Stepped.the-variants.{Unmoved}
 use Rattle.parlog.specs.declared.Supplied.the-variants.{Ungiven}
 use Rattle.parlog.specs.declared.Term.the-variants.{Var}
 use Rattle.parlog.specs.declared.Valued.the-variants.{Unvalued}
-use Rattle.promises.proofs.Entry.{away, away-numbered, Door, door, inside, let-count, let-in-same, let-ok, run-let, run-turned, step-let, step-turned, supply-let, supply-turned, turn-let, turn-turned, value-let, value-turned}
+use Rattle.promises.proofs.Entry.{away, away-numbered, Door, door, inside, let-in-same, let-ok, run-let, run-turned, step-let, step-turned, supply-let, supply-turned, turn-let, turn-turned, value-let, value-turned}
 use Rattle.promises.proofs.Giving.{is-constant, is-taken, look-sees, look-twelve, not-there, Offer, offer, supply-fourteen, supply-thirteen, supply-twelve, too-large}
 use Rattle.promises.proofs.Loaded.{accepted-few, refused-number}
 use Rattle.promises.proofs.Whose.{goes, is-full, is-still, move-can, none-turn, of-turn, step-eleven, step-nine, step-ten, too-high, Trial, trial, turn-moves, turn-none, turn-of}
@@ -138,9 +138,9 @@ module _ (s : List ℕ) (l : Lent) (p : ℕ) where
 
   pub step-refused : {n o : ℕ} → StepRefused s l p n o → stepCall small s l p ≡ record { answer = Unmoved (refusal n o); lent = l }
   step-refused (step-away a) = step-turned s l a p
-  step-refused (no-process i h) = step-as i (step-nine _ (tablesIn l) (let-ok s l i) p (rw (let-count s l i) h))
-  step-refused (no-rule-for i h n) = step-as i (step-ten _ (tablesIn l) (let-ok s l i) p (rw (let-count s l i) h) n)
-  step-refused (no-room-for i h n) = step-as i (step-eleven _ (tablesIn l) (let-ok s l i) p (rw (let-count s l i) h) n)
+  step-refused (no-process i h) = step-as i (step-nine _ (tablesIn l) (let-ok s l i) p (rw (count-procs l) h))
+  step-refused (no-rule-for i h n) = step-as i (step-ten _ (tablesIn l) (let-ok s l i) p (rw (count-procs l) h) n)
+  step-refused (no-room-for i h n) = step-as i (step-eleven _ (tablesIn l) (let-ok s l i) p (rw (count-procs l) h) n)
 
   module _ (w : ℕ) (l′ : Lent) (meets : StepMeets s l p w l′) where
     step-answered : Door s l → Answered (StepRefused s l p) w
@@ -148,9 +148,9 @@ module _ (s : List ℕ) (l : Lent) (p : ℕ) where
     step-answered (inside {r} {c} i) = go (trial (programOf s r c) (tablesIn l) (let-ok s l i) p) refl
       where
         go : {a : Stepping} → Trial (programOf s r c) (tablesIn l) (let-ok s l i) p a → stepTables small (programOf s r c) (tablesIn l) p ≡ a → Answered (StepRefused s l p) w
-        go (too-high h) e = a-refusal (no-process i (rw (← let-count s l i) h))
-        go (is-still h n) e = a-refusal (no-rule-for i (rw (← let-count s l i) h) n)
-        go (is-full h n) e = a-refusal (no-room-for i (rw (← let-count s l i) h) n)
+        go (too-high h) e = a-refusal (no-process i (rw (← count-procs l) h))
+        go (is-still h n) e = a-refusal (no-rule-for i (rw (← count-procs l) h) n)
+        go (is-full h n) e = a-refusal (no-room-for i (rw (← count-procs l) h) n)
         go (goes {m} h x f) e = no-refusal (moved-told w m (meets .contract .answer ∙ rw (step-as i e)) .accepted)
 
     step-word : (n o : ℕ) → StepRefused s l p n o → w ≡ word (refusedAs (refusal n o))
@@ -186,7 +186,7 @@ module _ (s : List ℕ) (l : Lent) where
   turn-there {r} {c} {p} i u =
       let pr : Program = programOf s r c in
       let ok = let-ok s l i in
-      rw (← let-count s l i) (can-here pr (stateIn l) p (move-can pr (stateIn l) (tables-state small pr (tablesIn l) ok) p (turn-moves pr (tablesIn l) ok u)))
+      rw (← count-procs l) (can-here pr (stateIn l) p (move-can pr (stateIn l) (tables-state small pr (tablesIn l) ok) p (turn-moves pr (tablesIn l) ok u)))
 
   pub turn-refused : {n o : ℕ} → TurnRefused s l n o → turnCall small s l ≡ record { answer = Unmoved (refusal n o); lent = l }
   turn-refused (turn-away a) = turn-turned s l a

@@ -7,7 +7,7 @@ use Prim.Native.Nat.{_*_, _<_, _≤_, ℕ}
 use lib.ListN.{getD, length}
 use native.Mathlib.Omega.{arith}
 use Rattle.load.proofs.Sanity.{accepted-sane}
-use Rattle.machine.proofs.Held.{same-lent, started-good, started-read, tables-state}
+use Rattle.machine.proofs.Held.{count-procs, same-lent, started-good, started-read, tables-state}
 use Rattle.parlog.proofs.Exact.{at-most-one}
 use Rattle.parlog.proofs.Kept.{run-keeps, step-keeps, supply-keeps}
 use Rattle.parlog.proofs.Repeated.{runs, runs-only}
@@ -23,7 +23,7 @@ use Rattle.parlog.specs.Tables.{bindingBytes, Lent, procCount, processBytes, pu
 use Rattle.parlog.specs.declared.Loaded.the-variants.{Accepted}
 use Rattle.parlog.specs.declared.Move.{Move}
 use Rattle.promises.proofs.Demand1.{demand-1-start, is-begun, is-refused, Start, start-begun, starting-so, step-as, supply-as, turn-meets-step, turn-there, value-as}
-use Rattle.promises.proofs.Entry.{let-count, let-ok, put-holds, run-let}
+use Rattle.promises.proofs.Entry.{let-ok, put-holds, run-let}
 use Rattle.promises.proofs.Fours.{Fours, fours-in, fours-run, fours-step, fours-supply}
 use Rattle.promises.proofs.Giving.{is-constant, is-taken, look-is, look-sees, look-value, not-there, Offer, offer, too-large}
 use Rattle.promises.proofs.Loaded.{accepted-few}
@@ -75,7 +75,7 @@ module _ (s : List ℕ) (l : Lent) {r c : ℕ} (i : LetIn s l r c) where
     can-of {m} {s′} x = record { rule = m; after = s′; holds = x }
 
     by-trial : {a : Stepping} → Trial pr (tablesIn l) (let-ok s l i) p a → stepTables small pr (tablesIn l) p ≡ a → MovesExactly pr l p w l′
-    by-trial (too-high g) e = absurd (omega (arith, let-count s l i))
+    by-trial (too-high g) e = absurd (omega (arith, count-procs l))
     by-trial (is-still g n) e =
         let k : refusalIn w ≡ 10 = refused-as 10 (omega arith) e in
         record {

@@ -6,7 +6,7 @@ use mathlib.Core.Bool.{true}
 use mathlib.Core.List.{[], _∷_, List}
 use Prim.Native.Nat.{_<_, ℕ}
 use native.Mathlib.Omega.{arith}
-use Rattle.machine.proofs.Held.{tables-state}
+use Rattle.machine.proofs.Held.{count-procs, tables-state}
 use Rattle.parlog.proofs.Able.{wakes-exactly}
 use Rattle.parlog.proofs.Bools.{not-so}
 use Rattle.parlog.proofs.Fair.{served}
@@ -28,7 +28,7 @@ use Rattle.parlog.specs.declared.Loaded.the-variants.{Accepted}
 use Rattle.promises.proofs.Arrive.{arrive-supply, arrive-turn, Arrived, came-arrived, supply-holds, supply-stays, turn-holds, turn-stays}
 use Rattle.promises.proofs.Demand1.{demand-1-turn}
 use Rattle.promises.proofs.Demand2.{demand-2-run}
-use Rattle.promises.proofs.Entry.{away-numbered, let-count, let-in-same, let-ok}
+use Rattle.promises.proofs.Entry.{away-numbered, let-in-same, let-ok}
 use Rattle.promises.proofs.Whose.{can-move, move-can}
 use Rattle.promises.specs.Outcomes.{firstIn, refusalIn, RunMeets, SupplyMeets, TurnMeets}
 use Rattle.promises.specs.Reach.{a-supply-between, a-supply-call, a-turn-call, another-does, calls-over, Came, Follow, for-room, is-dormant, it-moves, no-more-calls, ServedBy}
@@ -105,7 +105,7 @@ module _ (s : List ℕ) (l : Lent) (came : Came s l) {r c : ℕ} (e : loadOf s �
 
   -- once the goal has ended every process is dormant
   pub demand-3-end : HasMode (stateIn l) 0 dormant → (p : ℕ) → p < procCount (l .head) → HasMode (stateIn l) p dormant
-  demand-3-end g p h = ended-all small (programOf s r c) (here .reached) g p (rw (let-count s l (here .enters)) h)
+  demand-3-end g p h = ended-all small (programOf s r c) (here .reached) g p (rw (count-procs l) h)
 
   -- a run that answers waiting (3) leaves such a deadlock
   pub demand-3c-run : (limit w : ℕ) (l′ : Lent) → RunMeets s l limit w l′ → firstIn w ≡ 3 → Deadlock (stateIn l′)

@@ -10,10 +10,10 @@ use Rattle.parlog.specs.Calls.{enter, enterBy, entered, enterLoaded, Entry, run
 use Rattle.parlog.specs.Limits.{small}
 use Rattle.parlog.specs.Load.{loadOf, refusal}
 use Rattle.parlog.specs.Program.{Program, programOf}
-use Rattle.parlog.specs.Run.{procsIn, stepTables, supplyTables, turnTables, valueTables}
+use Rattle.parlog.specs.Run.{stepTables, supplyTables, turnTables, valueTables}
 use Rattle.parlog.specs.Scan.{every}
 use Rattle.parlog.specs.TableRules.{cellKnown, fullSize, lentOk, tablesOk}
-use Rattle.parlog.specs.Tables.{Lent, procCount, putTables, Tables, tablesIn, varCount}
+use Rattle.parlog.specs.Tables.{Lent, putTables, Tables, tablesIn, varCount}
 use Rattle.parlog.specs.declared.Loaded.{Loaded}
 use Rattle.parlog.specs.declared.Loaded.the-variants.{Accepted, Refused}
 use Rattle.parlog.specs.declared.Ran.the-variants.{Unrun}
@@ -25,7 +25,6 @@ use Rattle.promises.proofs.Fours.{Fours}
 use Rattle.promises.proofs.Loaded.{refused-number}
 use Rattle.promises.specs.Moves.{Holds}
 use Rattle.promises.specs.Refusals.{bad-image, for-image, for-tables, LetIn, TurnedAway}
-use Rattle.rows.proofs.Tables.{procs-length}
 
 -- ---- the first tests
 
@@ -135,10 +134,6 @@ module _ (s : List ℕ) (l : Lent) where
     pub let-full : fullSize small l ≡ true
     unfolding lentOk
     let-full = and-true (fullSize small l) (every (cellKnown (l .vars)) (varCount (l .head)) && tablesOk small (programOf s r c) (tablesIn l)) (i .tables) .0
-
-    pub let-count : procsIn (tablesIn l) ≡ procCount (l .head)
-    unfolding tablesIn
-    let-count = procs-length (l .procs) (procCount (l .head))
 
     module _ (t : Tables) (f : Fours (t .state)) (ok : tablesOk small (programOf s r c) t ≡ true) where
       pub put-let : LetIn s (putTables l t) r c

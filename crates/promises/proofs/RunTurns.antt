@@ -2,15 +2,14 @@
 use mathlib.Core.Path.{_≡_, refl, subst, sym}
 use mathlib.Core.Bool.{false, true}
 use mathlib.Core.List.{List}
-use Prim.Native.Nat.{_*_, _≤_, ℕ}
+use Prim.Native.Nat.{_≤_, ℕ}
 use lib.ListN.{length}
 use native.Mathlib.Omega.{arith}
 use Rattle.load.proofs.Accepted.{accepted}
 use Rattle.machine.proofs.Entering.{lent-inside}
-use Rattle.machine.proofs.Held.{cells-fit, rows-fit, same-lent}
+use Rattle.machine.proofs.Held.{cells-fit, put-over, rows-fit, same-lent}
 use Rattle.parlog.proofs.Effects.{apply-count, apply-vars}
 use Rattle.parlog.proofs.Kept.{turn-keeps}
-use Rattle.parlog.proofs.Rows.{rows-length, written-over}
 use Rattle.parlog.proofs.Sane.{Sane}
 use Rattle.parlog.proofs.Steps.{step-made, turn-made}
 use Rattle.parlog.specs.Demands.{no-more, once-more, Repeats}
@@ -19,7 +18,7 @@ use Rattle.parlog.specs.Numbers.{stepNumbers, word}
 use Rattle.parlog.specs.Program.{Program, programOf}
 use Rattle.parlog.specs.Run.{goalEnded, made, stepped, stepTables, turnTables}
 use Rattle.parlog.specs.TableRules.{tablesOk}
-use Rattle.parlog.specs.Tables.{bindingBytes, Lent, processBytes, putTables, rowsBytes, Tables, tablesIn}
+use Rattle.parlog.specs.Tables.{Lent, putTables, Tables, tablesIn}
 use Rattle.parlog.specs.declared.Move.{Move}
 use Rattle.parlog.specs.declared.Stepped.the-variants.{Moved}
 use Rattle.promises.proofs.Demand1.{turn-as}
@@ -30,31 +29,14 @@ use Rattle.promises.proofs.Words.{moved-told}
 use Rattle.promises.specs.Moves.{AllBytes, no-turn, one-turn, Turns}
 use Rattle.promises.specs.Outcomes.{largeIn, RunMeets, TurnMeets}
 use Rattle.promises.specs.Refusals.{LetIn}
-use Rattle.rows.proofs.Laws.{row-length}
 use Rattle.run.proofs.Runs.{grown-same}
-use Rattle.vars.proofs.Laws.{cell-length}
 
--- ---- tables written over
+-- ---- repeated moves
 
 -- no fewer rows
 record Grown (t u : Tables) : Type 0 where
   procs : length (t .state .procs) ≤ length (u .state .procs)
   vars : length (t .state .vars) ≤ length (u .state .vars)
-
--- tables over others that had no more rows
-put-over : (l : Lent) (t u : Tables) → Grown t u → length (u .state .procs) * 24 ≤ length (l .procs) → length (u .state .vars) * 4 ≤ length (l .vars)
-    → putTables (putTables l t) u ≡ putTables l u
-unfolding putTables
-put-over l t u g h k =
-    let a = rows-length processBytes 24 row-length (t .state .procs) in
-    let b = rows-length processBytes 24 row-length (u .state .procs) in
-    let c = rows-length bindingBytes 4 cell-length (t .state .vars) in
-    let d = rows-length bindingBytes 4 cell-length (u .state .vars) in
-    same-lent _ _ refl
-    (written-over (rowsBytes processBytes (t .state .procs)) (rowsBytes processBytes (u .state .procs)) (l .procs) (omega (arith, g .procs)) (omega arith))
-    (written-over (rowsBytes bindingBytes (t .state .vars)) (rowsBytes bindingBytes (u .state .vars)) (l .vars) (omega (arith, g .vars)) (omega arith))
-
--- ---- repeated moves
 
 grown-step : (lim : Limits) (pr : Program) (t u : Tables) (p : ℕ) (m : Move) → stepTables lim pr t p ≡ made m u → Grown t u
 unfolding stepped
@@ -95,9 +77,10 @@ module _ (s : List ℕ) (r c : ℕ) where
       let x : tablesOk small pr t′ ≡ true = keeps-repeats small pr (image-sane s l i) k v in
       let full = let-full s l i in
       let one : putTables (putTables l u) u ≡ putTables l u =
-      put-over l u u (record { procs = omega arith; vars = omega arith }) (rows-fit small pr l u full v) (cells-fit small pr l u full v) in
+      put-over l u u (omega arith) (omega arith) (rows-fit small pr l u full v) (cells-fit small pr l u full v) in
+      let more = grown-repeats small pr k in
       let all : putTables (putTables l u) t′ ≡ putTables l t′ =
-      put-over l u t′ (grown-repeats small pr k) (rows-fit small pr l t′ full x) (cells-fit small pr l t′ full x) in
+      put-over l u t′ (more .procs) (more .vars) (rows-fit small pr l t′ full x) (cells-fit small pr l t′ full x) in
       let rest = turns-from k (putTables l u) (put-let s l i u f v) (put-holds s l i u f v .read) one in
       let w : ℕ = word (stepNumbers (Moved m)) in
       let live : goalEnded (tablesIn l) ≡ false = rw e g in

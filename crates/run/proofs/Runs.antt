@@ -3,34 +3,29 @@ use mathlib.Core.Path.{_∙_, _≡_, ap, refl}
 use mathlib.Core.Logic.{_≢_}
 use mathlib.Core.Bool.{Bool, false, not, true}
 use mathlib.Core.List.{List}
-use Prim.Native.Nat.{_*_, _+_, _-_, _<_, _≤_, suc, zero, ℕ}
+use Prim.Native.Nat.{_+_, _-_, _<_, _≤_, suc, zero, ℕ}
 use lib.Dec.{eqb}
-use lib.ListN.{length}
 use native.Mathlib.Omega.{arith}
 use Rattle.head.proofs.Laws.{head-is}
+use Rattle.machine.proofs.Held.{count-procs, count-vars, put-over, same-lent}
 use Rattle.machine.specs.Entered.{Inside}
-use Rattle.parlog.proofs.Rows.{rows-length, written-over}
 use Rattle.parlog.specs.Codes.{isLive, resultOf}
 use Rattle.parlog.specs.Limits.{Limits, small}
 use Rattle.parlog.specs.Program.{Program, programOf}
 use Rattle.parlog.specs.Run.{endOf, goalEnded, goalResult, halt, made, runFrom, runStep, runTables, runTest, runTurn, stepTables, turnFor, unmade}
-use Rattle.parlog.specs.Tables.{bindingBytes, Lent, procCount, processBytes, putTables, rowsBytes, Tables, tablesIn, varCount}
-use Rattle.parlog.specs.declared.Binding.{Binding}
+use Rattle.parlog.specs.Tables.{Lent, procCount, putTables, Tables, tablesIn, varCount}
 use Rattle.parlog.specs.declared.End.{End}
 use Rattle.parlog.specs.declared.End.the-variants.{Budget, Failure, Room, Success, Waiting}
 use Rattle.parlog.specs.declared.Found.the-variants.{At, Nothing}
 use Rattle.parlog.specs.declared.Move.{Move}
-use Rattle.parlog.specs.declared.Process.{Process}
 use Rattle.parlog.specs.declared.Ran.the-variants.{Ended}
 use Rattle.rows.proofs.Exact.{table-bytes}
-use Rattle.rows.proofs.Laws.{row-length}
 use Rattle.rows.proofs.Tables.{procs-length, table-same}
 use Rattle.rows.specs.Rows.{Bytes}
 use Rattle.run.specs.Running.{Going, Grown, RanSays, WentSays, WentTo}
 use Rattle.run.specs.declared.Went.{Went}
 use Rattle.run.specs.declared.Went.the-variants.{On, Over}
 use Rattle.vars.proofs.Exact.{cells-bytes}
-use Rattle.vars.proofs.Laws.{cell-length}
 use Rattle.vars.proofs.Tables.{cells-same, vars-length}
 
 -- ---- the goal's process
@@ -81,55 +76,28 @@ module _ (lim : Limits) (pr : Program) (t : Tables) where
 
 -- ---- tables written over
 
-rows-in : (ps : List Process) → length (rowsBytes processBytes ps) ≡ length ps * 24
-rows-in = rows-length processBytes 24 row-length
-
-cells-in : (vs : List Binding) → length (rowsBytes bindingBytes vs) ≡ length vs * 4
-cells-in = rows-length bindingBytes 4 cell-length
-
--- how many rows the tables of these bytes have
-count-procs : (l : Lent) → length (tablesIn l .state .procs) ≡ procCount (l .head)
-unfolding tablesIn
-count-procs l = procs-length (l .procs) (procCount (l .head))
-
-count-vars : (l : Lent) → length (tablesIn l .state .vars) ≡ varCount (l .head)
-unfolding tablesIn
-count-vars l = vars-length (l .vars) (varCount (l .head))
-
 -- tables written over fewer of the same tables
 module _ {s : List ℕ} {r c : ℕ} (l₀ l l′ : Lent) (i₀ : Inside s r c l₀) (i : Inside s r c l) (i′ : Inside s r c l′) (a : Grown l₀ l) (b : Grown l l′) where
-  procs-over : l′ .procs ≡ putTables l₀ (tablesIn l′) .procs
-  unfolding putTables
-  procs-over =
-      let n₀ = i₀ .procs-size in
-      let n = rows-in (tablesIn l .state .procs) in
-      let n′ = rows-in (tablesIn l′ .state .procs) in
-      let k = count-procs l in
-      let k′ = count-procs l′ in
-      let m = i .procs-most in
-      let m′ = i′ .procs-most in
-      let g = b .more-procs in
-      b .procs ∙ rw (a .procs) (written-over (rowsBytes processBytes (tablesIn l .state .procs)) (rowsBytes processBytes (tablesIn l′ .state .procs)) (l₀ .procs) (omega arith) (omega arith))
-
-  vars-over : l′ .vars ≡ putTables l₀ (tablesIn l′) .vars
-  unfolding putTables
-  vars-over =
-      let n₀ = i₀ .vars-size in
-      let n = cells-in (tablesIn l .state .vars) in
-      let n′ = cells-in (tablesIn l′ .state .vars) in
-      let k = count-vars l in
-      let k′ = count-vars l′ in
-      let m = i .vars-most in
-      let m′ = i′ .vars-most in
-      let g = b .more-vars in
-      b .vars ∙ rw (a .vars) (written-over (rowsBytes bindingBytes (tablesIn l .state .vars)) (rowsBytes bindingBytes (tablesIn l′ .state .vars)) (l₀ .vars) (omega arith) (omega arith))
-
-  head-over : l′ .head ≡ putTables l₀ (tablesIn l′) .head
-  unfolding putTables
-  head-over = b .head
+  over : l′ ≡ putTables l₀ (tablesIn l′)
+  over =
+      let first : l ≡ putTables l₀ (tablesIn l) = same-lent l (putTables l₀ (tablesIn l)) (a .head) (a .procs) (a .vars) in
+      let second : l′ ≡ putTables l (tablesIn l′) = same-lent l′ (putTables l (tablesIn l′)) (b .head) (b .procs) (b .vars) in
+      let n = count-procs l in
+      let n′ = count-procs l′ in
+      let m = count-vars l in
+      let m′ = count-vars l′ in
+      second
+      ∙ ap (λ (x : Lent). putTables x (tablesIn l′)) first
+      ∙ put-over l₀ (tablesIn l) (tablesIn l′) (omega (arith, b .more-procs)) (omega (arith, b .more-vars)) (omega (arith, i₀ .procs-size, i′ .procs-most)) (omega (arith, i₀ .vars-size, i′ .vars-most))
 
   grown-then : Grown l₀ l′
-  grown-then = record { head = head-over; procs = procs-over; vars = vars-over; more-procs = let x = a .more-procs in let y = b .more-procs in omega arith; more-vars = let x = a .more-vars in let y = b .more-vars in omega arith }
+  grown-then = record {
+    head = ap (λ (x : Lent). x .head) over;
+    procs = ap (λ (x : Lent). x .procs) over;
+    vars = ap (λ (x : Lent). x .vars) over;
+    more-procs = omega (arith, a .more-procs, b .more-procs);
+    more-vars = omega (arith, a .more-vars, b .more-vars);
+  }
 
 -- the same bytes hold their own tables
 pub grown-same : {s : List ℕ} {r c : ℕ} (l : Lent) → Inside s r c l → Bytes (l .head) → Bytes (l .procs) → Bytes (l .vars) → Grown l l
