@@ -7,7 +7,7 @@ use Prim.Native.Nat.{_-_, _<_, _≤_, suc, ℕ}
 use lib.Dec.{eqb, ltb}
 use lib.ListN.{getD, getD-replicate, length, length-set, replicate, set}
 use lib.Seq.{getD-set-other, getD-set-same}
-use borrow.Author.Tests.{eq-eqb, eqb-false, eqb-true, ne-eqb}
+use borrow.Author.Tests.{eq-eqb, eqb-false, eqb-true, le-ltb, lt-ltb, ne-eqb}
 use native.Mathlib.Omega.{arith}
 use Rattle.children.proofs.Noting.{noted-child, noted-other, noted-quiet, noted-start, or-nothing}
 use Rattle.children.specs.Notes.{heardBy, Noted, noteOf}
@@ -28,7 +28,7 @@ use Rattle.parlog.specs.declared.Found.{Found}
 use Rattle.parlog.specs.declared.Found.the-variants.{At, Nothing}
 use Rattle.parlog.specs.declared.Process.{Process}
 use Rattle.tree.specs.Family.{Falls}
-use Rattle.turns.specs.Notes.{AllNoted, noteIn}
+use Rattle.turns.specs.Notes.{AllNoted, foundIn, noteIn}
 
 -- ---- the notes
 
@@ -100,45 +100,49 @@ module _ (ps : List Process) (n q : ℕ) (said latest lowest : List ℕ) where
 -- ---- the lowest that can move
 
 -- what was found from row q on, and the rows below q, give what all give
-abbrev pub Kept : (ℕ → Bool) → ℕ → ℕ → Found → Type 0
-Kept f n q b = orElse (lowest f q) b ≡ lowest f n
+abbrev pub Kept : (ℕ → Bool) → ℕ → ℕ → ℕ → Type 0
+Kept f n q v = orElse (lowest f q) (foundIn n v) ≡ lowest f n
 
 kept-by : (g b : Found) (c : Bool) (q : ℕ) → orElse g (cond c (At q) b) ≡ orElse (orElse g (cond c (At q) Nothing)) b
 kept-by (At i) b c q = refl
 kept-by Nothing b true q = refl
 kept-by Nothing b false q = refl
 
+found-next : (n q v : ℕ) (c : Bool) → q < n → foundIn n (cond c q v) ≡ cond c (At q) (foundIn n v)
+found-next n q v true h = rw (lt-ltb q n h)
+found-next n q v false h = refl
+
 module _ (f : ℕ → Bool) (n : ℕ) where
-  kept-start : Kept f n n Nothing
-  kept-start = or-nothing (lowest f n)
+  kept-start : Kept f n n n
+  kept-start = rw (le-ltb n n (omega arith)) (or-nothing (lowest f n))
 
-  kept-next : (q : ℕ) (b : Found) → Kept f n (suc q) b → {c : Bool} → c ≡ f q → Kept f n q (cond c (At q) b)
+  kept-next : (q v : ℕ) → q < n → Kept f n (suc q) v → {c : Bool} → c ≡ f q → Kept f n q (cond c q v)
   unfolding lowest
-  kept-next q b so {c} e = kept-by (lowest f q) b c q ∙ rw e so
+  kept-next q v h so {c} e = rw (found-next n q v c h) (kept-by (lowest f q) (foundIn n v) c q ∙ rw e so)
 
-  kept-end : (b : Found) → Kept f n 0 b → b ≡ lowest f n
+  kept-end : (v : ℕ) → Kept f n 0 v → foundIn n v ≡ lowest f n
   unfolding lowest
-  kept-end b so = so
+  kept-end v so = so
 
 -- the search so far, whatever the program: behind the last, and of all
-abbrev pub Searched : State → ℕ → ℕ → ℕ → Found → Found → Type 0
+abbrev pub Searched : State → ℕ → ℕ → ℕ → ℕ → ℕ → Type 0
 Searched st n last q behind round = (pr : Program) → Kept (λ i. ltb last i && canMove pr st i) n q behind × Kept (canMove pr st) n q round
 
 module _ (st : State) (n last : ℕ) where
-  pub search-start : Searched st n last n Nothing Nothing
+  pub search-start : Searched st n last n n n
   search-start pr = (kept-start (λ i. ltb last i && canMove pr st i) n, kept-start (canMove pr st) n)
 
-  pub search-next : (q : ℕ) (b r : Found) → 0 < q → Searched st n last q b r → {can c : Bool} → ((pr : Program) → can ≡ canMove pr st (q - 1)) → c ≡ (ltb last (q - 1) && can)
-      → {b′ r′ : Found} → b′ ≡ cond c (At (q - 1)) b → r′ ≡ cond can (At (q - 1)) r → Searched st n last (q - 1) b′ r′
-  search-next q b r h so {can} {c} is ec eb er pr =
+  pub search-next : (q b r : ℕ) → 0 < q → q ≤ n → Searched st n last q b r → {can c : Bool} → ((pr : Program) → can ≡ canMove pr st (q - 1)) → c ≡ (ltb last (q - 1) && can)
+      → {b′ r′ : ℕ} → b′ ≡ cond c (q - 1) b → r′ ≡ cond can (q - 1) r → Searched st n last (q - 1) b′ r′
+  search-next q b r h l so {can} {c} is ec eb er pr =
       let e : suc (q - 1) ≡ q = omega arith in
       let (u, v) : Kept (λ i. ltb last i && canMove pr st i) n (suc (q - 1)) b × Kept (canMove pr st) n (suc (q - 1)) r = rw e (so pr) in
       let w : c ≡ (ltb last (q - 1) && canMove pr st (q - 1)) = rw (← is pr) ec in (
-        rw eb (kept-next (λ i. ltb last i && canMove pr st i) n (q - 1) b u w),
-        rw er (kept-next (canMove pr st) n (q - 1) r v (is pr)),
+        rw eb (kept-next (λ i. ltb last i && canMove pr st i) n (q - 1) b (omega arith) u w),
+        rw er (kept-next (canMove pr st) n (q - 1) r (omega arith) v (is pr)),
       )
 
-  pub search-end : (q : ℕ) (b r : Found) → q ≡ 0 → Searched st n last q b r → {f : Found} → f ≡ orElse b r → (pr : Program) → f ≡ turnOf (canMove pr st) n last
+  pub search-end : (q b r : ℕ) → q ≡ 0 → Searched st n last q b r → {f : Found} → f ≡ orElse (foundIn n b) (foundIn n r) → (pr : Program) → f ≡ turnOf (canMove pr st) n last
   unfolding turnOf
   search-end q b r e so ef pr =
       let (u, v) : Kept (λ i. ltb last i && canMove pr st i) n 0 b × Kept (canMove pr st) n 0 r = rw e at (so pr) in

@@ -1,11 +1,14 @@
 -- What one pass over the rows notes for each process about its children, and who can move by it.
-use mathlib.Core.Bool.{_||_, Bool, false}
+use mathlib.Core.Bool.{_||_, Bool, cond, false}
 use mathlib.Core.List.{List}
 use Prim.Native.Nat.{_<_, ℕ}
+use lib.Dec.{ltb}
 use lib.ListN.{getD}
 use Rattle.children.specs.Notes.{latestIn, Noted, noneSilent, someBad, someGood}
 use Rattle.children.specs.declared.Note.{Note}
 use Rattle.parlog.specs.Codes.{and-par, and-seq, equate, guard-eval, input-match, or-par, or-search, seq-search, Tag, try-clause}
+use Rattle.parlog.specs.declared.Found.{Found}
+use Rattle.parlog.specs.declared.Found.the-variants.{At, Nothing}
 use Rattle.parlog.specs.declared.Process.{Process}
 
 -- the note of process p, in three rows of numbers
@@ -27,3 +30,7 @@ tells try-clause s = someBad s || noneSilent s
 tells input-match s = false
 tells guard-eval s = latestIn s
 tells equate s = false
+
+-- the number, where it is below n
+abbrev pub foundIn : ℕ → ℕ → Found
+foundIn n v = cond (ltb v n) (At v) Nothing

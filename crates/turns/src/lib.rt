@@ -15,7 +15,7 @@ ghost use Rattle.parlog.specs.Unify.{someBound};
 ghost use Rattle.parlog.specs.declared.Found.the-variants.{At};
 ghost use Rattle.plan.specs.Plans.{stateIn};
 ghost use Rattle.tree.specs.Family.{Falls};
-ghost use Rattle.turns.specs.Notes.{AllNoted, noteIn, tells};
+ghost use Rattle.turns.specs.Notes.{AllNoted, foundIn, noteIn, tells};
 use children::Note;
 use children::Told;
 use parlog::Found;
@@ -167,19 +167,23 @@ fn both(a: bool, b: bool) -> bool
 }
 
 // q where this holds, else what was found before.
-fn found(yes: bool, q: usize, before: Found) -> Found
-    ensures { λ r. ⌜ r ≡ cond yes (At q) before ⌝ }
+fn found(yes: bool, q: usize, before: usize) -> usize
+    ensures { λ r. ⌜ r ≡ cond yes q before ⌝ }
 {
-    if yes { Found::At(q) } else { before }
+    if yes { q } else { before }
 }
 
-fn or_else(a: Found, b: Found) -> Found
-    ensures { λ r. ⌜ r ≡ orElse a b ⌝ }
+// The first of two numbers that is below n.
+fn first_below(n: usize, a: usize, b: usize) -> Found
+    ensures { λ r. ⌜ r ≡ orElse (foundIn n a) (foundIn n b) ⌝ }
 {
-    match a {
-        Found::At(p) => Found::At(p),
-        Found::Nothing => b,
+    if a < n {
+        return Found::At(a);
     }
+    if b < n {
+        return Found::At(b);
+    }
+    Found::Nothing
 }
 
 // The next process behind the last that can move, else the lowest that can; all processes are heard.
@@ -196,8 +200,8 @@ fn pass(
     requires { ⌜ (n * 24 ≤ length (now procs)) × (n ≤ 512) × (m * 4 ≤ length (now vars)) × Falls (procsOf (now procs) n) × (length (now said) ≡ 512) × (length (now latest) ≡ 512) × (length (now lowest) ≡ 512) × AllNoted (procsOf (now procs) n) n n (now said) (now latest) (now lowest) ⌝ }
     ensures { λ r. ⌜ ((pr : Program) → r ≡ turnOf (canMove pr (stateIn (now (procs .entry)) n (now (vars .entry)) m)) n last) × (length (now (said .exit)) ≡ 512) × (length (now (latest .exit)) ≡ 512) × (length (now (lowest .exit)) ≡ 512) × AllNoted (procsOf (now (procs .entry)) n) n 0 (now (said .exit)) (now (latest .exit)) (now (lowest .exit)) ⌝ }
 {
-    let mut behind = Found::Nothing;
-    let mut round = Found::Nothing;
+    let mut behind = n;
+    let mut round = n;
     let mut q = n;
     while 0 < q {
         q -= 1;
@@ -206,7 +210,7 @@ fn pass(
         round = found(can, q, round);
         hear_row(procs, n, said, latest, lowest, q);
     }
-    or_else(behind, round)
+    first_below(n, behind, round)
 }
 
 // What the children of that process report.

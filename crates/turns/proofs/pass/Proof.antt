@@ -16,7 +16,7 @@ use Rattle.turns.proofs.both.Reads as both-reads
 use Rattle.turns.proofs.can_move.Reads as can-move-reads
 use Rattle.turns.proofs.found.Reads as found-reads
 use Rattle.turns.proofs.hear_row.Reads as hear-row-reads
-use Rattle.turns.proofs.or_else.Reads as or-else-reads
+use Rattle.turns.proofs.first_below.Reads as first-below-reads
 
 abbrev Inv-loop : tie.InvT-loop
 Inv-loop procs n vars m last said₀ latest₀ lowest₀ behind₀ round₀ q₀ said latest lowest behind round q = (q ≤ n) × (length said ≡ 512) × (length latest ≡ 512) × (length lowest ≡ 512) × AllNoted (procsOf procs n) n q said latest lowest × Searched (stateIn procs n vars m) n last q behind round
@@ -38,9 +38,9 @@ pass-spec =
     (λ c κs. search needs)
     (λ c κs. (search needs, search needs, omega arith, (c .before .before .before .before .before .before .before .before .before .before .before .before .before .before .before .before .before .pre .3), search needs, search needs, search needs, all-less _ _ _ _ _ _ (c .before .before .before .before .before .before .before .before .before .before .loop-test .taken) (c .before .before .before .before .before .before .before .before .before .before .before .loop .inv .4)))
     (λ c. omega arith)
-    (λ c. (omega arith, (c .before .before .before .before .before .before .hear-row .ensures .0), (c .before .before .before .before .before .before .hear-row .ensures .1), (c .before .before .before .before .before .before .hear-row .ensures .2), (c .before .before .before .before .before .before .hear-row .ensures .3), search-next _ _ _ _ _ _ (c .before .before .before .before .before .before .before .before .before .before .before .before .before .before .before .before .before .loop-test .taken) (c .before .before .before .before .before .before .before .before .before .before .before .before .before .before .before .before .before .before .loop .inv .5) (c .before .before .before .before .before .before .before .before .before .before .before .before .before .can-move .ensures) (c .before .before .before .before .before .before .before .before .before .before .before .before .both .ensures) (c .before .before .before .before .before .before .before .before .before .before .before .found .ensures) (c .before .before .before .before .before .before .before .before .before .before .found2 .ensures)))
+    (λ c. (omega arith, (c .before .before .before .before .before .before .hear-row .ensures .0), (c .before .before .before .before .before .before .hear-row .ensures .1), (c .before .before .before .before .before .before .hear-row .ensures .2), (c .before .before .before .before .before .before .hear-row .ensures .3), search-next _ _ _ _ _ _ (c .before .before .before .before .before .before .before .before .before .before .before .before .before .before .before .before .before .loop-test .taken) (c .before .before .before .before .before .before .before .before .before .before .before .before .before .before .before .before .before .before .loop .inv .0) (c .before .before .before .before .before .before .before .before .before .before .before .before .before .before .before .before .before .before .loop .inv .5) (c .before .before .before .before .before .before .before .before .before .before .before .before .before .can-move .ensures) (c .before .before .before .before .before .before .before .before .before .before .before .before .both .ensures) (c .before .before .before .before .before .before .before .before .before .before .before .found .ensures) (c .before .before .before .before .before .before .before .before .before .before .found2 .ensures)))
     (λ c κs. search needs)
     (λ c. search needs)
     (λ c. search needs)
     (λ c. search needs)
-    (λ c. (search-end _ _ _ _ _ _ (omega arith) (c .before .before .loop .inv .5) (c .or-else .ensures), (c .before .before .loop .inv .1), (c .before .before .loop .inv .2), (c .before .before .loop .inv .3), all-end _ _ _ _ _ _ (omega arith) (c .before .before .loop .inv .4))))
+    (λ c. (search-end _ _ _ _ _ _ (omega arith) (c .before .before .loop .inv .5) (c .first-below .ensures), (c .before .before .loop .inv .1), (c .before .before .loop .inv .2), (c .before .before .loop .inv .3), all-end _ _ _ _ _ _ (omega arith) (c .before .before .loop .inv .4))))
