@@ -69,7 +69,7 @@ pub fn note_of(procs: &[u8], n: usize, i: usize) -> u8
 }
 
 // What was said, and f.
-fn with(s: u8, f: u8) -> u8
+pub fn with(s: u8, f: u8) -> u8
     ensures { λ r. ⌜ r ≡ hear s f ⌝ }
 {
     if s == 0 {
@@ -85,7 +85,7 @@ fn choose(b: bool, q: u16, v: u16) -> u16
 }
 
 // Process q, lower than those heard before, tells f.
-pub fn hear(x: Note, f: u8, q: u16) -> Note
+fn hear(x: Note, f: u8, q: u16) -> Note
     ensures { λ r. ⌜ r ≡ heardBy x f q ⌝ }
 {
     let said = with(x.said, f);

@@ -1,5 +1,5 @@
 -- The pass from the last row down: the notes of all, and the lowest that can move.
-use mathlib.Core.Path.{_∙_, _≡_, refl, sym}
+use mathlib.Core.Path.{_∙_, _≡_, ap, refl, sym}
 use mathlib.Core.Logic.{_≢_}
 use mathlib.Core.Bool.{_&&_, Bool, cond, false, true}
 use mathlib.Core.List.{[], List}
@@ -10,7 +10,7 @@ use lib.Seq.{getD-set-other, getD-set-same}
 use borrow.Author.Tests.{eq-eqb, eqb-false, eqb-true, le-ltb, lt-ltb, ne-eqb}
 use native.Mathlib.Omega.{arith}
 use Rattle.children.proofs.Noting.{noted-child, noted-other, noted-quiet, noted-start, or-nothing}
-use Rattle.children.specs.Notes.{heardBy, Noted, noteOf}
+use Rattle.children.specs.Notes.{hear, Noted, noteOf}
 use Rattle.children.specs.Telling.{Tells}
 use Rattle.children.specs.declared.Note.{Note}
 use Rattle.children.specs.declared.Told.{Told}
@@ -28,9 +28,21 @@ use Rattle.parlog.specs.declared.Found.{Found}
 use Rattle.parlog.specs.declared.Found.the-variants.{At, Nothing}
 use Rattle.parlog.specs.declared.Process.{Process}
 use Rattle.tree.specs.Family.{Falls}
-use Rattle.turns.specs.Notes.{AllNoted, foundIn, noteIn}
+use Rattle.turns.specs.Notes.{AllNoted, foundIn, kept, noteIn}
 
 -- ---- the notes
+
+kept-length : (b : Bool) (l : List ℕ) (i v : ℕ) → length (kept b l i v) ≡ length l
+kept-length true l i v = length-set l i v
+kept-length false l i v = refl
+
+kept-same : (b : Bool) (l : List ℕ) (i v : ℕ) → i < length l → getD (kept b l i v) i 0 ≡ cond b v (getD l i 0)
+kept-same true l i v h = getD-set-same l i v 0 h
+kept-same false l i v h = refl
+
+kept-other : (b : Bool) (l : List ℕ) (i j v : ℕ) → j ≢ i → getD (kept b l i v) j 0 ≡ getD l j 0
+kept-other true l i j v ne = getD-set-other l i j v 0 ne
+kept-other false l i j v ne = refl
 
 module _ (ps : List Process) (n : ℕ) (en : length ps ≡ n) where
   pub all-start : (k : ℕ) (latest lowest : List ℕ) → n ≤ k → AllNoted ps n n (replicate k 0) latest lowest
@@ -57,29 +69,26 @@ module _ (ps : List Process) (n : ℕ) (en : length ps ≡ n) where
         unfolding isChild
         child-is u p = let ne : q ≢ 0 = λ z. omega (arith, z) in rw (ne-eqb q 0 ne, ← eu)
 
-        pub all-heard : up < q → length said ≡ 512 → length latest ≡ 512 → length lowest ≡ 512 → n ≤ 512 → {x y : Note} {f : ℕ}
-            → x ≡ noteIn said latest lowest up → f ≡ noteOf (at ps q) → y ≡ heardBy x f q
-            → (length (set said up (y .said)) ≡ 512) × (length (set latest up (y .latest)) ≡ 512) × (length (set lowest up (y .lowest)) ≡ 512)
-            × AllNoted ps n q (set said up (y .said)) (set latest up (y .latest)) (set lowest up (y .lowest))
+        pub all-heard : up < q → length said ≡ 512 → length latest ≡ 512 → length lowest ≡ 512 → n ≤ 512 → {s f t : ℕ} {la lo : List ℕ}
+            → s ≡ getD said up 0 → f ≡ noteOf (at ps q) → t ≡ hear s f → la ≡ kept (eqb s 0) latest up q → lo ≡ kept (eqb f 10) lowest up q
+            → (length (set said up t) ≡ 512) × (length la ≡ 512) × (length lo ≡ 512) × AllNoted ps n q (set said up t) la lo
         unfolding AllNoted
-        all-heard u a b c d {x} {y} {f} ex ef ey = (
-          length-set said up (y .said) ∙ a,
-          length-set latest up (y .latest) ∙ b,
-          length-set lowest up (y .lowest) ∙ c,
+        all-heard u a b c d {s} {f} {t} {la} {lo} es ef et ea eo = (
+          length-set said up t ∙ a,
+          ap length ea ∙ kept-length (eqb s 0) latest up q ∙ b,
+          ap length eo ∙ kept-length (eqb f 10) lowest up q ∙ c,
           λ p l. split (eqb up p) (λ e. here p l (eqb-true up p e)) (λ e. there p l (eqb-false up p e)),
         )
           where
-            here : (p : ℕ) → p < n → up ≡ p → Noted ps p q (noteIn (set said up (y .said)) (set latest up (y .latest)) (set lowest up (y .lowest)) p)
+            here : (p : ℕ) → p < n → up ≡ p → Noted ps p q (noteIn (set said up t) la lo p)
             here p l e =
-                let w = so p l in
-                let t = noted-child ps p q (noteIn said latest lowest p) w (child-is u p ∙ eq-eqb up p e) in
-                let z : y ≡ heardBy (noteIn said latest lowest p) (noteOf (at ps q)) q = rw (← e) (rw (ey, ex, ef)) in
-                rw (e, getD-set-same said p (y .said) 0 (omega arith), getD-set-same latest p (y .latest) 0 (omega arith), getD-set-same lowest p (y .lowest) 0 (omega arith)) (rw z t)
+                let w = noted-child ps p q (noteIn said latest lowest p) (so p l) (child-is u p ∙ eq-eqb up p e) in
+                rw (e, getD-set-same said p t 0 (omega arith), ea, eo, ← e, kept-same (eqb s 0) latest up q (omega arith), kept-same (eqb f 10) lowest up q (omega arith), et, es, ef) (rw (← e) at w)
 
-            there : (p : ℕ) → p < n → up ≢ p → Noted ps p q (noteIn (set said up (y .said)) (set latest up (y .latest)) (set lowest up (y .lowest)) p)
+            there : (p : ℕ) → p < n → up ≢ p → Noted ps p q (noteIn (set said up t) la lo p)
             there p l ne =
                 let on : p ≢ up = λ z. ne (sym z) in
-                rw (getD-set-other said up p (y .said) 0 on, getD-set-other latest up p (y .latest) 0 on, getD-set-other lowest up p (y .lowest) 0 on)
+                rw (ea, eo, getD-set-other said up p t 0 on, kept-other (eqb s 0) latest up p q on, kept-other (eqb f 10) lowest up p q on)
                 (noted-other ps p q (noteIn said latest lowest p) (so p l) (child-is u p ∙ ne-eqb up p ne))
 
         pub all-kept : q ≤ up → AllNoted ps n q said latest lowest

@@ -3,7 +3,7 @@ use mathlib.Core.Bool.{_||_, Bool, cond, false}
 use mathlib.Core.List.{List}
 use Prim.Native.Nat.{_<_, ℕ}
 use lib.Dec.{ltb}
-use lib.ListN.{getD}
+use lib.ListN.{getD, set}
 use Rattle.children.specs.Notes.{latestIn, Noted, noneSilent, someBad, someGood}
 use Rattle.children.specs.declared.Note.{Note}
 use Rattle.parlog.specs.Codes.{and-par, and-seq, equate, guard-eval, input-match, or-par, or-search, seq-search, Tag, try-clause}
@@ -14,6 +14,10 @@ use Rattle.parlog.specs.declared.Process.{Process}
 -- the note of process p, in three rows of numbers
 abbrev pub noteIn : List ℕ → List ℕ → List ℕ → ℕ → Note
 noteIn said latest lowest p = record { said = getD said p 0; latest = getD latest p 0; lowest = getD lowest p 0 }
+
+-- row i becomes q, where this holds
+abbrev pub kept : Bool → List ℕ → ℕ → ℕ → List ℕ
+kept b rows i q = cond b (set rows i q) rows
 
 -- of each of the n the children from row q on were heard
 unfoldable pub AllNoted : List Process → ℕ → ℕ → List ℕ → List ℕ → List ℕ → Type 0

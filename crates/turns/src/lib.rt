@@ -15,7 +15,7 @@ ghost use Rattle.parlog.specs.Unify.{someBound};
 ghost use Rattle.parlog.specs.declared.Found.the-variants.{At};
 ghost use Rattle.plan.specs.Plans.{stateIn};
 ghost use Rattle.tree.specs.Family.{Falls};
-ghost use Rattle.turns.specs.Notes.{AllNoted, foundIn, noteIn, tells};
+ghost use Rattle.turns.specs.Notes.{AllNoted, foundIn, kept, noteIn, tells};
 use children::Note;
 use children::Told;
 use parlog::Found;
@@ -135,6 +135,16 @@ fn note_at(said: &[u8], latest: &[u16], lowest: &[u16], p: usize) -> Note
     }
 }
 
+// Row i becomes q, where this holds.
+fn keep(rows: &mut [u16], yes: bool, i: usize, q: u16)
+    requires { ⌜ i < length (now rows) ⌝ }
+    ensures { λ _. ⌜ now (rows .exit) ≡ kept yes (now (rows .entry)) i q ⌝ }
+{
+    if yes {
+        rows[i] = q;
+    }
+}
+
 // The parent of process q hears it; process 0 has none.
 fn hear_row(
     procs: &[u8],
@@ -149,12 +159,12 @@ fn hear_row(
 {
     let up = rows::parent_at(procs, n, q) as usize;
     if up < q {
-        let x = note_at(said, latest, lowest, up);
+        let s = said[up];
         let f = children::note_of(procs, n, q);
-        let y = children::hear(x, f, q as u16);
-        said[up] = y.said;
-        latest[up] = y.latest;
-        lowest[up] = y.lowest;
+        let t = children::with(s, f);
+        said[up] = t;
+        keep(latest, s == 0, up, q as u16);
+        keep(lowest, f == 10, up, q as u16);
     }
 }
 
