@@ -1,7 +1,7 @@
 /*
  * A run and a supply of the machine in plain C, written to be fast: rows are read and written where they stand, the image is
- * tested and indexed once a call, the table rules are tested once a call, a turn is one pass over the rows with one note byte
- * for each parent, and a report climbs parents to find what is below it.
+ * tested and indexed once a call, the table rules are tested once a call, a turn is one pass over the rows that leaves a note
+ * byte for each parent and a search up to the first that can move, and a report climbs parents to find what is below it.
  */
 #include "machine.h"
 #include "checker.h"
