@@ -1,7 +1,7 @@
 /*
  * A run and a supply of the machine in plain C, written to be fast: rows are read and written where they stand, the image is
- * tested and indexed once a call, the table rules are tested once a call, a turn is one pass over the rows with one note byte
- * for each parent, and a report climbs parents to find what is below it.
+ * tested and indexed once a call, the table rules are tested once a call, a turn is one pass over the rows from the last down,
+ * in which each is heard by its parent and those that can move are found, and a report climbs parents to find what is below it.
  */
 #include "machine.h"
 #include "checker.h"
@@ -20,7 +20,7 @@ enum { STATE = 8, NOVAR = 12, BOUND, CONST };
 /* Bytes of a process row. */
 enum { TAG, MODE, RESULT, COUNT, PARENT, KIND = 6, CLAUSE, BASE, STAGE = 10, LITERAL, BLOCK, FOUND, FIRST, NOTES = 16 };
 
-/* What the children of a process say, heard from the highest number down. */
+/* What the children of a process say, a bit each; the latest child is the one of the highest number. */
 enum { SILENT = 1, SOME_SUCCESS = 2, SOME_FAILURE = 4, LATEST_REPORTS = 8 };
 
 /* A term of a run: a constant up to 32,767, or a variable with this bit. */
@@ -45,6 +45,11 @@ struct relation {
     uint8_t first[65]; /* the first clause of each block, and the end */
 };
 
+/* What the children of a process say in a turn. A silent one has its own byte, so that a store alone notes it. */
+struct note {
+    uint8_t said, silent;
+};
+
 struct run {
     const uint8_t *image;
     uint8_t *procs, *vars;
@@ -54,7 +59,10 @@ struct run {
     struct goal goal;
     struct relation relation[32];
     struct clause clause[64];
-    uint8_t notes[PROCESSES];
+    uint16_t parent[PROCESSES]; /* a copy of those in the rows, to climb by */
+    struct note note[PROCESSES];
+    uint16_t latest[PROCESSES]; /* the latest child, where it reports */
+    uint16_t lowest[PROCESSES]; /* the lowest child that reports success, where one does */
 };
 
 /* The bindings that one unification makes, in order. */
@@ -81,7 +89,7 @@ static inline void put_word(uint8_t *at, unsigned word)
     at[1] = (uint8_t)(word >> 8);
 }
 
-static inline uint8_t *row(const struct run *r, unsigned process)
+static inline uint8_t *row(const struct run *r, size_t process)
 {
     return r->procs + process * ROW;
 }
@@ -343,11 +351,13 @@ static int notes_good(const struct run *r, const uint8_t *me)
     return 1;
 }
 
-static int process_good(const struct run *r, unsigned process)
+/* Also copies the parent. */
+static int process_good(struct run *r, unsigned process)
 {
     const uint8_t *me = row(r, process);
     unsigned parent = word(me + PARENT);
 
+    r->parent[process] = (uint16_t)parent;
     if (me[TAG] >= TAGS || me[MODE] >= MODES || me[RESULT] >= RESULTS || me[KIND] >= KINDS)
         return 0;
     if (me[MODE] == REPORTING && me[RESULT] == NONE)
@@ -362,7 +372,7 @@ static int process_good(const struct run *r, unsigned process)
     return notes_good(r, me) && places_good(r, me);
 }
 
-static int tables_good(const struct run *r)
+static int tables_good(struct run *r)
 {
     unsigned k;
 
@@ -377,26 +387,30 @@ static int tables_good(const struct run *r)
 
 /* ---- whose turn it is ---- */
 
-/* Every child tells its parent, from the highest number down, so that the first heard is the latest. */
-static void listen(struct run *r)
-{
-    unsigned k;
+/* Of the sixteen things that children can say, those without a silent one, and those with each of the other bits. */
+enum { NONE_SILENT = 0x5555, SUCCESS_SAID = 0xcccc, FAILURE_SAID = 0xf0f0, LATEST_SAID = 0xff00, ANYTHING = 0xffff };
 
-    memset(r->notes, 0, r->count);
-    for (k = r->count - 1; k > 0; k--) {
-        const uint8_t *me = row(r, k);
-        uint8_t *note = &r->notes[word(me + PARENT)];
-        unsigned says = SILENT;
+#define EVERY_TAG ANYTHING, ANYTHING, ANYTHING, ANYTHING, ANYTHING, ANYTHING, ANYTHING, ANYTHING, ANYTHING
 
-        if (me[MODE] == REPORTING)
-            says = me[RESULT] == SUCCESS ? SOME_SUCCESS : SOME_FAILURE;
-        if (*note == 0 && says != SILENT)
-            says |= LATEST_REPORTS;
-        *note = (uint8_t)(*note | says);
-    }
-}
+/*
+ * By tag and mode, as the two bytes stand in a row: at which of the sixteen a process can move. One that is suspended or reports
+ * is looked at further: it can where a variable that it noted is bound, or where it is process 0.
+ */
+static const uint16_t moves[MODES << 8] = {
+    [READY << 8] = EVERY_TAG,
+    [STARTING << 8] = EVERY_TAG,
+    [WAITING << 8 | AND_PAR] = FAILURE_SAID | NONE_SILENT,
+    [WAITING << 8 | AND_SEQ] = LATEST_SAID,
+    [WAITING << 8 | OR_PAR] = LATEST_SAID,
+    [WAITING << 8 | SEQ_SEARCH] = LATEST_SAID,
+    [WAITING << 8 | OR_SEARCH] = SUCCESS_SAID | NONE_SILENT,
+    [WAITING << 8 | TRY_CLAUSE] = FAILURE_SAID | NONE_SILENT,
+    [WAITING << 8 | GUARD_EVAL] = LATEST_SAID,
+    [REPORTING << 8] = EVERY_TAG,
+    [SUSPENDED << 8] = EVERY_TAG
+};
 
-static int some_note_bound(const struct run *r, const uint8_t *me)
+static inline int some_note_bound(const struct run *r, const uint8_t *me)
 {
     unsigned k;
 
@@ -406,54 +420,63 @@ static int some_note_bound(const struct run *r, const uint8_t *me)
     return 0;
 }
 
-static int waiting_moves(unsigned tag, unsigned note)
+/* A child that reports is heard: the first heard is the latest, and the last one that says success the lowest. */
+static inline void hear_report(struct run *r, const uint8_t *child, unsigned number)
 {
-    switch (tag) {
-    case AND_PAR:
-    case TRY_CLAUSE:
-        return (note & SOME_FAILURE) != 0 || (note & SILENT) == 0;
-    case OR_SEARCH:
-        return (note & SOME_SUCCESS) != 0 || (note & SILENT) == 0;
-    case INPUT_MATCH:
-    case EQUATE:
-        return 0;
-    default:
-        return (note & LATEST_REPORTS) != 0;
+    unsigned parent = word(child + PARENT), said = r->note[parent].said;
+
+    if (said == 0 && !r->note[parent].silent) {
+        said = LATEST_REPORTS;
+        r->latest[parent] = (uint16_t)number;
     }
+    if (child[RESULT] == SUCCESS) {
+        said |= SOME_SUCCESS;
+        r->lowest[parent] = (uint16_t)number;
+    } else {
+        said |= SOME_FAILURE;
+    }
+    r->note[parent].said = (uint8_t)said;
 }
 
-static int can_move(const struct run *r, unsigned process)
+/*
+ * The pass from below `top` down to `end`: the lowest row there that can move, or the process count. A parent has a lower number
+ * than its children, so that when a row is reached all its children have been heard.
+ */
+static inline unsigned pass_down(struct run *r, unsigned top, unsigned end)
 {
-    const uint8_t *me = row(r, process);
+    const uint8_t *me = row(r, top), *stop = row(r, end);
+    struct note *note = r->note + top;
+    unsigned found = r->count;
 
-    switch (me[MODE]) {
-    case READY:
-    case STARTING:
-        return 1;
-    case WAITING:
-        return waiting_moves(me[TAG], r->notes[process]);
-    case REPORTING:
-        return process == 0;
-    case SUSPENDED:
-        return some_note_bound(r, me);
-    default:
-        return 0;
+    while (me != stop) {
+        me -= ROW;
+        note--;
+        if (moves[word(me)] >> (note->said | note->silent) & 1) {
+            unsigned number = (unsigned)(note - r->note);
+
+            if (me[MODE] == REPORTING) {
+                hear_report(r, me, number);
+                if (number == 0)
+                    found = 0;
+                continue;
+            }
+            if (me[MODE] != SUSPENDED || some_note_bound(r, me))
+                found = number;
+        }
+        r->note[word(me + PARENT)].silent = SILENT;
     }
+    return found;
 }
 
-/* The first after the last one stepped; the process count where there is none. */
+/* One pass over all rows: the lowest that can move behind the last one stepped, or else at all; the process count for none. */
 static unsigned next_in_turn(struct run *r)
 {
-    unsigned k;
+    unsigned behind, others;
 
-    listen(r);
-    for (k = r->last + 1; k < r->count; k++)
-        if (can_move(r, k))
-            return k;
-    for (k = 0; k <= r->last; k++)
-        if (can_move(r, k))
-            return k;
-    return r->count;
+    memset(r->note, 0, r->count * sizeof *r->note);
+    behind = pass_down(r, r->count, r->last + 1);
+    others = pass_down(r, r->last + 1, 0);
+    return behind < r->count ? behind : others;
 }
 
 /* ---- unifying ---- */
@@ -514,8 +537,9 @@ static int room(const struct run *r, unsigned processes, unsigned variables)
 
 static uint8_t *add(struct run *r, unsigned parent, unsigned tag, unsigned mode)
 {
-    uint8_t *child = row(r, r->count++);
+    uint8_t *child = row(r, r->count);
 
+    r->parent[r->count++] = (uint16_t)parent;
     memset(child, 0, ROW);
     child[TAG] = (uint8_t)tag;
     child[MODE] = (uint8_t)mode;
@@ -534,10 +558,11 @@ static void copy_found(uint8_t *to, const uint8_t *from)
     memcpy(to + FOUND, from + FOUND, 3);
 }
 
+/* All that is below becomes dormant: the parents of each row behind are climbed, to the process or past it. */
 static int report(struct run *r, unsigned process, unsigned result)
 {
     uint8_t *me = row(r, process);
-    unsigned k, above;
+    size_t k, above;
 
     me[MODE] = REPORTING;
     me[RESULT] = (uint8_t)result;
@@ -548,21 +573,12 @@ static int report(struct run *r, unsigned process, unsigned result)
             continue;
         above = k;
         do
-            above = word(row(r, above) + PARENT);
+            above = r->parent[above];
         while (above > process);
         if (above == process)
             row(r, k)[MODE] = DORMANT;
     }
     return 1;
-}
-
-static unsigned latest(const struct run *r, unsigned process)
-{
-    unsigned k = r->count - 1;
-
-    while (word(row(r, k) + PARENT) != process)
-        k--;
-    return k;
 }
 
 static int start_and_par(struct run *r, unsigned process)
@@ -775,13 +791,9 @@ static int start(struct run *r, unsigned process)
 /* The lowest child that reports success gives its clause. */
 static int commit(struct run *r, unsigned process)
 {
-    unsigned k = process + 1;
-
-    if (!(r->notes[process] & SOME_SUCCESS))
+    if (!(r->note[process].said & SOME_SUCCESS))
         return report(r, process, FAILURE);
-    while (word(row(r, k) + PARENT) != process || row(r, k)[MODE] != REPORTING || row(r, k)[RESULT] != SUCCESS)
-        k++;
-    copy_found(row(r, process), row(r, k));
+    copy_found(row(r, process), row(r, r->lowest[process]));
     return report(r, process, SUCCESS);
 }
 
@@ -811,7 +823,7 @@ static int next_block(struct run *r, unsigned process, uint8_t *child)
 /* The tags that hear their latest child alone. */
 static int hear_latest(struct run *r, unsigned process)
 {
-    uint8_t *me = row(r, process), *child = row(r, latest(r, process));
+    uint8_t *me = row(r, process), *child = row(r, r->latest[process]);
 
     if (child[RESULT] == FAILURE)
         return me[TAG] == SEQ_SEARCH ? next_block(r, process, child) : report(r, process, FAILURE);
@@ -837,7 +849,7 @@ static int hear(struct run *r, unsigned process)
     switch (row(r, process)[TAG]) {
     case AND_PAR:
     case TRY_CLAUSE:
-        return report(r, process, r->notes[process] & SOME_FAILURE ? FAILURE : SUCCESS);
+        return report(r, process, r->note[process].said & SOME_FAILURE ? FAILURE : SUCCESS);
     case OR_SEARCH:
         return commit(r, process);
     default:

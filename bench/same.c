@@ -1,12 +1,16 @@
-/* The archive's load, run and supply beside the plain C ones: the same answers and the same bytes in every call. */
+/*
+ * The archive's load, run and supply beside the plain C ones: the same answers and the same bytes in every call, on random images
+ * and plans, and on the plans that are measured, which must also end as they should.
+ */
 #include "checker.h"
 #include "machine.h"
+#include "plans.h"
 #include "tables.h"
 
 #include <stdio.h>
 #include <string.h>
 
-enum { IMAGES = 120000, SMALL_PLANS = 20000, WHOLE_IMAGES = 4000, LIMIT = 60000 };
+enum { IMAGES = 120000, SMALL_PLANS = 20000, WHOLE_IMAGES = 4000 };
 
 static struct image image;
 static struct tables ours, theirs; /* of the archive, of the plain C */
@@ -32,19 +36,26 @@ static uint64_t both_run(unsigned limit)
     return seen(a, b);
 }
 
-/* Both supply a value to the same tables; now and then one that is too large, or for no variable. */
-static void both_supply(struct random *random)
+/* Both supply a value to the same tables. */
+static uint64_t both_supply(uint32_t variable, uint32_t value)
 {
-    uint32_t variable = random_below(random, 5), value = random_below(random, 3);
     uint64_t a, b;
 
-    if (random_once(random, 16))
-        value += 32767;
     theirs = ours;
     supplies++;
     a = rissobarm_supply(IMAGE, TABLES(&ours), variable, value);
     b = machine_supply(IMAGE, TABLES(&theirs), variable, value);
-    seen(a, b);
+    return seen(a, b);
+}
+
+/* A random supply; now and then of a value that is too large, or for no variable. */
+static void supply_any(struct random *random)
+{
+    uint32_t variable = random_below(random, 5), value = random_below(random, 3);
+
+    if (random_once(random, 16))
+        value += 32767;
+    both_supply(variable, value);
 }
 
 /* Sets one byte of the first ones to a number below the top. */
@@ -55,28 +66,39 @@ static void damage(struct random *random, uint8_t *bytes, unsigned first, unsign
     bytes[random_below(random, first)] = byte;
 }
 
-/* A run in random slices, with supplies when it waits and sometimes before, and at the end with a byte damaged. */
+/* Damages a byte of the first rows, every other time a mode, so that many tables stay within the rules. */
+static void damage_row(struct random *random, unsigned rows)
+{
+    uint8_t mode = (uint8_t)random_below(random, 6);
+
+    if (random_once(random, 2))
+        damage(random, ours.procs, RISSOBARM_PROCESS_ROW * rows, 9);
+    else
+        ours.procs[RISSOBARM_PROCESS_ROW * random_below(random, rows) + 1] = mode;
+}
+
+/* A run in random slices, with supplies when it waits and sometimes before, and at its end or before it with a byte damaged. */
 static void compare(struct random *random)
 {
-    unsigned slices, end, rows;
+    unsigned most = 1 + random_below(random, 24), slices, end, rows;
 
     if (rissobarm_refusal(rissobarm_start(IMAGE, TABLES(&ours))) != RISSOBARM_ACCEPTED)
         return;
-    for (slices = 0; slices < 24; slices++) {
+    for (slices = 0; slices < most; slices++) {
         end = rissobarm_end(both_run(random_once(random, 4) ? (unsigned)LIMIT : random_below(random, 40)));
         if (end == RISSOBARM_END_ROOM || end == RISSOBARM_END_SUCCESS || end == RISSOBARM_END_FAILURE)
             break;
         if (end == RISSOBARM_END_WAITING || random_once(random, 3))
-            both_supply(random);
+            supply_any(random);
     }
     rows = processes(&ours);
     for (slices = 0; slices < 4; slices++) {
-        damage(random, ours.procs, RISSOBARM_PROCESS_ROW * rows, 9);
+        damage_row(random, rows);
         if (random_once(random, 3))
             damage(random, ours.vars, 64, 4);
         if (random_once(random, 6))
             damage(random, ours.head, sizeof ours.head, 20);
-        both_supply(random);
+        supply_any(random);
         both_run(random_below(random, 40));
     }
 }
@@ -179,9 +201,65 @@ static unsigned runs_differ(void)
     return differences;
 }
 
-int main(void)
+/* Both play the plan at hand as it is measured: each time it waits the next goal variable is supplied as 1. */
+static unsigned play(void)
 {
-    unsigned loads = loads_differ();
+    unsigned end, calls = 0;
 
-    return loads + runs_differ() != 0;
+    differences += rissobarm_refusal(rissobarm_start(IMAGE, TABLES(&ours))) != RISSOBARM_ACCEPTED;
+    do
+        end = rissobarm_end(both_run(LIMIT));
+    while (end == RISSOBARM_END_WAITING && rissobarm_refusal(both_supply(calls++, 1)) == RISSOBARM_ACCEPTED);
+    return end;
+}
+
+/* The plan at hand, under a name; 0 where both sides do the same and it ends as it should. */
+static int plan_bad(const char *name, unsigned expected)
+{
+    static const char *const ends[] = { "a refusal", "success", "failure", "waiting", "no room", "the budget used up" };
+    unsigned before = differences, end = play();
+
+    printf("%s: ends in %s, %u rows, %u differences\n", name, ends[end], processes(&ours), differences - before);
+    if (end != expected)
+        printf("%s: should end in %s\n", name, ends[expected]);
+    return end != expected || differences != before;
+}
+
+/* The plans that are measured: those with an image in the folder, and that of calls in the largest image. */
+static int plans_bad(const char *folder)
+{
+    static const struct plan {
+        const char *name;
+        unsigned end;
+    } plans[] = {
+        { "calls", RISSOBARM_END_ROOM }, { "wide", RISSOBARM_END_SUCCESS }, { "guards", RISSOBARM_END_SUCCESS }
+    };
+    char path[4096];
+    unsigned k;
+    int bad = 0;
+
+    for (k = 0; k < 3; k++) {
+        snprintf(path, sizeof path, "%s/%s.image", folder, plans[k].name);
+        if (read_plan(&image, path)) {
+            bad |= plan_bad(plans[k].name, plans[k].end);
+        } else {
+            printf("%s: no image, or a refused one\n", path);
+            bad = 1;
+        }
+    }
+    make_calls(&image, 1);
+    return bad | plan_bad("calls in a large image", RISSOBARM_END_ROOM);
+}
+
+/* The folder of the plans' images may be told. */
+int main(int count, char **words)
+{
+    unsigned differ = loads_differ();
+
+    differ += runs_differ();
+    if (plans_bad(count > 1 ? words[1] : "build/bench") || differ != 0) {
+        fprintf(stderr, "same: archive and plain C are not the same, or a plan does not end as it should\n");
+        return 1;
+    }
+    return 0;
 }

@@ -1,12 +1,13 @@
 /* The archive's run and supply beside the plain C ones, as ratios: whole plans, then calls by rows in use and by image size. */
 #include "machine.h"
+#include "plans.h"
 #include "tables.h"
 #include "times.h"
 
 #include <stdio.h>
 #include <string.h>
 
-enum { LIMIT = 60000, STRIDE = 64, ALONE = 64 };
+enum { STRIDE = 64 };
 
 typedef uint64_t runner(const uint8_t *image, size_t image_len, uint8_t *head, size_t head_len, uint8_t *procs,
                         size_t procs_len, uint8_t *vars, size_t vars_len, uint16_t limit);
@@ -69,13 +70,8 @@ static void tell_plan(const char *name, int length)
 static int tell_file(const char *path)
 {
     const char *name = strrchr(path, '/') == NULL ? path : strrchr(path, '/') + 1;
-    FILE *file = fopen(path, "rb");
 
-    if (file == NULL)
-        return 0;
-    image.length = fread(image.bytes, 1, sizeof image.bytes, file);
-    fclose(file);
-    if (rissobarm_refusal(rissobarm_load(IMAGE)) != RISSOBARM_ACCEPTED)
+    if (!read_plan(&image, path))
         return 0;
     tell_plan(name, (int)strcspn(name, "."));
     return 1;
@@ -163,40 +159,6 @@ static double plain_supply(unsigned times)
 
 /* ---- by rows in use and by image size ---- */
 
-/* Fields of a record, from its kind on. */
-static void put_record(unsigned kind, const uint8_t *fields, size_t count)
-{
-    size_t k;
-
-    record_begin(&image, kind);
-    for (k = 0; k < count; k++)
-        put_byte(&image, fields[k]);
-    record_end(&image);
-}
-
-/*
- * The plan of calls, p with body p, and a variable in its goal. Before p stand one in `part` of the relations and clauses of
- * the largest image, so that what a process names stands as far back as it can; p stands alone for the part ALONE.
- */
-static void make_calls(unsigned part)
-{
-    struct random random = { 7 };
-    struct recipe recipe = full_recipe;
-    uint8_t relation[] = { 5, 0, 1, 0, 0 }, clause[] = { 0, 0, 0, 0, 0, 1, 1, 0, 0 }, goal[] = { 1, 1, 1, 0, 0 };
-    size_t at;
-
-    recipe.relations = recipe.relations / part - (part < ALONE);
-    recipe.clauses = recipe.clauses / part - 1;
-    image_by_recipe(&image, &random, &recipe);
-    at = image.starts[recipe.relations];
-    memmove(image.bytes + at + sizeof relation, image.bytes + at, image.length - at);
-    memcpy(image.bytes + at, relation, sizeof relation);
-    image.length = image.starts[--image.records] + sizeof relation;
-    clause[0] = clause[7] = goal[3] = (uint8_t)recipe.relations;
-    put_record(2, clause, sizeof clause);
-    put_record(3, goal, sizeof goal);
-}
-
 /* Steps until so many rows are in use; 0 where it ends before, or leaves no room for the steps that are timed. */
 static int fill(unsigned rows)
 {
@@ -224,7 +186,7 @@ static int tell_calls(unsigned part)
     struct ratio first[3], here;
     unsigned rows, k;
 
-    make_calls(part);
+    make_calls(&image, part);
     for (rows = 16; rows <= 480; rows = rows < 256 ? rows * 2 : rows + 112) {
         if (!fill(rows))
             return 0;
@@ -246,7 +208,7 @@ int main(int count, char **words)
     for (k = 1; k < count; k++)
         if (!tell_file(words[k]))
             return 1;
-    make_calls(1);
+    make_calls(&image, 1);
     tell_plan("calls in a large image", LIMIT);
     return !(tell_calls(ALONE) && tell_calls(16) && tell_calls(4) && tell_calls(1));
 }

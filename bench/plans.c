@@ -1,0 +1,47 @@
+/* The plans that are measured. */
+#include "plans.h"
+#include "rissobarm.h"
+
+#include <stdio.h>
+#include <string.h>
+
+int read_plan(struct image *image, const char *path)
+{
+    FILE *file = fopen(path, "rb");
+
+    if (file == NULL)
+        return 0;
+    image->length = fread(image->bytes, 1, sizeof image->bytes, file);
+    fclose(file);
+    return rissobarm_refusal(rissobarm_load(image->bytes, image->length)) == RISSOBARM_ACCEPTED;
+}
+
+/* Fields of a record, from its kind on. */
+static void put_record(struct image *image, unsigned kind, const uint8_t *fields, size_t count)
+{
+    size_t k;
+
+    record_begin(image, kind);
+    for (k = 0; k < count; k++)
+        put_byte(image, fields[k]);
+    record_end(image);
+}
+
+void make_calls(struct image *image, unsigned part)
+{
+    struct random random = { 7 };
+    struct recipe recipe = full_recipe;
+    uint8_t relation[] = { 5, 0, 1, 0, 0 }, clause[] = { 0, 0, 0, 0, 0, 1, 1, 0, 0 }, goal[] = { 1, 1, 1, 0, 0 };
+    size_t at;
+
+    recipe.relations = recipe.relations / part - (part < ALONE);
+    recipe.clauses = recipe.clauses / part - 1;
+    image_by_recipe(image, &random, &recipe);
+    at = image->starts[recipe.relations];
+    memmove(image->bytes + at + sizeof relation, image->bytes + at, image->length - at);
+    memcpy(image->bytes + at, relation, sizeof relation);
+    image->length = image->starts[--image->records] + sizeof relation;
+    clause[0] = clause[7] = goal[3] = (uint8_t)recipe.relations;
+    put_record(image, 2, clause, sizeof clause);
+    put_record(image, 3, goal, sizeof goal);
+}
