@@ -1,22 +1,23 @@
 -- The note of a process through the pass: at its start, after each row, and what it tells at the end.
-use mathlib.Core.Path.{_∙_, _≡_, ap, refl, sym}
+use mathlib.Core.Path.{_∙_, _≡_, refl, sym}
 use mathlib.Core.Bool.{_&&_, _||_, and-assoc, and-comm, Bool, cond, false, not, or-assoc, or-comm, true}
 use mathlib.Core.List.{[], List}
 use Prim.Native.Nat.{_<_, suc, zero, ℕ}
 use lib.Dec.{eqb}
 use lib.ListN.{length}
+use borrow.Author.Tests.{eqb-true}
 use native.Mathlib.Omega.{arith}
-use Rattle.children.proofs.Small.{hear-bad, hear-done, hear-good, hear-late, hear-lost, hear-small, hear-some, says, says-good}
-use Rattle.children.specs.Notes.{firstHeard, foundBy, heardBy, latestIn, noneSilent, Noted, noteOf, someBad, someGood, spoke}
+use Rattle.children.proofs.Small.{hear-bad, hear-done, hear-good, hear-late, hear-lost, hear-small, hear-some, says, says-good, says-told}
+use Rattle.children.specs.Notes.{foundBy, heardBy, heardIn, latestIn, newsIn, noneSilent, Noted, noteOf, someBad, someGood, spoke}
 use Rattle.children.specs.Telling.{heardOf, Tells}
 use Rattle.children.specs.declared.Note.{Note}
 use Rattle.children.specs.declared.Told.{Told}
-use Rattle.parlog.proofs.Bools.{not-so, or-none, split}
+use Rattle.parlog.proofs.Bools.{not-so, or-false, or-none, split}
 use Rattle.parlog.proofs.Kin.{not-both, reports-at}
 use Rattle.parlog.specs.Codes.{failure, success}
-use Rattle.parlog.specs.Scan.{every, highest, lowest, orElse, some}
+use Rattle.parlog.specs.Scan.{every, highest, implies, lowest, orElse, some}
 use Rattle.parlog.specs.Tables.{at, State}
-use Rattle.parlog.specs.Tree.{allChildren, anyChild, childDone, childReports, heard, heardFrom, isChild, latest, lowestChild, reports}
+use Rattle.parlog.specs.Tree.{allChildren, anyChild, childDone, childReports, heard, heardFrom, isChild, latest, lowestChild, reports, silent}
 use Rattle.parlog.specs.declared.Found.{Found}
 use Rattle.parlog.specs.declared.Found.the-variants.{At, Nothing}
 use Rattle.parlog.specs.declared.Process.{Process}
@@ -40,10 +41,6 @@ low-move Nothing true false q v = refl
 low-move Nothing false true q v = refl
 low-move Nothing false false q v = refl
 
-late-move : (z : Bool) (q v : ℕ) → At (cond z q v) ≡ orElse (foundBy (not z) v) (At q)
-late-move true q v = refl
-late-move false q v = refl
-
 -- success and failure are not told together
 exclusive : (ps : List Process) (c : ℕ) → not (reports success (at ps c) && reports failure (at ps c)) ≡ true
 exclusive ps c = split (reports success (at ps c))
@@ -57,7 +54,7 @@ exclusive ps c = split (reports success (at ps c))
 
 -- nothing heard yet
 pub noted-start : (ps : List Process) (p n v w : ℕ) → n ≡ length ps → Noted ps p n (record { said = 0; latest = v; lowest = w })
-unfolding anyChild allChildren lowestChild latest
+unfolding anyChild allChildren lowestChild heard latest
 noted-start ps p n v w e = rw e (record {
   small = omega arith;
   failed = or-none (some (childReports failure ps p) (length ps));
@@ -131,9 +128,16 @@ module _ (ps : List Process) (p q : ℕ) (x : Note) (so : Noted ps p (suc q) x) 
     unfolding highest
     told-highest = rw e
 
-    told-late : (z : Bool) → eqb s 0 ≡ z → cond z (a || b) (latestIn s) ≡ spoke ps (cond z q (x .latest))
-    told-late true w = refl
-    told-late false w = rw w at (so .told)
+    late-here : (z : Bool) → eqb s 0 ≡ z → cond (cond z (a || b) (latestIn s)) (heardIn (at ps (cond (z && (a || b)) q (x .latest))) (cond (z && (a || b)) q (x .latest))) silent ≡ heard ps p
+    late-here true w = split (a || b) (λ y. rw y heard-now) (λ y. let (u, v) = or-false a b y in rw y ((rw (u, v) at heard-now)))
+      where
+        heard-now : heardIn (at ps q) q ≡ heard ps p
+        heard-now = unfold heardFrom in (rw (w, told-highest) at (so .latest))
+    late-here false w = rw w at (so .latest)
+
+    told-here : (z : Bool) → eqb s 0 ≡ z → implies (cond z (a || b) (latestIn s)) (spoke ps (cond (z && (a || b)) q (x .latest))) ≡ true
+    told-here true w = split (a || b) (λ y. rw y y) (λ y. rw y)
+    told-here false w = so .told
 
     heard-here : Noted ps p q (heardBy x (says a b) q)
     heard-here = record {
@@ -142,8 +146,8 @@ module _ (ps : List Process) (p q : ℕ) (x : Note) (so : Noted ps p (suc q) x) 
       succeeded = rw (hear-done a b s (so .small) o) (and-move a (every (childDone success ps p) q) (not (someBad s) && noneSilent s) ∙ (rw told-all at (so .succeeded)));
       hopeless = rw (hear-lost a b s (so .small) o) (and-move b (every (childDone failure ps p) q) (not (someGood s) && noneSilent s) ∙ (rw told-none at (so .hopeless)));
       lowest = rw (hear-good a b s (so .small) o, says-good a b) (low-move (lowest (childReports success ps p) q) a (someGood s) q (x .lowest) ∙ (rw told-lowest at (so .lowest)));
-      latest = rw (← hear-some a b s (so .small) o) (late-move (eqb s 0) q (x .latest) ∙ (rw told-highest at (so .latest)));
-      told = rw (← hear-some a b s (so .small) o) (hear-late a b s (so .small) o ∙ told-late (eqb s 0) refl);
+      latest = rw (hear-some a b s (so .small) o, hear-late a b s (so .small) o, says-told a b) (late-here (eqb s 0) refl);
+      told = rw (hear-late a b s (so .small) o, says-told a b) (told-here (eqb s 0) refl);
     }
 
     pub noted-child : Noted ps p q (heardBy x (noteOf (at ps q)) q)
@@ -170,16 +174,20 @@ module _ (ps : List Process) (p : ℕ) (x : Note) (so : Noted ps p 0 x) where
   pub all-lowest : foundBy (someGood (x .said)) (x .lowest) ≡ lowestChild success ps p
   all-lowest = unfold lowest in (so .lowest)
 
-  pub all-latest : firstHeard x ≡ latest ps p
-  all-latest = sym (or-nothing (firstHeard x)) ∙ (unfold highest in (so .latest))
+  pub all-latest : newsIn ps x ≡ heard ps p
+  all-latest = go (eqb (x .said) 0) refl
+    where
+      go : (z : Bool) → eqb (x .said) 0 ≡ z → newsIn ps x ≡ heard ps p
+      go true w = let e : x .said ≡ 0 = eqb-true (x .said) 0 w in rw e (unfold highest heardFrom in (rw w at (so .latest)))
+      go false w = rw w at (so .latest)
 
   pub tells : {t : Told} → t .failed ≡ someBad (x .said) → t .succeeded ≡ (not (someBad (x .said)) && noneSilent (x .said))
       → t .hopeless ≡ (not (someGood (x .said)) && noneSilent (x .said)) → t .lowest ≡ foundBy (someGood (x .said)) (x .lowest)
-      → heardOf (t .latest) ≡ heardFrom ps (firstHeard x) → Tells ps p t
+      → heardOf (t .latest) ≡ newsIn ps x → Tells ps p t
   tells a b c d e = record {
     failed = a ∙ all-failed;
     succeeded = b ∙ all-succeeded;
     hopeless = c ∙ all-hopeless;
     lowest = d ∙ all-lowest;
-    latest = e ∙ unfold heard in (ap (heardFrom ps) all-latest);
+    latest = e ∙ all-latest;
   }

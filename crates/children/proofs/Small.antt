@@ -46,14 +46,19 @@ says-good true b = refl
 says-good false true = refl
 says-good false false = refl
 
+pub says-told : (a b : Bool) → not (eqb (says a b) 1) ≡ (a || b)
+says-told true b = refl
+says-told false true = refl
+says-told false false = refl
+
 module _ (a b : Bool) (s : ℕ) (h : s < 16) (o : not (a && b) ≡ true) where
   pub hear-small : hear s (says a b) < 16
   unfolding every hear
   hear-small = ltb-true (hear s (says a b)) 16 (tested (λ s a b. ltb (hear s (says a b)) 16) s refl h a b o)
 
-  pub hear-some : true ≡ not (eqb (hear s (says a b)) 0)
+  pub hear-some : eqb (hear s (says a b)) 0 ≡ false
   unfolding every hear
-  hear-some = agree-is true (not (eqb (hear s (says a b)) 0)) (tested (λ s a b. agree true (not (eqb (hear s (says a b)) 0))) s refl h a b o)
+  hear-some = agree-is (eqb (hear s (says a b)) 0) false (tested (λ s a b. agree (eqb (hear s (says a b)) 0) false) s refl h a b o)
 
   pub hear-bad : someBad (hear s (says a b)) ≡ (someBad s || b)
   unfolding every hear

@@ -2,15 +2,15 @@
 use mathlib.Core.Path.{_≡_, refl}
 use mathlib.Core.Bool.{Bool, cond, false, true}
 use mathlib.Core.List.{List}
-use Prim.Native.Nat.{_-_, _<_, suc, ℕ}
+use Prim.Native.Nat.{_%_, _-_, _/_, _<_, suc, ℕ}
 use lib.Dec.{eqb}
 use borrow.Author.Tests.{ne-eqb}
 use native.Mathlib.Omega.{arith}
-use Rattle.children.specs.Notes.{firstHeard, heardIn, Noted, noteOf}
+use Rattle.children.specs.Notes.{heardIn, newsIn, Noted, noteOf}
 use Rattle.children.specs.declared.Note.{Note}
 use Rattle.parlog.specs.Codes.{failure, success}
 use Rattle.parlog.specs.Tables.{at}
-use Rattle.parlog.specs.Tree.{bad, good, Heard, heardFrom, reports, silent}
+use Rattle.parlog.specs.Tree.{bad, good, Heard, reports, silent}
 use Rattle.parlog.specs.declared.Process.{Process}
 
 -- ---- what a process tells its parent
@@ -54,16 +54,14 @@ module _ (x : Process) (c : ℕ) {f : ℕ} (ef : f ≡ noteOf x) where
   pub heard-silent : (f ≡ 10 → ⊥) → (f ≡ 12 → ⊥) → silent ≡ heardIn x c
   heard-silent a b = rw (heard-by, ne-eqb f 10 a, ne-eqb f 12 b)
 
--- ---- the first that was heard
+-- ---- what the latest has reported
 
 module _ (ps : List Process) (x : Note) where
-  pub first-none : x .said ≡ 0 → silent ≡ heardFrom ps (firstHeard x)
-  unfolding heardFrom
-  first-none e = rw e
+  pub news-none : (x .said / 8 % 2 ≡ 1 → ⊥) → silent ≡ newsIn ps x
+  news-none ne = rw (ne-eqb (x .said / 8 % 2) 1 ne)
 
-  pub first-some : (x .said ≡ 0 → ⊥) → {h : Heard} {c : ℕ} → c ≡ x .latest → h ≡ heardIn (at ps c) c → h ≡ heardFrom ps (firstHeard x)
-  unfolding heardFrom
-  first-some ne ec e = rw (ne-eqb (x .said) 0 ne, ← ec) e
+  pub news-some : x .said / 8 % 2 ≡ 1 → {h : Heard} {c : ℕ} → c ≡ x .latest → h ≡ heardIn (at ps c) c → h ≡ newsIn ps x
+  news-some e ec eh = rw (e, ← ec) eh
 
 -- ---- the pass
 

@@ -1,15 +1,15 @@
 -- What is noted of the children of a process while the rows are passed from the last down: 1 one reports nothing, 2 one success, 4 one failure, 8 the latest reports; 0 none was heard.
 use mathlib.Core.Path.{_≡_}
-use mathlib.Core.Bool.{_&&_, _||_, Bool, cond, false, not}
+use mathlib.Core.Bool.{_&&_, _||_, Bool, cond, not, true}
 use mathlib.Core.List.{List}
 use Prim.Native.Nat.{_%_, _/_, _<_, ℕ}
 use lib.Dec.{eqb}
 use lib.Bits.{bitAnd, bitOr}
 use Rattle.children.specs.declared.Note.{Note}
 use Rattle.parlog.specs.Codes.{failure, success}
-use Rattle.parlog.specs.Scan.{every, highest, lowest, orElse, some}
+use Rattle.parlog.specs.Scan.{every, highest, implies, lowest, orElse, some}
 use Rattle.parlog.specs.Tables.{at}
-use Rattle.parlog.specs.Tree.{allChildren, anyChild, bad, childDone, childReports, good, Heard, isChild, latest, lowestChild, reports, silent}
+use Rattle.parlog.specs.Tree.{allChildren, anyChild, bad, childDone, childReports, good, Heard, heard, heardFrom, isChild, lowestChild, reports, silent}
 use Rattle.parlog.specs.declared.Found.{Found}
 use Rattle.parlog.specs.declared.Found.the-variants.{At, Nothing}
 use Rattle.parlog.specs.declared.Process.{Process}
@@ -24,9 +24,9 @@ noteOf x = cond (reports success x) 10 (cond (reports failure x) 12 1)
 unfoldable pub hear : ℕ → ℕ → ℕ
 hear s f = cond (eqb s 0) f (bitOr s (bitAnd f 7))
 
--- the note after process q, that says f
+-- the note after process q, that says f; the latest is kept where it reports
 abbrev pub heardBy : Note → ℕ → ℕ → Note
-heardBy x f q = record { said = hear (x .said) f; latest = cond (eqb (x .said) 0) q (x .latest); lowest = cond (eqb f 10) q (x .lowest) }
+heardBy x f q = record { said = hear (x .said) f; latest = cond (eqb (x .said) 0 && not (eqb f 1)) q (x .latest); lowest = cond (eqb f 10) q (x .lowest) }
 
 -- what was said
 abbrev pub someGood : ℕ → Bool
@@ -45,10 +45,6 @@ latestIn s = eqb (s / 8 % 2) 1
 abbrev pub foundBy : Bool → ℕ → Found
 foundBy b c = cond b (At c) Nothing
 
--- the first that was heard
-abbrev pub firstHeard : Note → Found
-firstHeard x = foundBy (not (eqb (x .said) 0)) (x .latest)
-
 -- what process c has reported, whose row is x
 abbrev pub heardIn : Process → ℕ → Heard
 heardIn x c = cond (reports success x) (good c) (cond (reports failure x) (bad c) silent)
@@ -56,6 +52,10 @@ heardIn x c = cond (reports success x) (good c) (cond (reports failure x) (bad c
 -- process c has reported
 abbrev pub spoke : List Process → ℕ → Bool
 spoke ps c = reports success (at ps c) || reports failure (at ps c)
+
+-- what the latest has reported
+abbrev pub newsIn : List Process → Note → Heard
+newsIn ps x = cond (latestIn (x .said)) (heardIn (at ps (x .latest)) (x .latest)) silent
 
 -- ---- the pass
 
@@ -66,5 +66,5 @@ pub record Noted (ps : List Process) (p q : ℕ) (x : Note) : Type 0 where
   pub succeeded : (every (childDone success ps p) q && (not (someBad (x .said)) && noneSilent (x .said))) ≡ allChildren success ps p
   pub hopeless : (every (childDone failure ps p) q && (not (someGood (x .said)) && noneSilent (x .said))) ≡ allChildren failure ps p
   pub lowest : orElse (lowest (childReports success ps p) q) (foundBy (someGood (x .said)) (x .lowest)) ≡ lowestChild success ps p
-  pub latest : orElse (firstHeard x) (highest (isChild ps p) q) ≡ latest ps p
-  pub told : latestIn (x .said) ≡ (not (eqb (x .said) 0) && spoke ps (x .latest))
+  pub latest : cond (eqb (x .said) 0) (heardFrom ps (highest (isChild ps p) q)) (newsIn ps x) ≡ heard ps p
+  pub told : implies (latestIn (x .said)) (spoke ps (x .latest)) ≡ true

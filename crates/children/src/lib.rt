@@ -4,8 +4,8 @@ ghost use mathlib.Core.Bool.{_&&_, cond, not};
 ghost use Prim.Native.Nat.{_*_, _≤_, suc, ℕ};
 ghost use lib.ListN.{length};
 ghost use Rattle.parlog.specs.Tables.{at, procsOf};
-ghost use Rattle.parlog.specs.Tree.{heardFrom, isChild};
-ghost use Rattle.children.specs.Notes.{firstHeard, foundBy, hear, heardBy, heardIn, noneSilent, noteOf, Noted, someBad, someGood};
+ghost use Rattle.parlog.specs.Tree.{isChild};
+ghost use Rattle.children.specs.Notes.{foundBy, hear, heardBy, heardIn, newsIn, noneSilent, noteOf, Noted, someBad, someGood};
 ghost use Rattle.children.specs.Telling.{heardOf, Tells};
 use parlog::Found;
 
@@ -78,6 +78,12 @@ pub fn with(s: u8, f: u8) -> u8
     s | (f & 7)
 }
 
+pub fn both(a: bool, b: bool) -> bool
+    ensures { λ r. ⌜ r ≡ (a && b) ⌝ }
+{
+    if a { b } else { false }
+}
+
 fn choose(b: bool, q: u16, v: u16) -> u16
     ensures { λ r. ⌜ r ≡ cond b q v ⌝ }
 {
@@ -89,7 +95,8 @@ fn hear(x: Note, f: u8, q: u16) -> Note
     ensures { λ r. ⌜ r ≡ heardBy x f q ⌝ }
 {
     let said = with(x.said, f);
-    let latest = choose(x.said == 0, q, x.latest);
+    let first = both(x.said == 0, f != 1);
+    let latest = choose(first, q, x.latest);
     let lowest = choose(f == 10, q, x.lowest);
     Note {
         said: said,
@@ -148,15 +155,15 @@ fn heard_from(procs: &[u8], n: usize, c: usize) -> News
     News::Silent
 }
 
-// What the first that was heard has reported.
+// What the latest has reported.
 fn heard(procs: &[u8], n: usize, x: Note) -> News
     requires { ⌜ n * 24 ≤ length (now procs) ⌝ }
-    ensures { λ r. ⌜ heardOf r ≡ heardFrom (procsOf (now (procs .entry)) n) (firstHeard x) ⌝ }
+    ensures { λ r. ⌜ heardOf r ≡ newsIn (procsOf (now (procs .entry)) n) x ⌝ }
 {
-    if x.said == 0 {
-        return News::Silent;
+    if x.said / 8 % 2 == 1 {
+        return heard_from(procs, n, wide(x.latest));
     }
-    heard_from(procs, n, wide(x.latest))
+    News::Silent
 }
 
 // What the note tells once every row was heard.

@@ -1,3 +1,4 @@
+pub mod Halves
 pub mod Saying
 pub mod Passing
 pub mod Laws

@@ -3,6 +3,7 @@ use mathlib.Core.Bool.{_||_, Bool, cond, false}
 use mathlib.Core.List.{List}
 use Prim.Native.Nat.{_<_, ℕ}
 use lib.Dec.{ltb}
+use lib.Bits.{bitOr}
 use lib.ListN.{getD, set}
 use Rattle.children.specs.Notes.{latestIn, Noted, noneSilent, someBad, someGood}
 use Rattle.children.specs.declared.Note.{Note}
@@ -11,17 +12,21 @@ use Rattle.parlog.specs.declared.Found.{Found}
 use Rattle.parlog.specs.declared.Found.the-variants.{At, Nothing}
 use Rattle.parlog.specs.declared.Process.{Process}
 
--- the note of process p, in three rows of numbers
-abbrev pub noteIn : List ℕ → List ℕ → List ℕ → ℕ → Note
-noteIn said latest lowest p = record { said = getD said p 0; latest = getD latest p 0; lowest = getD lowest p 0 }
+-- what was said to process p: whether one has nothing to tell stands in a row of its own
+abbrev pub saidIn : List ℕ → List ℕ → ℕ → ℕ
+saidIn silent said p = bitOr (getD silent p 0) (getD said p 0)
+
+-- the note of process p, in four rows of numbers
+abbrev pub noteIn : List ℕ → List ℕ → List ℕ → List ℕ → ℕ → Note
+noteIn silent said latest lowest p = record { said = saidIn silent said p; latest = getD latest p 0; lowest = getD lowest p 0 }
 
 -- row i becomes q, where this holds
 abbrev pub kept : Bool → List ℕ → ℕ → ℕ → List ℕ
 kept b rows i q = cond b (set rows i q) rows
 
 -- of each of the n the children from row q on were heard
-unfoldable pub AllNoted : List Process → ℕ → ℕ → List ℕ → List ℕ → List ℕ → Type 0
-AllNoted ps n q said latest lowest = (p : ℕ) → p < n → Noted ps p q (noteIn said latest lowest p)
+unfoldable pub AllNoted : List Process → ℕ → ℕ → List ℕ → List ℕ → List ℕ → List ℕ → Type 0
+AllNoted ps n q silent said latest lowest = (p : ℕ) → p < n → (getD silent p 0 < 2) × (getD said p 0 < 16) × Noted ps p q (noteIn silent said latest lowest p)
 
 -- a waiting process of this tag can move by what its children said
 unfoldable pub tells : Tag → ℕ → Bool

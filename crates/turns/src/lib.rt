@@ -1,10 +1,10 @@
 // Whose turn it is: one pass from the last row down, in which every process is asked whether it can move, and heard by its parent.
 ghost use mathlib.Core.Path.{_≡_};
-ghost use mathlib.Core.Bool.{_&&_, _||_, cond};
+ghost use mathlib.Core.Bool.{_||_, cond};
 ghost use Prim.Native.Nat.{_*_, _≤_, _<_, suc, ℕ};
-ghost use lib.Dec.{ltb};
-ghost use lib.ListN.{length};
-ghost use Rattle.children.specs.Notes.{Noted, noneSilent, someBad, someGood};
+ghost use lib.Dec.{eqb, ltb};
+ghost use lib.ListN.{length, set};
+ghost use Rattle.children.specs.Notes.{hear, Noted, noneSilent, someBad, someGood};
 ghost use Rattle.children.specs.Telling.{Tells};
 ghost use Rattle.parlog.specs.Codes.{tagOf};
 ghost use Rattle.parlog.specs.Program.{Program};
@@ -15,7 +15,7 @@ ghost use Rattle.parlog.specs.Unify.{someBound};
 ghost use Rattle.parlog.specs.declared.Found.the-variants.{At};
 ghost use Rattle.plan.specs.Plans.{stateIn};
 ghost use Rattle.tree.specs.Family.{Falls};
-ghost use Rattle.turns.specs.Notes.{AllNoted, foundIn, kept, noteIn, tells};
+ghost use Rattle.turns.specs.Notes.{AllNoted, foundIn, kept, noteIn, saidIn, tells};
 use children::Note;
 use children::Told;
 use parlog::Found;
@@ -96,12 +96,13 @@ fn can_move(
     n: usize,
     vars: &[u8],
     m: usize,
+    silent: &[u8],
     said: &[u8],
     latest: &[u16],
     lowest: &[u16],
     p: usize,
 ) -> bool
-    requires { ⌜ (n * 24 ≤ length (now procs)) × (m * 4 ≤ length (now vars)) × (p < length (now said)) × Noted (procsOf (now procs) n) p 0 (noteIn (now said) (now latest) (now lowest) p) ⌝ }
+    requires { ⌜ (n * 24 ≤ length (now procs)) × (m * 4 ≤ length (now vars)) × (p < length (now silent)) × (p < length (now said)) × Noted (procsOf (now procs) n) p 0 (noteIn (now silent) (now said) (now latest) (now lowest) p) ⌝ }
     ensures { λ r. ⌜ ((pr : Program) → r ≡ canMove pr (stateIn (now (procs .entry)) n (now (vars .entry)) m) p) ⌝ }
 {
     let mode = rows::mode_at(procs, n, p);
@@ -110,7 +111,7 @@ fn can_move(
     }
     if mode == 3 {
         let tag = rows::tag_at(procs, n, p);
-        return tells(tag, said[p]);
+        return tells(tag, silent[p] | said[p]);
     }
     if mode == 4 {
         return p == 0;
@@ -124,12 +125,12 @@ fn can_move(
 // ---- the notes of all
 
 // What is noted for process p.
-fn note_at(said: &[u8], latest: &[u16], lowest: &[u16], p: usize) -> Note
-    requires { ⌜ (p < length (now said)) × (p < length (now latest)) × (p < length (now lowest)) ⌝ }
-    ensures { λ r. ⌜ r ≡ noteIn (now (said .entry)) (now (latest .entry)) (now (lowest .entry)) p ⌝ }
+fn note_at(silent: &[u8], said: &[u8], latest: &[u16], lowest: &[u16], p: usize) -> Note
+    requires { ⌜ (p < length (now silent)) × (p < length (now said)) × (p < length (now latest)) × (p < length (now lowest)) ⌝ }
+    ensures { λ r. ⌜ r ≡ noteIn (now (silent .entry)) (now (said .entry)) (now (latest .entry)) (now (lowest .entry)) p ⌝ }
 {
     Note {
-        said: said[p],
+        said: silent[p] | said[p],
         latest: latest[p],
         lowest: lowest[p],
     }
@@ -145,36 +146,51 @@ fn keep(rows: &mut [u16], yes: bool, i: usize, q: u16)
     }
 }
 
+// Process `up` hears q, which tells f.
+fn hear_told(
+    silent: &[u8],
+    said: &mut [u8],
+    latest: &mut [u16],
+    lowest: &mut [u16],
+    up: usize,
+    f: u8,
+    q: u16,
+)
+    requires { ⌜ (up < length (now silent)) × (up < length (now said)) × (up < length (now latest)) × (up < length (now lowest)) ⌝ }
+    ensures { λ _. ⌜ (now (said .exit) ≡ set (now (said .entry)) up (hear (saidIn (now (silent .entry)) (now (said .entry)) up) f)) × (now (latest .exit) ≡ kept (eqb (saidIn (now (silent .entry)) (now (said .entry)) up) 0) (now (latest .entry)) up q) × (now (lowest .exit) ≡ kept (eqb f 10) (now (lowest .entry)) up q) ⌝ }
+{
+    let s = silent[up] | said[up];
+    let t = children::with(s, f);
+    said[up] = t;
+    keep(latest, s == 0, up, q);
+    keep(lowest, f == 10, up, q);
+}
+
 // The parent of process q hears it; process 0 has none.
 fn hear_row(
     procs: &[u8],
     n: usize,
+    silent: &mut [u8],
     said: &mut [u8],
     latest: &mut [u16],
     lowest: &mut [u16],
     q: usize,
 )
-    requires { ⌜ (n * 24 ≤ length (now procs)) × (n ≤ 512) × (q < n) × Falls (procsOf (now procs) n) × (length (now said) ≡ 512) × (length (now latest) ≡ 512) × (length (now lowest) ≡ 512) × AllNoted (procsOf (now procs) n) n (suc q) (now said) (now latest) (now lowest) ⌝ }
-    ensures { λ _. ⌜ (length (now (said .exit)) ≡ 512) × (length (now (latest .exit)) ≡ 512) × (length (now (lowest .exit)) ≡ 512) × AllNoted (procsOf (now (procs .entry)) n) n q (now (said .exit)) (now (latest .exit)) (now (lowest .exit)) ⌝ }
+    requires { ⌜ (n * 24 ≤ length (now procs)) × (n ≤ 512) × (q < n) × Falls (procsOf (now procs) n) × (length (now silent) ≡ 512) × (length (now said) ≡ 512) × (length (now latest) ≡ 512) × (length (now lowest) ≡ 512) × AllNoted (procsOf (now procs) n) n (suc q) (now silent) (now said) (now latest) (now lowest) ⌝ }
+    ensures { λ _. ⌜ (length (now (silent .exit)) ≡ 512) × (length (now (said .exit)) ≡ 512) × (length (now (latest .exit)) ≡ 512) × (length (now (lowest .exit)) ≡ 512) × AllNoted (procsOf (now (procs .entry)) n) n q (now (silent .exit)) (now (said .exit)) (now (latest .exit)) (now (lowest .exit)) ⌝ }
 {
     let up = rows::parent_at(procs, n, q) as usize;
     if up < q {
-        let s = said[up];
         let f = children::note_of(procs, n, q);
-        let t = children::with(s, f);
-        said[up] = t;
-        keep(latest, s == 0, up, q as u16);
-        keep(lowest, f == 10, up, q as u16);
+        if f == 1 {
+            silent[up] = 1;
+        } else {
+            hear_told(silent, said, latest, lowest, up, f, q as u16);
+        }
     }
 }
 
 // ---- whose turn it is
-
-fn both(a: bool, b: bool) -> bool
-    ensures { λ r. ⌜ r ≡ (a && b) ⌝ }
-{
-    if a { b } else { false }
-}
 
 // q where this holds, else what was found before.
 fn found(yes: bool, q: usize, before: usize) -> usize
@@ -203,35 +219,44 @@ fn pass(
     vars: &[u8],
     m: usize,
     last: usize,
+    silent: &mut [u8],
     said: &mut [u8],
     latest: &mut [u16],
     lowest: &mut [u16],
 ) -> Found
-    requires { ⌜ (n * 24 ≤ length (now procs)) × (n ≤ 512) × (m * 4 ≤ length (now vars)) × Falls (procsOf (now procs) n) × (length (now said) ≡ 512) × (length (now latest) ≡ 512) × (length (now lowest) ≡ 512) × AllNoted (procsOf (now procs) n) n n (now said) (now latest) (now lowest) ⌝ }
-    ensures { λ r. ⌜ ((pr : Program) → r ≡ turnOf (canMove pr (stateIn (now (procs .entry)) n (now (vars .entry)) m)) n last) × (length (now (said .exit)) ≡ 512) × (length (now (latest .exit)) ≡ 512) × (length (now (lowest .exit)) ≡ 512) × AllNoted (procsOf (now (procs .entry)) n) n 0 (now (said .exit)) (now (latest .exit)) (now (lowest .exit)) ⌝ }
+    requires { ⌜ (n * 24 ≤ length (now procs)) × (n ≤ 512) × (m * 4 ≤ length (now vars)) × Falls (procsOf (now procs) n) × (length (now silent) ≡ 512) × (length (now said) ≡ 512) × (length (now latest) ≡ 512) × (length (now lowest) ≡ 512) × AllNoted (procsOf (now procs) n) n n (now silent) (now said) (now latest) (now lowest) ⌝ }
+    ensures { λ r. ⌜ ((pr : Program) → r ≡ turnOf (canMove pr (stateIn (now (procs .entry)) n (now (vars .entry)) m)) n last) × (length (now (silent .exit)) ≡ 512) × (length (now (said .exit)) ≡ 512) × (length (now (latest .exit)) ≡ 512) × (length (now (lowest .exit)) ≡ 512) × AllNoted (procsOf (now (procs .entry)) n) n 0 (now (silent .exit)) (now (said .exit)) (now (latest .exit)) (now (lowest .exit)) ⌝ }
 {
     let mut behind = n;
     let mut round = n;
     let mut q = n;
     while 0 < q {
         q -= 1;
-        let can = can_move(procs, n, vars, m, said, latest, lowest, q);
-        behind = found(both(last < q, can), q, behind);
+        let can = can_move(procs, n, vars, m, silent, said, latest, lowest, q);
+        behind = found(children::both(last < q, can), q, behind);
         round = found(can, q, round);
-        hear_row(procs, n, said, latest, lowest, q);
+        hear_row(procs, n, silent, said, latest, lowest, q);
     }
     first_below(n, behind, round)
 }
 
 // What the children of that process report.
-fn told_of(procs: &[u8], n: usize, said: &[u8], latest: &[u16], lowest: &[u16], who: Found) -> Told
-    requires { ⌜ (n * 24 ≤ length (now procs)) × (n ≤ 512) × (length (now said) ≡ 512) × (length (now latest) ≡ 512) × (length (now lowest) ≡ 512) × AllNoted (procsOf (now procs) n) n 0 (now said) (now latest) (now lowest) × ((p : ℕ) → who ≡ At p → p < n) ⌝ }
+fn told_of(
+    procs: &[u8],
+    n: usize,
+    silent: &[u8],
+    said: &[u8],
+    latest: &[u16],
+    lowest: &[u16],
+    who: Found,
+) -> Told
+    requires { ⌜ (n * 24 ≤ length (now procs)) × (n ≤ 512) × (length (now silent) ≡ 512) × (length (now said) ≡ 512) × (length (now latest) ≡ 512) × (length (now lowest) ≡ 512) × AllNoted (procsOf (now procs) n) n 0 (now silent) (now said) (now latest) (now lowest) × ((p : ℕ) → who ≡ At p → p < n) ⌝ }
     ensures { λ r. ⌜ ((p : ℕ) → who ≡ At p → Tells (procsOf (now (procs .entry)) n) p r) ⌝ }
 {
     let Found::At(p) = who else {
         return children::nothing();
     };
-    let x = note_at(said, latest, lowest, p);
+    let x = note_at(silent, said, latest, lowest, p);
     children::told_by(procs, n, x)
 }
 
@@ -240,11 +265,22 @@ pub fn next(procs: &[u8], n: usize, vars: &[u8], m: usize, last: usize) -> Turn
     requires { ⌜ (n * 24 ≤ length (now procs)) × (n ≤ 512) × (m * 4 ≤ length (now vars)) × Falls (procsOf (now procs) n) ⌝ }
     ensures { λ r. ⌜ ((pr : Program) → r .who ≡ turnOf (canMove pr (stateIn (now (procs .entry)) n (now (vars .entry)) m)) n last) × ((p : ℕ) → r .who ≡ At p → Tells (procsOf (now (procs .entry)) n) p (r .told)) ⌝ }
 {
+    let mut silent = [0u8; 512];
     let mut said = [0u8; 512];
     let mut latest = [0u16; 512];
     let mut lowest = [0u16; 512];
-    let who = pass(procs, n, vars, m, last, &mut said, &mut latest, &mut lowest);
-    let told = told_of(procs, n, &said, &latest, &lowest, who);
+    let who = pass(
+        procs,
+        n,
+        vars,
+        m,
+        last,
+        &mut silent,
+        &mut said,
+        &mut latest,
+        &mut lowest,
+    );
+    let told = told_of(procs, n, &silent, &said, &latest, &lowest, who);
     Turn {
         who: who,
         told: told,

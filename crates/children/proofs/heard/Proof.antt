@@ -1,4 +1,5 @@
-use Rattle.children.proofs.Ways.{first-none, first-some}
+use Rattle.parlog.specs.Tables.{procsOf}
+use Rattle.children.proofs.Ways.{news-none, news-some}
 use borrow.Author.Needs.{needs}
 use Rattle.children.proofs.heard.Statement.{statement}
 use Rattle.children.proofs.heard.Tie as tie
@@ -8,4 +9,4 @@ use Rattle.children.proofs.heard_from.Reads as heard-from-reads
 use Rattle.children.proofs.wide.Reads as wide-reads
 
 pub heard-spec : {M : Type 1} → statement M
-heard-spec = tie.close (tie.spec (λ c. first-none _ (c .before .before .before .args .x) (c .if1 .taken)) (λ c κs. search needs) (λ c κs. search needs) (λ c. first-some _ (c .before .before .before .before .before .args .x) (c .before .before .if1 .left) (c .before .wide .ensures) (c .heard-from .ensures)))
+heard-spec = tie.close (tie.spec (λ c κs. search needs) (λ c κs. search needs) (λ c. news-some (procsOf ((c .before .before .before .before .before .args .procs) .now) (c .before .before .before .before .before .args .n)) (c .before .before .before .before .before .args .x) (c .before .before .if1 .taken) (c .before .wide .ensures) (c .heard-from .ensures)) (λ c. news-none (procsOf ((c .before .before .before .args .procs) .now) (c .before .before .before .args .n)) (c .before .before .before .args .x) (c .if1 .left)))

@@ -1,7 +1,5 @@
 use Rattle.turns.proofs.Passing.{asks-nothing, asks-told}
 use native.Mathlib.Omega.{arith}
-use mathlib.Core.Path.{_∙_, _≡_, sym}
-use Rattle.parlog.specs.declared.Found.the-variants.{At}
 use borrow.Author.Needs.{needs}
 use Rattle.turns.proofs.told_of.Statement.{statement}
 use Rattle.turns.proofs.told_of.Tie as tie
@@ -19,6 +17,6 @@ told-of-spec =
     (λ c. search needs)
     (λ c κs. search needs)
     (λ c. λ p e. asks-nothing (c .before .enum-told .given .1) e)
-    (λ c κs. (let h = (c .before .before .before .before .before .before .before .pre .6) _ (c .before .who .given .1) in omega arith, let h = (c .before .before .before .before .before .before .before .pre .6) _ (c .before .who .given .1) in omega arith, let h = (c .before .before .before .before .before .before .before .pre .6) _ (c .before .who .given .1) in omega arith))
+    (λ c κs. (let h = (c .before .before .before .before .before .before .before .before .pre .7) _ (c .before .who .given .1) in omega arith, let h = (c .before .before .before .before .before .before .before .before .pre .7) _ (c .before .who .given .1) in omega arith, let h = (c .before .before .before .before .before .before .before .before .pre .7) _ (c .before .who .given .1) in omega arith, let h = (c .before .before .before .before .before .before .before .before .pre .7) _ (c .before .who .given .1) in omega arith))
     (λ c κs. search needs)
-    (λ c. asks-told _ _ _ _ _ (c .before .before .before .before .before .before .before .before .before .pre .5) (c .before .before .before .before .before .before .before .before .before .pre .6) (c .before .before .before .who .given .1) (c .before .note-at .ensures) (c .told-by .ensures)))
+    (λ c. asks-told _ _ _ _ _ _ (c .before .before .before .before .before .before .before .before .before .before .pre .6) (c .before .before .before .before .before .before .before .before .before .before .pre .7) (c .before .before .before .who .given .1) (c .before .note-at .ensures) (c .told-by .ensures)))
