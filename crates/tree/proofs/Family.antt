@@ -3,10 +3,10 @@ use mathlib.Core.Path.{_∙_, _≡_, refl, sym}
 use mathlib.Core.Logic.{_≢_}
 use mathlib.Core.Bool.{_||_, cond, false}
 use mathlib.Core.List.{[], List}
-use Prim.Native.Nat.{_-_, _<_, _≤_, suc, zero, ℕ}
-use lib.Dec.{eqb}
+use Prim.Native.Nat.{_+_, _-_, _<_, _≤_, suc, zero, ℕ}
+use lib.Dec.{eqb, ltb}
 use lib.ListN.{length}
-use borrow.Author.Tests.{eq-eqb, eqb-false, eqb-true, ne-eqb}
+use borrow.Author.Tests.{eq-eqb, eqb-false, eqb-true, ltb-false, ltb-true, ne-eqb}
 use native.Mathlib.Omega.{arith}
 use Rattle.parlog.proofs.Along.{less-one}
 use Rattle.parlog.proofs.Bools.{not-so, or-none, split}
@@ -20,7 +20,7 @@ use Rattle.parlog.specs.declared.Found.{Found}
 use Rattle.parlog.specs.declared.Found.the-variants.{At, Nothing}
 use Rattle.parlog.specs.declared.Process.{Process}
 use Rattle.rows.proofs.Tables.{procs-length}
-use Rattle.tree.specs.Family.{Falls}
+use Rattle.tree.specs.Family.{Childless, Falls}
 
 -- ---- the nearest try-clause above
 
@@ -81,6 +81,31 @@ module _ (ps : List Process) (falls : Falls ps) (p : ℕ) where
       split (eqb (at ps a .parent) p)
       (λ e. rw e (below-test here p kin a h (next-below (record { there = h; other = ne; parent = eqb-true (at ps a .parent) p e }))))
       (λ e. rw e (below-child here kin (at ps a .parent) p (record { there = h; other = ne; parent = refl }) (eqb-false (at ps a .parent) p e)))
+
+  -- nothing before the first child of p is below p
+  none-yet : (f q a : ℕ) → Childless ps p q → a ≤ f → a < length ps → a < q → below ps p a ≡ false
+  none-yet zero q a free u h v = below-low a h (omega arith)
+  none-yet (suc f) q a free u h v = split (ltb p a)
+      (λ e. let w : p < a = ltb-true p a e in
+      let k : at ps a .parent < a = falls a h (λ z. omega (arith, z)) in
+      below-up a h w ∙ rw (ne-eqb (at ps a .parent) p (free a w v)) (none-yet f q (at ps a .parent) free (omega arith) (omega arith) (omega arith)))
+      (λ e. below-low a h (ltb-false p a e))
+
+  pub below-none : (q a : ℕ) → Childless ps p q → a < length ps → a < q → below ps p a ≡ false
+  below-none q a free h v = none-yet a q a free (omega arith) h v
+
+-- ---- the way to the first child
+
+module _ (l : List ℕ) (n p : ℕ) where
+  pub child-starts : Childless (procsOf l n) p (p + 1)
+  child-starts i u v z = omega arith
+
+  pub child-on : (q : ℕ) → Childless (procsOf l n) p q → {v : ℕ} → v ≡ at (procsOf l n) q .parent → (v ≡ p → ⊥) → Childless (procsOf l n) p (q + 1)
+  child-on q free {v} ev ne i u w z = split (ltb i q)
+      (λ e. free i u (ltb-true i q e) z)
+      (λ e. let k : q ≤ i = ltb-false i q e in
+      let s : i ≡ q = omega arith in
+      ne (ev ∙ (rw s at z)))
 
 -- ---- the climb
 

@@ -20,8 +20,8 @@ use Rattle.parlog.specs.Tree.{below, climb}
 use Rattle.parlog.specs.declared.Process.{Process}
 use Rattle.rows.proofs.Tables.{procs-length, procs-past, table-rows, table-same, table-then}
 use Rattle.rows.specs.Rows.{Table}
-use Rattle.tree.proofs.Family.{below-low}
-use Rattle.tree.specs.Family.{Falls, slept, sleptBelow}
+use Rattle.tree.proofs.Family.{below-none}
+use Rattle.tree.specs.Family.{Childless, Falls, slept, sleptBelow}
 
 -- what sleeps already stays as it is
 asleep-still : (b : Bool) (x : Process) → x .mode ≡ 0 → asleep b x ≡ x
@@ -81,16 +81,16 @@ passed-other ps p q j ne =
     split (ltb j q) (λ e. let h : j < q = ltb-true j q e in passed-now ps p (q + 1) j (omega arith) ∙ sym (passed-now ps p q j h))
     (λ e. let h : q ≤ j = ltb-false j q e in passed-yet ps p (q + 1) j (omega (arith, ne)) ∙ sym (passed-yet ps p q j h))
 
-pub pass-start : (l : List ℕ) (n p : ℕ) → p < n → Falls (procsOf l n) → Table l l (build (passed (procsOf l n) p (p + 1)) n)
-pass-start l n p h falls =
-    let e : build (passed (procsOf l n) p (p + 1)) n ≡ procsOf l n =
-    rw (procs-length l n) at (build-is (passed (procsOf l n) p (p + 1)) idle (procsOf l n) (λ i u. first i (omega (arith, procs-length l n)))) in
+pub pass-start : (l : List ℕ) (n p q : ℕ) → Falls (procsOf l n) → Childless (procsOf l n) p q → Table l l (build (passed (procsOf l n) p q) n)
+pass-start l n p q falls free =
+    let e : build (passed (procsOf l n) p q) n ≡ procsOf l n =
+    rw (procs-length l n) at (build-is (passed (procsOf l n) p q) idle (procsOf l n) (λ i u. first i (omega (arith, procs-length l n)))) in
     rw e (table-same l n)
   where
-    first : (i : ℕ) → i < n → passed (procsOf l n) p (p + 1) i ≡ at (procsOf l n) i
-    first i u = split (ltb i (p + 1))
-        (λ e. let v : i < p + 1 = ltb-true i (p + 1) e in passed-now (procsOf l n) p (p + 1) i v ∙ unfold slept in rw (below-low (procsOf l n) falls p i (omega (arith, procs-length l n)) (omega arith)))
-        (λ e. passed-yet (procsOf l n) p (p + 1) i (ltb-false i (p + 1) e))
+    first : (i : ℕ) → i < n → passed (procsOf l n) p q i ≡ at (procsOf l n) i
+    first i u = split (ltb i q)
+        (λ e. let v : i < q = ltb-true i q e in passed-now (procsOf l n) p q i v ∙ unfold slept in rw (below-none (procsOf l n) falls p q i free (omega (arith, procs-length l n)) v))
+        (λ e. passed-yet (procsOf l n) p q i (ltb-false i q e))
 
 pub pass-end : (l m : List ℕ) (n p q : ℕ) → Table l m (build (passed (procsOf l n) p q) n) → q ≡ n → Table l m (sleptBelow (procsOf l n) p)
 unfolding sleptBelow

@@ -20,3 +20,7 @@ sleptBelow ps p = build (slept ps p) (length ps)
 -- Tables 3: every process but the first has a parent of a lower number
 abbrev pub Falls : List Process → Type 0
 Falls ps = (i : ℕ) → i < length ps → i ≢ 0 → at ps i .parent < i
+
+-- no process behind p and before q is a child of p
+abbrev pub Childless : List Process → ℕ → ℕ → Type 0
+Childless ps p q = (i : ℕ) → p < i → i < q → at ps i .parent ≢ p

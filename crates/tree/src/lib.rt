@@ -7,7 +7,7 @@ ghost use Rattle.parlog.specs.Delta.{withMode};
 ghost use Rattle.parlog.specs.Tables.{at, procsOf};
 ghost use Rattle.parlog.specs.Tree.{below, enclosing, firstOf};
 ghost use Rattle.rows.specs.Rows.{Table};
-ghost use Rattle.tree.specs.Family.{Falls, slept, sleptBelow};
+ghost use Rattle.tree.specs.Family.{Childless, Falls, slept, sleptBelow};
 use parlog::Found;
 use parlog::Process;
 
@@ -25,6 +25,14 @@ fn parent(procs: &[u8], n: usize, i: usize) -> usize
     wide(rows::parent_at(procs, n, i))
 }
 
+// The same for a process known to be there.
+fn above(procs: &[u8], n: usize, a: usize) -> usize
+    requires { ⌜ (n * 24 ≤ length (now procs)) × (a < n) ⌝ }
+    ensures { λ r. ⌜ r ≡ at (procsOf (now (procs .entry)) n) a .parent ⌝ }
+{
+    wide(rows::get_u16(procs, a * 24 + 4))
+}
+
 // Process i is below p. Parents have lower numbers, so the climb ends once it has come to p or past it.
 pub fn below(procs: &[u8], n: usize, p: usize, i: usize) -> bool
     requires { ⌜ (n * 24 ≤ length (now procs)) × (i < n) × (p < i) × Falls (procsOf (now procs) n) ⌝ }
@@ -32,7 +40,7 @@ pub fn below(procs: &[u8], n: usize, p: usize, i: usize) -> bool
 {
     let mut a = i;
     while p < a {
-        a = parent(procs, n, a);
+        a = above(procs, n, a);
     }
     a == p
 }
@@ -86,12 +94,20 @@ fn dormant(mut x: Process) -> Process
     x
 }
 
+// The mode of a process known to be there.
+fn mode(procs: &[u8], n: usize, q: usize) -> u8
+    requires { ⌜ (n * 24 ≤ length (now procs)) × (q < n) ⌝ }
+    ensures { λ r. ⌜ r ≡ at (procsOf (now (procs .entry)) n) q .mode ⌝ }
+{
+    procs[q * 24 + 1]
+}
+
 // Process q falls asleep if it is below p; a row that sleeps already is not written.
 fn sleep_one(procs: &mut [u8], n: usize, p: usize, q: usize)
     requires { ⌜ (n * 24 ≤ length (now procs)) × (q < n) × (p < q) × Falls (procsOf (now procs) n) ⌝ }
     ensures { λ _. ⌜ Table (now (procs .entry)) (now (procs .exit)) (set (procsOf (now (procs .entry)) n) q (slept (procsOf (now (procs .entry)) n) p q)) ⌝ }
 {
-    if rows::mode_at(procs, n, q) == 0 {
+    if mode(procs, n, q) == 0 {
         return;
     }
     if !below(procs, n, p, q) {
@@ -102,12 +118,27 @@ fn sleep_one(procs: &mut [u8], n: usize, p: usize, q: usize)
     rows::put(procs, n, q, y);
 }
 
-// Every process below p, at any depth, becomes dormant.
+// The first row behind p whose parent is p; n where there is none.
+fn first_child(procs: &[u8], n: usize, p: usize) -> usize
+    requires { ⌜ (n * 24 ≤ length (now procs)) × (p < n) ⌝ }
+    ensures { λ r. ⌜ (r ≤ n) × (p < r) × Childless (procsOf (now (procs .entry)) n) p r ⌝ }
+{
+    let mut q = p + 1;
+    while q < n {
+        if above(procs, n, q) == p {
+            return q;
+        }
+        q += 1;
+    }
+    q
+}
+
+// Every process below p, at any depth, becomes dormant; nothing before the first child of p is below it.
 pub fn sleep_below(procs: &mut [u8], n: usize, p: usize)
     requires { ⌜ (n * 24 ≤ length (now procs)) × (p < n) × Falls (procsOf (now procs) n) ⌝ }
     ensures { λ _. ⌜ Table (now (procs .entry)) (now (procs .exit)) (sleptBelow (procsOf (now (procs .entry)) n) p) ⌝ }
 {
-    let mut q = p + 1;
+    let mut q = first_child(procs, n, p);
     while q < n {
         sleep_one(procs, n, p, q);
         q += 1;

@@ -9,6 +9,7 @@ use Rattle.tree.proofs.sleep_below.Statement.{statement}
 use Rattle.tree.proofs.sleep_below.Tie as tie
 use Rattle.tree.proofs.sleep_below.Reads as reads
 use Rattle.tree.proofs.sleep_below.Lts as lts
+use Rattle.tree.proofs.first_child.Reads as first-child-reads
 use Rattle.tree.proofs.sleep_one.Reads as sleep-one-reads
 
 abbrev Inv-loop : tie.InvT-loop
@@ -23,9 +24,9 @@ sleep-below-spec =
     (tie.spec
     Inv-loop
     μ-loop
-    (λ c. search needs)
-    (λ c. (omega arith, omega arith, pass-start _ _ _ (c .before .pre .1) (c .before .pre .2)))
-    (λ c κs. (search needs, search needs, search needs, falls-still _ _ _ _ _ (c .before .loop-test .taken) (c .before .before .loop .inv .2) (c .before .before .before .before .pre .2)))
+    (λ c κs. search needs)
+    (λ c. (c .first-child .ensures .0, c .first-child .ensures .1, pass-start _ _ _ _ (c .before .before .before .pre .2) (c .first-child .ensures .2)))
+    (λ c κs. (search needs, search needs, search needs, falls-still _ _ _ _ _ (c .before .loop-test .taken) (c .before .before .loop .inv .2) (c .before .before .before .before .before .before .pre .2)))
     (λ c. search needs)
     (λ c. search needs)
     (λ c. (omega arith, omega arith, pass-next _ _ _ _ _ (c .before .before .before .before .loop-test .taken) (c .before .before .before .before .before .loop .inv .2) (c .before .before .sleep-one .ensures)))
