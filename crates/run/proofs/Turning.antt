@@ -46,7 +46,7 @@ lent h p v = record { head = h; procs = p; vars = v }
 -- ---- whose turn it is
 
 pub turning : (s : List ℕ) (r c : ℕ) (l : Lent) → Inside s r c l → Turning (l .head) (l .procs) (l .vars)
-turning s r c l i = record { head = omega (arith, i .head); rows = i .rows; procs-most = i .procs-most; cells = i .cells; falls = parents-fall s r c l i refl }
+turning s r c l i = record { head = omega (arith, i .head); rows = i .rows; procs-most = i .procs-most; cells = i .cells; falls = parents-fall s r c l i refl; last = i .last }
 
 module _ (h p v : List ℕ) {n m last : ℕ} {t : Turn} (en : n ≡ procCount h) where
   pub whose-is : m ≡ varCount h → last ≡ markerLast h → ((pr : Program) → t .who ≡ turnOf (canMove pr (stateIn p n v m)) n last)

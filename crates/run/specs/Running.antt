@@ -9,7 +9,7 @@ use Rattle.parlog.specs.Calls.{runCall, stepAnswer, turnCall}
 use Rattle.parlog.specs.Limits.{small}
 use Rattle.parlog.specs.Program.{Program, programOf}
 use Rattle.parlog.specs.Run.{halt, made, runFrom, runTables, stepTables, turnFor, turnTables, unmade}
-use Rattle.parlog.specs.Tables.{Lent, procCount, procsOf, putTables, tablesIn, varCount}
+use Rattle.parlog.specs.Tables.{Lent, markerLast, procCount, procsOf, putTables, tablesIn, varCount}
 use Rattle.parlog.specs.declared.End.{End}
 use Rattle.parlog.specs.declared.End.the-variants.{Room}
 use Rattle.parlog.specs.declared.Found.the-variants.{At}
@@ -31,6 +31,7 @@ pub record Turning (h p v : List ℕ) : Type 0 where
   pub procs-most : procCount h ≤ 512
   pub cells : varCount h * 4 ≤ length v
   pub falls : Falls (procsOf p (procCount h))
+  pub last : markerLast h < procCount h
 
 -- Turns 2: whose turn it is, whatever the program, and what its children report
 pub record WhoseSays (l : Lent) (t : Turn) : Type 0 where

@@ -1,67 +1,79 @@
 -- One law for each way through the tests of one process.
 use mathlib.Core.Path.{_∙_, _≡_, ap, refl, sym}
-use mathlib.Core.Bool.{_||_, Bool, cond, false, true}
+use mathlib.Core.Bool.{Bool, cond, false, not, true}
 use mathlib.Core.List.{List}
 use Prim.Native.Nat.{_%_, _/_, _<_, _≤_, suc, zero, ℕ}
 use lib.Dec.{eqb, ltb}
+use lib.Bits.{bitAnd}
 use lib.ListN.{length, take}
 use lib.Seq.{take-all}
 use borrow.Author.Tests.{ltb-false}
 use native.Mathlib.Omega.{arith}
-use Rattle.children.specs.Notes.{noneSilent, Noted, someBad, someGood}
+use Rattle.children.specs.Notes.{Noted}
 use Rattle.children.specs.declared.Note.{Note}
 use Rattle.parlog.proofs.Able.{can-is, canIn, canWait}
 use Rattle.parlog.proofs.Bools.{split}
-use Rattle.parlog.specs.Codes.{modeOf, tagOf}
+use Rattle.parlog.proofs.Scans.{every-at}
+use Rattle.parlog.specs.Codes.{and-par, and-seq, equate, guard-eval, input-match, modeOf, or-par, or-search, seq-search, Tag, tagOf, try-clause}
 use Rattle.parlog.specs.Program.{Program}
 use Rattle.parlog.specs.Run.{canMove}
+use Rattle.parlog.specs.Scan.{every}
 use Rattle.parlog.specs.Tables.{at, noted, procsOf, State, varsIn}
 use Rattle.parlog.specs.Unify.{someBound}
 use Rattle.parlog.specs.declared.Binding.{Binding}
 use Rattle.parlog.specs.declared.Process.{Process}
 use Rattle.plan.specs.Plans.{stateIn}
 use Rattle.turns.proofs.Saying.{note-says}
-use Rattle.turns.specs.Notes.{tells}
+use Rattle.turns.specs.Notes.{asksOf, tells}
 
--- ---- what a note says, by tag
+-- ---- what was said, by tag
 
-module _ (s : ℕ) where
-  pub tells-low : (t : ℕ) → (t ≡ 0 → ⊥) → t < 4 → eqb (s / 8 % 2) 1 ≡ tells (tagOf t) s
-  unfolding tells tagOf
-  tells-low zero a h = absurd (a refl)
-  tells-low (suc zero) a h = refl
-  tells-low (suc (suc zero)) a h = refl
-  tells-low (suc (suc (suc zero))) a h = refl
-  tells-low (suc (suc (suc (suc t)))) a h = absurd (omega arith)
+-- unless exactly this was said
+abbrev unlike : ℕ → ℕ → Bool
+unlike k s = not (eqb (bitAnd s (k % 16)) (k / 16))
 
-  pub tells-none : (t : ℕ) → 4 ≤ t → (t ≡ 4 → ⊥) → (t ≡ 5 → ⊥) → (t ≡ 7 → ⊥) → false ≡ tells (tagOf t) s
-  unfolding tells tagOf
-  tells-none zero h a b c = absurd (omega arith)
-  tells-none (suc zero) h a b c = absurd (omega arith)
-  tells-none (suc (suc zero)) h a b c = absurd (omega arith)
-  tells-none (suc (suc (suc zero))) h a b c = absurd (omega arith)
-  tells-none (suc (suc (suc (suc zero)))) h a b c = absurd (a refl)
-  tells-none (suc (suc (suc (suc (suc zero))))) h a b c = absurd (b refl)
-  tells-none (suc (suc (suc (suc (suc (suc zero)))))) h a b c = refl
-  tells-none (suc (suc (suc (suc (suc (suc (suc zero))))))) h a b c = absurd (c refl)
-  tells-none (suc (suc (suc (suc (suc (suc (suc (suc t)))))))) h a b c = refl
+abbrev agree : Bool → Bool → Bool
+agree true b = b
+agree false b = not b
 
-  module _ (t : ℕ) {b : Bool} where
-    pub tells-all : t ≡ 0 → b ≡ (someBad s || noneSilent s) → b ≡ tells (tagOf t) s
-    unfolding tells tagOf
-    tells-all e f = rw e f
+agree-is : (a b : Bool) → agree a b ≡ true → a ≡ b
+agree-is true b e = sym e
+agree-is false true e = e
+agree-is false false e = refl
 
-    pub tells-try : t ≡ 5 → b ≡ (someBad s || noneSilent s) → b ≡ tells (tagOf t) s
-    unfolding tells tagOf
-    tells-try e f = rw e f
+asked : (t : Tag) (s : ℕ) → s < 16 → every (λ s. agree (unlike (asksOf t) s) (tells t s)) 16 ≡ true → unlike (asksOf t) s ≡ tells t s
+asked t s h e = agree-is (unlike (asksOf t) s) (tells t s) (every-at (λ s. agree (unlike (asksOf t) s) (tells t s)) 16 s e h)
 
-    pub tells-search : t ≡ 4 → b ≡ (someGood s || noneSilent s) → b ≡ tells (tagOf t) s
-    unfolding tells tagOf
-    tells-search e f = rw e f
+tells-by : (t : Tag) (s : ℕ) → s < 16 → unlike (asksOf t) s ≡ tells t s
+unfolding tells every
+tells-by and-par s h = asked and-par s h refl
+tells-by and-seq s h = asked and-seq s h refl
+tells-by or-par s h = asked or-par s h refl
+tells-by seq-search s h = asked seq-search s h refl
+tells-by or-search s h = asked or-search s h refl
+tells-by try-clause s h = asked try-clause s h refl
+tells-by input-match s h = asked input-match s h refl
+tells-by guard-eval s h = asked guard-eval s h refl
+tells-by equate s h = asked equate s h refl
 
-  pub tells-guard : (t : ℕ) → t ≡ 7 → eqb (s / 8 % 2) 1 ≡ tells (tagOf t) s
-  unfolding tells tagOf
-  tells-guard t e = rw e
+pub tells-is : (t : Tag) (s : ℕ) {k : ℕ} → s < 16 → k ≡ asksOf t → unlike k s ≡ tells t s
+tells-is t s h e = rw e (tells-by t s h)
+
+pub asks-at : (k : ℕ) {t : ℕ} → t ≡ k → asksOf (tagOf k) ≡ asksOf (tagOf t)
+asks-at k e = rw e
+
+-- the other tags ask for nothing
+pub asks-none : (t : ℕ) → (t ≡ 0 → ⊥) → (t ≡ 1 → ⊥) → (t ≡ 2 → ⊥) → (t ≡ 3 → ⊥) → (t ≡ 4 → ⊥) → (t ≡ 5 → ⊥) → (t ≡ 7 → ⊥) → 0 ≡ asksOf (tagOf t)
+unfolding tagOf
+asks-none zero a b c d e f g = absurd (a refl)
+asks-none (suc zero) a b c d e f g = absurd (b refl)
+asks-none (suc (suc zero)) a b c d e f g = absurd (c refl)
+asks-none (suc (suc (suc zero))) a b c d e f g = absurd (d refl)
+asks-none (suc (suc (suc (suc zero)))) a b c d e f g = absurd (e refl)
+asks-none (suc (suc (suc (suc (suc zero))))) a b c d e f g = absurd (f refl)
+asks-none (suc (suc (suc (suc (suc (suc zero)))))) a b c d e f g = refl
+asks-none (suc (suc (suc (suc (suc (suc (suc zero))))))) a b c d e f g = absurd (g refl)
+asks-none (suc (suc (suc (suc (suc (suc (suc (suc t)))))))) a b c d e f g = refl
 
 -- ---- what a suspended process noted
 

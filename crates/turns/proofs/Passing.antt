@@ -1,16 +1,16 @@
 -- The pass from the last row down: the notes of all, and the lowest that can move.
 use mathlib.Core.Path.{_∙_, _≡_, ap, refl, sym}
 use mathlib.Core.Logic.{_≢_}
-use mathlib.Core.Bool.{_&&_, and-comm, Bool, cond, false, true}
+use mathlib.Core.Bool.{and-comm, Bool, cond, false, true}
 use mathlib.Core.List.{[], List}
 use Prim.Native.Nat.{_-_, _<_, _≤_, suc, ℕ}
-use lib.Dec.{eqb, ltb}
+use lib.Dec.{eqb}
 use lib.Bits.{bitOr}
 use lib.ListN.{getD, getD-replicate, length, length-set, replicate, set}
 use lib.Seq.{getD-set-other, getD-set-same}
-use borrow.Author.Tests.{eq-eqb, eqb-false, eqb-true, le-ltb, lt-ltb, ne-eqb}
+use borrow.Author.Tests.{eq-eqb, eqb-false, eqb-true, ne-eqb}
 use native.Mathlib.Omega.{arith}
-use Rattle.children.proofs.Noting.{noted-child, noted-other, noted-quiet, noted-start, or-nothing}
+use Rattle.children.proofs.Noting.{noted-child, noted-other, noted-quiet, noted-start}
 use Rattle.children.specs.Notes.{hear, heardBy, Noted, noteOf}
 use Rattle.children.specs.Telling.{Tells}
 use Rattle.children.specs.declared.Note.{Note}
@@ -23,7 +23,7 @@ use Rattle.parlog.specs.Codes.{failure, success}
 use Rattle.parlog.specs.Limits.{small}
 use Rattle.parlog.specs.Program.{Program}
 use Rattle.parlog.specs.Run.{canMove, turnFor, turnOf}
-use Rattle.parlog.specs.Scan.{lowest, orElse}
+use Rattle.parlog.specs.Scan.{lowest}
 use Rattle.parlog.specs.Tables.{at, State}
 use Rattle.parlog.specs.Tree.{isChild, reports}
 use Rattle.parlog.specs.declared.Found.{Found}
@@ -31,7 +31,7 @@ use Rattle.parlog.specs.declared.Found.the-variants.{At, Nothing}
 use Rattle.parlog.specs.declared.Process.{Process}
 use Rattle.tree.specs.Family.{Falls}
 use Rattle.turns.proofs.Halves.{half-silent, half-small, half-told}
-use Rattle.turns.specs.Notes.{AllNoted, foundIn, kept, noteIn, saidIn}
+use Rattle.turns.specs.Notes.{AllNoted, kept, noteIn, saidIn}
 
 -- ---- the notes
 
@@ -87,9 +87,9 @@ module _ (ps : List Process) (n : ℕ) (en : length ps ≡ n) where
         hears u l si sa la lo b c e = (b, c, rw e (noted-child ps up q (noteIn silent said latest lowest up) (so up l .2) (child-is u up ∙ eq-eqb up up refl)))
 
         module _ (u : up < q) (most : n ≤ 512) (a : length silent ≡ 512) (b : length said ≡ 512) (c : length latest ≡ 512) (d : length lowest ≡ 512) {f : ℕ} (ef : f ≡ noteOf (at ps q)) where
-          heard-silent : f ≡ 1 → AllNoted ps n q (set silent up 1) said latest lowest
+          hears-silent : f ≡ 1 → AllNoted ps n q (set silent up 1) said latest lowest
           unfolding AllNoted
-          heard-silent e p l = split (eqb up p)
+          hears-silent e p l = split (eqb up p)
               (λ z. let w : up ≡ p = eqb-true up p z in rw (← w) (hears u (omega arith) (set silent up 1) said latest lowest (rw same (omega arith)) (so up (omega arith) .1) note))
               (λ z. let ne : up ≢ p = eqb-false up p z in stays u p l ne (set silent up 1) said latest lowest (getD-set-other silent up p 1 0 (λ w. ne (sym w))) refl refl refl)
             where
@@ -102,12 +102,12 @@ module _ (ps : List Process) (n : ℕ) (en : length ps ≡ n) where
                   rw (← ef, e, same, half-silent (getD silent up 0) (getD said up 0) (w .0) (w .1), and-comm (eqb (saidIn silent said up) 0) false)
 
           pub all-silent : f ≡ 1 → (length (set silent up 1) ≡ 512) × (length said ≡ 512) × (length latest ≡ 512) × (length lowest ≡ 512) × AllNoted ps n q (set silent up 1) said latest lowest
-          all-silent e = (length-set silent up 1 ∙ a, b, c, d, heard-silent e)
+          all-silent e = (length-set silent up 1 ∙ a, b, c, d, hears-silent e)
 
-          heard-told : (f ≡ 1 → ⊥) → {sa la lo : List ℕ} → sa ≡ set said up (hear (saidIn silent said up) f) → la ≡ kept (eqb (saidIn silent said up) 0) latest up q → lo ≡ kept (eqb f 10) lowest up q
+          hears-told : (f ≡ 1 → ⊥) → {sa la lo : List ℕ} → sa ≡ set said up (hear (saidIn silent said up) f) → la ≡ kept (eqb (saidIn silent said up) 0) latest up q → lo ≡ kept (eqb f 10) lowest up q
               → AllNoted ps n q silent sa la lo
           unfolding AllNoted
-          heard-told ne {sa} {la} {lo} es el eo p l = split (eqb up p)
+          hears-told ne {sa} {la} {lo} es el eo p l = split (eqb up p)
               (λ z. let w : up ≡ p = eqb-true up p z in rw (← w) (hears u (omega arith) silent sa la lo (so up (omega arith) .0) (rw same small) note))
               (λ z. let ne : up ≢ p = eqb-false up p z in let on : p ≢ up = λ w. ne (sym w) in
               stays u p l ne silent sa la lo refl (rw es (getD-set-other said up p (hear (saidIn silent said up) f) 0 on)) (rw el (kept-other (eqb (saidIn silent said up) 0) latest up p q on)) (rw eo (kept-other (eqb f 10) lowest up p q on)))
@@ -132,7 +132,7 @@ module _ (ps : List Process) (n : ℕ) (en : length ps ≡ n) where
             ap length es ∙ length-set said up (hear (saidIn silent said up) f) ∙ b,
             ap length el ∙ kept-length (eqb (saidIn silent said up) 0) latest up q ∙ c,
             ap length eo ∙ kept-length (eqb f 10) lowest up q ∙ d,
-            heard-told ne es el eo,
+            hears-told ne es el eo,
           )
 
         pub all-kept : q ≤ up → AllNoted ps n q silent said latest lowest
@@ -147,59 +147,8 @@ module _ (ps : List Process) (n q : ℕ) (silent said latest lowest : List ℕ) 
   pub all-less : 0 < q → AllNoted ps n q silent said latest lowest → AllNoted ps n (suc (q - 1)) silent said latest lowest
   all-less h so = let e : suc (q - 1) ≡ q = omega arith in rw e so
 
-  pub all-end : q ≡ 0 → AllNoted ps n q silent said latest lowest → AllNoted ps n 0 silent said latest lowest
-  all-end e so = rw e at so
-
--- ---- the lowest that can move
-
--- what was found from row q on, and the rows below q, give what all give
-abbrev pub Kept : (ℕ → Bool) → ℕ → ℕ → ℕ → Type 0
-Kept f n q v = orElse (lowest f q) (foundIn n v) ≡ lowest f n
-
-kept-by : (g b : Found) (c : Bool) (q : ℕ) → orElse g (cond c (At q) b) ≡ orElse (orElse g (cond c (At q) Nothing)) b
-kept-by (At i) b c q = refl
-kept-by Nothing b true q = refl
-kept-by Nothing b false q = refl
-
-found-next : (n q v : ℕ) (c : Bool) → q < n → foundIn n (cond c q v) ≡ cond c (At q) (foundIn n v)
-found-next n q v true h = rw (lt-ltb q n h)
-found-next n q v false h = refl
-
-module _ (f : ℕ → Bool) (n : ℕ) where
-  kept-start : Kept f n n n
-  kept-start = rw (le-ltb n n (omega arith)) (or-nothing (lowest f n))
-
-  kept-next : (q v : ℕ) → q < n → Kept f n (suc q) v → {c : Bool} → c ≡ f q → Kept f n q (cond c q v)
-  unfolding lowest
-  kept-next q v h so {c} e = rw (found-next n q v c h) (kept-by (lowest f q) (foundIn n v) c q ∙ rw e so)
-
-  kept-end : (v : ℕ) → Kept f n 0 v → foundIn n v ≡ lowest f n
-  unfolding lowest
-  kept-end v so = so
-
--- the search so far, whatever the program: behind the last, and of all
-abbrev pub Searched : State → ℕ → ℕ → ℕ → ℕ → ℕ → Type 0
-Searched st n last q behind round = (pr : Program) → Kept (λ i. ltb last i && canMove pr st i) n q behind × Kept (canMove pr st) n q round
-
-module _ (st : State) (n last : ℕ) where
-  pub search-start : Searched st n last n n n
-  search-start pr = (kept-start (λ i. ltb last i && canMove pr st i) n, kept-start (canMove pr st) n)
-
-  pub search-next : (q b r : ℕ) → 0 < q → q ≤ n → Searched st n last q b r → {can c : Bool} → ((pr : Program) → can ≡ canMove pr st (q - 1)) → c ≡ (ltb last (q - 1) && can)
-      → {b′ r′ : ℕ} → b′ ≡ cond c (q - 1) b → r′ ≡ cond can (q - 1) r → Searched st n last (q - 1) b′ r′
-  search-next q b r h l so {can} {c} is ec eb er pr =
-      let e : suc (q - 1) ≡ q = omega arith in
-      let (u, v) : Kept (λ i. ltb last i && canMove pr st i) n (suc (q - 1)) b × Kept (canMove pr st) n (suc (q - 1)) r = rw e (so pr) in
-      let w : c ≡ (ltb last (q - 1) && canMove pr st (q - 1)) = rw (← is pr) ec in (
-        rw eb (kept-next (λ i. ltb last i && canMove pr st i) n (q - 1) b (omega arith) u w),
-        rw er (kept-next (canMove pr st) n (q - 1) r (omega arith) v (is pr)),
-      )
-
-  pub search-end : (q b r : ℕ) → q ≡ 0 → Searched st n last q b r → {f : Found} → f ≡ orElse (foundIn n b) (foundIn n r) → (pr : Program) → f ≡ turnOf (canMove pr st) n last
-  unfolding turnOf
-  search-end q b r e so ef pr =
-      let (u, v) : Kept (λ i. ltb last i && canMove pr st i) n 0 b × Kept (canMove pr st) n 0 r = rw e at (so pr) in
-      rw (← kept-end (λ i. ltb last i && canMove pr st i) n b u, ← kept-end (canMove pr st) n r v) ef
+  pub all-end : (lo : ℕ) → q ≡ lo → AllNoted ps n q silent said latest lowest → AllNoted ps n lo silent said latest lowest
+  all-end lo e so = rw e at so
 
 -- whose turn it is stands in the table
 pub turn-there : (pr : Program) (st : State) (n last : ℕ) → length (st .procs) ≡ n → {p : ℕ} → turnOf (canMove pr st) n last ≡ At p → p < n

@@ -1,13 +1,14 @@
 -- What one pass over the rows notes for each process about its children, and who can move by it.
-use mathlib.Core.Bool.{_||_, Bool, cond, false}
+use mathlib.Core.Bool.{_&&_, _||_, Bool, cond, false}
 use mathlib.Core.List.{List}
 use Prim.Native.Nat.{_<_, ℕ}
-use lib.Dec.{ltb}
+use lib.Dec.{leb, ltb}
 use lib.Bits.{bitOr}
 use lib.ListN.{getD, set}
 use Rattle.children.specs.Notes.{latestIn, Noted, noneSilent, someBad, someGood}
 use Rattle.children.specs.declared.Note.{Note}
 use Rattle.parlog.specs.Codes.{and-par, and-seq, equate, guard-eval, input-match, or-par, or-search, seq-search, Tag, try-clause}
+use Rattle.parlog.specs.Scan.{lowest}
 use Rattle.parlog.specs.declared.Found.{Found}
 use Rattle.parlog.specs.declared.Found.the-variants.{At, Nothing}
 use Rattle.parlog.specs.declared.Process.{Process}
@@ -39,6 +40,24 @@ tells try-clause s = someBad s || noneSilent s
 tells input-match s = false
 tells guard-eval s = latestIn s
 tells equate s = false
+
+-- the same as a number: in its low half what is asked for, in the high half what of it must not be all that was said
+abbrev pub asksOf : Tag → ℕ
+asksOf and-par = 21
+asksOf and-seq = 8
+asksOf or-par = 8
+asksOf seq-search = 8
+asksOf or-search = 19
+asksOf try-clause = 21
+asksOf input-match = 0
+asksOf guard-eval = 8
+asksOf equate = 0
+
+-- ---- the search
+
+-- the first from a on, below e, that passes the test
+unfoldable pub firstFrom : (ℕ → Bool) → ℕ → ℕ → Found
+firstFrom f a e = lowest (λ i. leb a i && f i) e
 
 -- the number, where it is below n
 abbrev pub foundIn : ℕ → ℕ → Found

@@ -1,10 +1,10 @@
 // Whose turn it is: one pass from the last row down, in which every process is asked whether it can move, and heard by its parent.
 ghost use mathlib.Core.Path.{_≡_};
-ghost use mathlib.Core.Bool.{_||_, cond};
+ghost use mathlib.Core.Bool.{cond};
 ghost use Prim.Native.Nat.{_*_, _≤_, _<_, suc, ℕ};
 ghost use lib.Dec.{eqb, ltb};
 ghost use lib.ListN.{length, set};
-ghost use Rattle.children.specs.Notes.{hear, Noted, noneSilent, someBad, someGood};
+ghost use Rattle.children.specs.Notes.{hear, Noted};
 ghost use Rattle.children.specs.Telling.{Tells};
 ghost use Rattle.parlog.specs.Codes.{tagOf};
 ghost use Rattle.parlog.specs.Program.{Program};
@@ -15,7 +15,7 @@ ghost use Rattle.parlog.specs.Unify.{someBound};
 ghost use Rattle.parlog.specs.declared.Found.the-variants.{At};
 ghost use Rattle.plan.specs.Plans.{stateIn};
 ghost use Rattle.tree.specs.Family.{Falls};
-ghost use Rattle.turns.specs.Notes.{AllNoted, foundIn, kept, noteIn, saidIn, tells};
+ghost use Rattle.turns.specs.Notes.{AllNoted, asksOf, firstFrom, foundIn, kept, noteIn, saidIn, tells};
 use children::Note;
 use children::Told;
 use parlog::Found;
@@ -28,46 +28,29 @@ pub struct Turn {
 
 // ---- who can move
 
-fn or(a: bool, b: bool) -> bool
-    ensures { λ r. ⌜ r ≡ (a || b) ⌝ }
+// What a waiting process of this tag asks for: it can move unless exactly the high half of the low half was said.
+fn asks(tag: u8) -> u8
+    ensures { λ r. ⌜ r ≡ asksOf (tagOf tag) ⌝ }
 {
-    if a { true } else { b }
-}
-
-// One failed, or all have spoken.
-fn bad_or_all(s: u8) -> bool
-    ensures { λ r. ⌜ r ≡ (someBad s || noneSilent s) ⌝ }
-{
-    or(children::some_bad(s), children::none_silent(s))
-}
-
-// One succeeded, or all have spoken.
-fn good_or_all(s: u8) -> bool
-    ensures { λ r. ⌜ r ≡ (someGood s || noneSilent s) ⌝ }
-{
-    or(children::some_good(s), children::none_silent(s))
+    match tag {
+        0 => 21,
+        1 => 8,
+        2 => 8,
+        3 => 8,
+        4 => 19,
+        5 => 21,
+        7 => 8,
+        _ => 0,
+    }
 }
 
 // A waiting process of this tag can move by what its children said.
 fn tells(tag: u8, s: u8) -> bool
+    requires { ⌜ s < 16 ⌝ }
     ensures { λ r. ⌜ r ≡ tells (tagOf tag) s ⌝ }
 {
-    if tag == 0 {
-        return bad_or_all(s);
-    }
-    if tag < 4 {
-        return s / 8 % 2 == 1;
-    }
-    if tag == 4 {
-        return good_or_all(s);
-    }
-    if tag == 5 {
-        return bad_or_all(s);
-    }
-    if tag == 7 {
-        return s / 8 % 2 == 1;
-    }
-    false
+    let k = asks(tag);
+    s & (k % 16) != k / 16
 }
 
 // No row has more than four notes.
@@ -212,7 +195,34 @@ fn first_below(n: usize, a: usize, b: usize) -> Found
     Found::Nothing
 }
 
-// The next process behind the last that can move, else the lowest that can; all processes are heard.
+// The lowest that can move of the rows below `hi` down to `lo`, or n; each is heard by its parent.
+fn sweep(
+    procs: &[u8],
+    n: usize,
+    vars: &[u8],
+    m: usize,
+    silent: &mut [u8],
+    said: &mut [u8],
+    latest: &mut [u16],
+    lowest: &mut [u16],
+    lo: usize,
+    hi: usize,
+) -> usize
+    requires { ⌜ (n * 24 ≤ length (now procs)) × (n ≤ 512) × (m * 4 ≤ length (now vars)) × Falls (procsOf (now procs) n) × (lo ≤ hi) × (hi ≤ n) × (length (now silent) ≡ 512) × (length (now said) ≡ 512) × (length (now latest) ≡ 512) × (length (now lowest) ≡ 512) × AllNoted (procsOf (now procs) n) n hi (now silent) (now said) (now latest) (now lowest) ⌝ }
+    ensures { λ r. ⌜ ((pr : Program) → foundIn n r ≡ firstFrom (canMove pr (stateIn (now (procs .entry)) n (now (vars .entry)) m)) lo hi) × (length (now (silent .exit)) ≡ 512) × (length (now (said .exit)) ≡ 512) × (length (now (latest .exit)) ≡ 512) × (length (now (lowest .exit)) ≡ 512) × AllNoted (procsOf (now (procs .entry)) n) n lo (now (silent .exit)) (now (said .exit)) (now (latest .exit)) (now (lowest .exit)) ⌝ }
+{
+    let mut best = n;
+    let mut q = hi;
+    while lo < q {
+        q -= 1;
+        let can = can_move(procs, n, vars, m, silent, said, latest, lowest, q);
+        best = found(can, q, best);
+        hear_row(procs, n, silent, said, latest, lowest, q);
+    }
+    best
+}
+
+// The next process behind the last that can move, else the lowest that can: one pass over the rows, in two parts.
 fn pass(
     procs: &[u8],
     n: usize,
@@ -224,19 +234,11 @@ fn pass(
     latest: &mut [u16],
     lowest: &mut [u16],
 ) -> Found
-    requires { ⌜ (n * 24 ≤ length (now procs)) × (n ≤ 512) × (m * 4 ≤ length (now vars)) × Falls (procsOf (now procs) n) × (length (now silent) ≡ 512) × (length (now said) ≡ 512) × (length (now latest) ≡ 512) × (length (now lowest) ≡ 512) × AllNoted (procsOf (now procs) n) n n (now silent) (now said) (now latest) (now lowest) ⌝ }
+    requires { ⌜ (n * 24 ≤ length (now procs)) × (n ≤ 512) × (m * 4 ≤ length (now vars)) × Falls (procsOf (now procs) n) × (last < n) × (length (now silent) ≡ 512) × (length (now said) ≡ 512) × (length (now latest) ≡ 512) × (length (now lowest) ≡ 512) × AllNoted (procsOf (now procs) n) n n (now silent) (now said) (now latest) (now lowest) ⌝ }
     ensures { λ r. ⌜ ((pr : Program) → r ≡ turnOf (canMove pr (stateIn (now (procs .entry)) n (now (vars .entry)) m)) n last) × (length (now (silent .exit)) ≡ 512) × (length (now (said .exit)) ≡ 512) × (length (now (latest .exit)) ≡ 512) × (length (now (lowest .exit)) ≡ 512) × AllNoted (procsOf (now (procs .entry)) n) n 0 (now (silent .exit)) (now (said .exit)) (now (latest .exit)) (now (lowest .exit)) ⌝ }
 {
-    let mut behind = n;
-    let mut round = n;
-    let mut q = n;
-    while 0 < q {
-        q -= 1;
-        let can = can_move(procs, n, vars, m, silent, said, latest, lowest, q);
-        behind = found(children::both(last < q, can), q, behind);
-        round = found(can, q, round);
-        hear_row(procs, n, silent, said, latest, lowest, q);
-    }
+    let behind = sweep(procs, n, vars, m, silent, said, latest, lowest, last + 1, n);
+    let round = sweep(procs, n, vars, m, silent, said, latest, lowest, 0, last + 1);
     first_below(n, behind, round)
 }
 
@@ -262,7 +264,7 @@ fn told_of(
 
 // The next process behind the last that can move, coming round to the last itself, and what its children report.
 pub fn next(procs: &[u8], n: usize, vars: &[u8], m: usize, last: usize) -> Turn
-    requires { ⌜ (n * 24 ≤ length (now procs)) × (n ≤ 512) × (m * 4 ≤ length (now vars)) × Falls (procsOf (now procs) n) ⌝ }
+    requires { ⌜ (n * 24 ≤ length (now procs)) × (n ≤ 512) × (m * 4 ≤ length (now vars)) × Falls (procsOf (now procs) n) × (last < n) ⌝ }
     ensures { λ r. ⌜ ((pr : Program) → r .who ≡ turnOf (canMove pr (stateIn (now (procs .entry)) n (now (vars .entry)) m)) n last) × ((p : ℕ) → r .who ≡ At p → Tells (procsOf (now (procs .entry)) n) p (r .told)) ⌝ }
 {
     let mut silent = [0u8; 512];
