@@ -112,6 +112,6 @@ pub extern "C" fn rissobarm_value(
 pub extern "C" fn rissobarm_watch(procs: &[u8]) -> u64
     ensures { λ r. ⌜ WatchTells (now (procs .entry)) r ⌝ }
 {
-    let a = watching::watch_rows(procs);
+    let a = watch_rows::watch_rows(procs);
     words::watch_word(a)
 }

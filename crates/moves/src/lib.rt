@@ -10,11 +10,11 @@ ghost use Rattle.parlog.specs.Program.{programOf, stageAt};
 ghost use Rattle.parlog.specs.Rules.{blockAt, ruleOf, startRule, waitRule};
 ghost use Rattle.parlog.specs.Tables.{at, procsOf, State, varsIn};
 ghost use Rattle.parlog.specs.declared.Binding.{Binding};
-ghost use Rattle.plan.specs.Plans.{appliedOf, stateIn, Within};
+ghost use Rattle.move_plan.specs.Plans.{appliedOf, stateIn, Within};
 ghost use Rattle.moves.specs.Legal.{Able, Legal};
 use children::Told;
 use parlog::Process;
-use plan::Plan;
+use move_plan::Plan;
 
 // A process about to start whose rule binds nothing, by its tag.
 fn start_tree(
@@ -87,7 +87,7 @@ fn wait_rule(
         4 => rules_or::wait_or_search(procs, n, p, x, told),
         5 => rules_and::wait_try_clause(told, p, x),
         7 => rules_and::wait_guard_eval(told, p, x),
-        _ => plan::none(),
+        _ => move_plan::none(),
     }
 }
 
@@ -109,7 +109,7 @@ pub fn rule_of(
     let x = rows::get(procs, n, p);
     let mode = x.mode;
     match mode {
-        0 => plan::none(),
+        0 => move_plan::none(),
         1 => rules_and::ready(p, x),
         2 => start_rule(image, rels, clauses, procs, n, vars, m, p, x),
         3 => wait_rule(image, rels, clauses, procs, n, p, x, told),

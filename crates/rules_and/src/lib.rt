@@ -13,7 +13,7 @@ ghost use Rattle.parlog.specs.Tables.{procsOf};
 ghost use Rattle.parlog.specs.declared.Found.the-variants.{At, Nothing};
 ghost use Rattle.parlog.specs.declared.Move.the-variants.{AndSeqNext};
 ghost use Rattle.parlog.specs.declared.Process.{Process};
-ghost use Rattle.plan.specs.Plans.{appliedOf};
+ghost use Rattle.move_plan.specs.Plans.{appliedOf};
 ghost use Rattle.rules_and.specs.Says.{nextStage, Readies, Starts, touched, Waits};
 use children::News;
 use children::Told;
@@ -21,14 +21,14 @@ use parlog::Found;
 use parlog::Move;
 use parlog::Process;
 use parlog::Spot;
-use plan::Plan;
+use move_plan::Plan;
 
 // A ready process is about to start next.
 pub fn ready(p: usize, x: Process) -> Plan
     ensures { λ r. ⌜ Readies p x (appliedOf r) × (r .count ≤ 12) × (r .changes .count ≡ 0) ⌝ }
 {
-    let me = plan::with_mode(x, 2);
-    plan::only(Move::Ready(p), me)
+    let me = move_plan::with_mode(x, 2);
+    move_plan::only(Move::Ready(p), me)
 }
 
 // The goal's own process has nobody to report to.
@@ -36,10 +36,10 @@ pub fn stop(p: usize, x: Process) -> Plan
     ensures { λ r. ⌜ (appliedOf r ≡ stopRule p x) × (r .count ≤ 12) × (r .changes .count ≡ 0) ⌝ }
 {
     if p == 0 {
-        let me = plan::with_mode(x, 0);
-        return plan::only(Move::Stop(0), me);
+        let me = move_plan::with_mode(x, 0);
+        return move_plan::only(Move::Stop(0), me);
     }
-    plan::none()
+    move_plan::none()
 }
 
 // ---- plans that make processes
@@ -60,7 +60,7 @@ fn with_child(mv: Move, x: Process, child: Process) -> Plan
 {
     let mut new = [0u8; 288];
     rows::append(&mut new, 0, child);
-    plan::make(mv, x, Found::Nothing, 1, new, 0)
+    move_plan::make(mv, x, Found::Nothing, 1, new, 0)
 }
 
 // The mover and two children.
@@ -70,7 +70,7 @@ fn with_children(mv: Move, x: Process, one: Process, other: Process) -> Plan
     let mut new = [0u8; 288];
     rows::append(&mut new, 0, one);
     rows::append(&mut new, 1, other);
-    plan::make(mv, x, Found::Nothing, 2, new, 0)
+    move_plan::make(mv, x, Found::Nothing, 2, new, 0)
 }
 
 // ---- and-par
@@ -80,9 +80,9 @@ fn member(image: &[u8], rels: usize, clauses: usize, p: usize, z: Spot, j: usize
     requires { ⌜ (rels ≤ 32) × (clauses ≤ 64) × (p ≤ 65535) × (j ≤ 255) ⌝ }
     ensures { λ r. ⌜ r ≡ member (programOf (now (image .entry)) rels clauses) p z j ⌝ }
 {
-    let y = plan::literal_spot(z, j as u8);
-    let t = prog::tag_of_literal(image, rels, clauses, y);
-    plan::new_process(t, 1, p, y)
+    let y = move_plan::literal_spot(z, j as u8);
+    let t = program::tag_of_literal(image, rels, clauses, y);
+    move_plan::new_process(t, 1, p, y)
 }
 
 // The processes for its first k members, as rows.
@@ -111,12 +111,12 @@ pub fn start_and_par(
     ensures { λ r. ⌜ Starts and-par (programOf (now (image .entry)) rels clauses) n p x (appliedOf r) × (r .count ≤ 12) × (r .changes .count ≡ 0) ⌝ }
 {
     let z = x.spot;
-    let k = prog::stage_size(image, rels, clauses, z);
+    let k = program::stage_size(image, rels, clauses, z);
     let mut new = [0u8; 288];
     members(image, rels, clauses, p, z, k, &mut new);
-    let me = plan::with_mode(x, 3);
+    let me = move_plan::with_mode(x, 3);
     let q = touched(n, p, k);
-    plan::make(Move::AndParStart(q), me, Found::Nothing, k, new, 0)
+    move_plan::make(Move::AndParStart(q), me, Found::Nothing, k, new, 0)
 }
 
 // One failure decides, else all must succeed.
@@ -124,12 +124,12 @@ pub fn wait_and_par(told: Told, p: usize, x: Process) -> Plan
     ensures { λ r. ⌜ ((ps : List Process) → Tells ps p told → Waits and-par ps p x (appliedOf r)) × (r .count ≤ 12) × (r .changes .count ≡ 0) ⌝ }
 {
     if told.failed {
-        return plan::report(Move::AndParFailure(p), 2, x);
+        return move_plan::report(Move::AndParFailure(p), 2, x);
     }
     if told.succeeded {
-        return plan::report(Move::AndParSuccess(p), 1, x);
+        return move_plan::report(Move::AndParSuccess(p), 1, x);
     }
-    plan::none()
+    move_plan::none()
 }
 
 // ---- and-seq
@@ -147,15 +147,15 @@ pub fn start_and_seq(
     ensures { λ r. ⌜ Starts and-seq (programOf (now (image .entry)) rels clauses) n p x (appliedOf r) × (r .count ≤ 12) × (r .changes .count ≡ 0) ⌝ }
 {
     let z = x.spot;
-    let stages = prog::goal_size(image, rels, clauses, z);
+    let stages = program::goal_size(image, rels, clauses, z);
     let i = z.stage as usize;
     if stages <= i {
-        return plan::report(Move::AndSeqSuccess(p), 1, x);
+        return move_plan::report(Move::AndSeqSuccess(p), 1, x);
     }
-    let t = prog::tag_of_stage(image, rels, clauses, z);
-    let y = plan::literal_spot(z, 0);
-    let child = plan::new_process(t, 2, p, y);
-    let me = plan::with_mode(x, 3);
+    let t = program::tag_of_stage(image, rels, clauses, z);
+    let y = move_plan::literal_spot(z, 0);
+    let child = move_plan::new_process(t, 2, p, y);
+    let me = move_plan::with_mode(x, 3);
     with_child(Move::AndSeqStart(n), me, child)
 }
 
@@ -165,8 +165,8 @@ fn next_stage(x: Process) -> Process
     ensures { λ r. ⌜ r ≡ nextStage x ⌝ }
 {
     let z = x.spot;
-    let y = plan::at_stage(z, z.stage + 1);
-    plan::with_spot(x, 2, y)
+    let y = move_plan::at_stage(z, z.stage + 1);
+    move_plan::with_spot(x, 2, y)
 }
 
 // The stage succeeded: it sleeps, and the stage behind it is next.
@@ -176,7 +176,7 @@ fn pass_stage(p: usize, x: Process, c: usize) -> Plan
 {
     let me = next_stage(x);
     let new = [0u8; 288];
-    plan::make(Move::AndSeqNext(p), me, Found::At(c), 0, new, 0)
+    move_plan::make(Move::AndSeqNext(p), me, Found::At(c), 0, new, 0)
 }
 
 // Goes on to the stage behind, or fails with its stage.
@@ -186,9 +186,9 @@ pub fn wait_and_seq(told: Told, p: usize, x: Process) -> Plan
 {
     let news = told.latest;
     match news {
-        News::Silent => plan::none(),
+        News::Silent => move_plan::none(),
         News::Good(c) => pass_stage(p, x, c),
-        News::Bad(_) => plan::report(Move::AndSeqFailure(p), 2, x),
+        News::Bad(_) => move_plan::report(Move::AndSeqFailure(p), 2, x),
     }
 }
 
@@ -200,11 +200,11 @@ pub fn start_try_clause(n: usize, p: usize, x: Process) -> Plan
     ensures { λ r. ⌜ ((pr : Program) → Starts try-clause pr n p x (appliedOf r)) × (r .count ≤ 12) × (r .changes .count ≡ 0) ⌝ }
 {
     let z = x.spot;
-    let call = plan::try_spot(z, z.found, z.first);
-    let one = plan::new_process(6, 1, p, call);
-    let guard = plan::guard_spot(z.found, z.first);
-    let other = plan::new_process(7, 1, p, guard);
-    let me = plan::with_mode(x, 3);
+    let call = move_plan::try_spot(z, z.found, z.first);
+    let one = move_plan::new_process(6, 1, p, call);
+    let guard = move_plan::guard_spot(z.found, z.first);
+    let other = move_plan::new_process(7, 1, p, guard);
+    let me = move_plan::with_mode(x, 3);
     with_children(Move::TryClauseStart(n), me, one, other)
 }
 
@@ -213,12 +213,12 @@ pub fn wait_try_clause(told: Told, p: usize, x: Process) -> Plan
     ensures { λ r. ⌜ ((ps : List Process) → Tells ps p told → Waits try-clause ps p x (appliedOf r)) × (r .count ≤ 12) × (r .changes .count ≡ 0) ⌝ }
 {
     if told.failed {
-        return plan::report(Move::TryClauseFailure(p), 2, x);
+        return move_plan::report(Move::TryClauseFailure(p), 2, x);
     }
     if told.succeeded {
-        return plan::report(Move::TryClauseSuccess(p), 1, x);
+        return move_plan::report(Move::TryClauseSuccess(p), 1, x);
     }
-    plan::none()
+    move_plan::none()
 }
 
 // ---- guard-eval
@@ -236,14 +236,14 @@ pub fn start_guard_eval(
     ensures { λ r. ⌜ Starts guard-eval (programOf (now (image .entry)) rels clauses) n p x (appliedOf r) × (r .count ≤ 12) × (r .changes .count ≡ 0) ⌝ }
 {
     let z = x.spot;
-    let size = prog::guard_size(image, rels, clauses, z.found as usize);
+    let size = program::guard_size(image, rels, clauses, z.found as usize);
     if size == 0 {
-        return plan::report(Move::GuardEvalEmpty(p), 1, x);
+        return move_plan::report(Move::GuardEvalEmpty(p), 1, x);
     }
-    let y = plan::goal_spot(1, z.found, z.first);
-    let t = prog::tag_of_goal(image, rels, clauses, y);
-    let child = plan::new_process(t, 2, p, y);
-    let me = plan::with_mode(x, 3);
+    let y = move_plan::goal_spot(1, z.found, z.first);
+    let t = program::tag_of_goal(image, rels, clauses, y);
+    let child = move_plan::new_process(t, 2, p, y);
+    let me = move_plan::with_mode(x, 3);
     with_child(Move::GuardEvalStart(n), me, child)
 }
 
@@ -253,8 +253,8 @@ pub fn wait_guard_eval(told: Told, p: usize, x: Process) -> Plan
 {
     let news = told.latest;
     match news {
-        News::Silent => plan::none(),
-        News::Good(_) => plan::report(Move::GuardEvalSuccess(p), 1, x),
-        News::Bad(_) => plan::report(Move::GuardEvalFailure(p), 2, x),
+        News::Silent => move_plan::none(),
+        News::Good(_) => move_plan::report(Move::GuardEvalSuccess(p), 1, x),
+        News::Bad(_) => move_plan::report(Move::GuardEvalFailure(p), 2, x),
     }
 }

@@ -30,13 +30,13 @@ use Rattle.parlog.specs.declared.Process.{Process}
 use Rattle.parlog.specs.declared.Spot.{Spot}
 use Rattle.parlog.specs.declared.Term.{Term}
 use Rattle.parlog.specs.declared.Term.the-variants.{Const, Var}
-use Rattle.plan.proofs.Plans.{applied-delta, delta-fresh}
-use Rattle.plan.specs.Plans as plans
-use Rattle.plan.specs.Plans.{appliedOf, deltaOf, Within}
-use Rattle.plan.specs.declared.Changes.{Changes}
-use Rattle.plan.specs.declared.Plan.{Plan}
-use Rattle.prog.specs.Parts.{shown}
-use Rattle.prog.specs.declared.Lit.{Lit}
+use Rattle.move_plan.proofs.Plans.{applied-delta, delta-fresh}
+use Rattle.move_plan.specs.Plans as plans
+use Rattle.move_plan.specs.Plans.{appliedOf, deltaOf, Within}
+use Rattle.move_plan.specs.declared.Changes.{Changes}
+use Rattle.move_plan.specs.declared.Plan.{Plan}
+use Rattle.program.specs.Parts.{shown}
+use Rattle.program.specs.declared.Lit.{Lit}
 use Rattle.rules_match.proofs.Lists.{four-take, least-left, least-right, match-cut, outs-take}
 use Rattle.rules_match.specs.Starts.{EquateThere, inFour, least, MatchThere, startBy}
 use Rattle.unify.specs.Pending.{noChange, top, Writable}

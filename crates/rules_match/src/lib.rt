@@ -5,8 +5,8 @@ use parlog::Move;
 use parlog::Process;
 use parlog::Spot;
 use parlog::Term;
-use plan::Changes;
-use plan::Plan;
+use move_plan::Changes;
+use move_plan::Plan;
 ghost use mathlib.Core.Path.{_≡_};
 ghost use mathlib.Core.Bool.{cond};
 ghost use Prim.Native.Nat.{_*_, _≤_};
@@ -19,7 +19,7 @@ ghost use Rattle.parlog.specs.Tables.{noted, varsIn};
 ghost use Rattle.parlog.specs.Unify.{someBound};
 ghost use Rattle.unify.specs.Pending.{noChange, Writable};
 ghost use Rattle.decide.specs.Decision.{decidedOf, Decides, toBind};
-ghost use Rattle.plan.specs.Plans.{appliedOf, stateIn, Within};
+ghost use Rattle.move_plan.specs.Plans.{appliedOf, stateIn, Within};
 ghost use Rattle.rules_match.specs.Starts.{EquateThere, inFour, least, MatchThere, startBy};
 
 // ---- what is decided, as a plan
@@ -66,18 +66,18 @@ fn start_by(
 {
     let deed = d.deed;
     match deed {
-        Deed::Fails => plan::report(fail, 2, x),
+        Deed::Fails => move_plan::report(fail, 2, x),
         Deed::Suspends => {
             let notes = d.notes;
-            let y = plan::with_notes(x, d.noted, notes);
-            plan::only(suspend, y)
+            let y = move_plan::with_notes(x, d.noted, notes);
+            move_plan::only(suspend, y)
         }
         Deed::Binds => {
             let list = d.binds;
             let count = d.count;
             let mv = success_move(count, plain, bind);
             let changes = Changes { count, list };
-            plan::report_with(mv, 1, x, changes)
+            move_plan::report_with(mv, 1, x, changes)
         }
     }
 }
@@ -89,10 +89,10 @@ fn four_modes(image: &[u8], rels: usize, clauses: usize, q: usize) -> [u8; 4]
     requires { ⌜ (rels ≤ 32) × (clauses ≤ 64) ⌝ }
     ensures { λ r. ⌜ r ≡ inFour 0 (modesAt (programOf (now (image .entry)) rels clauses) q) ⌝ }
 {
-    let a = prog::mode_of(image, rels, clauses, q, 0);
-    let b = prog::mode_of(image, rels, clauses, q, 1);
-    let c = prog::mode_of(image, rels, clauses, q, 2);
-    let d = prog::mode_of(image, rels, clauses, q, 3);
+    let a = program::mode_of(image, rels, clauses, q, 0);
+    let b = program::mode_of(image, rels, clauses, q, 1);
+    let c = program::mode_of(image, rels, clauses, q, 2);
+    let d = program::mode_of(image, rels, clauses, q, 3);
     [a as u8, b as u8, c as u8, d as u8]
 }
 
@@ -101,10 +101,10 @@ fn four_terms(image: &[u8], rels: usize, clauses: usize, k: usize) -> [Term; 4]
     requires { ⌜ (rels ≤ 32) × (clauses ≤ 64) ⌝ }
     ensures { λ r. ⌜ r ≡ inFour (Const 0) (clauseAt (programOf (now (image .entry)) rels clauses) k .head) ⌝ }
 {
-    let a = prog::head_term(image, rels, clauses, k, 0);
-    let b = prog::head_term(image, rels, clauses, k, 1);
-    let c = prog::head_term(image, rels, clauses, k, 2);
-    let d = prog::head_term(image, rels, clauses, k, 3);
+    let a = program::head_term(image, rels, clauses, k, 0);
+    let b = program::head_term(image, rels, clauses, k, 1);
+    let c = program::head_term(image, rels, clauses, k, 2);
+    let d = program::head_term(image, rels, clauses, k, 3);
     [a, b, c, d]
 }
 
@@ -119,7 +119,7 @@ fn match_at(image: &[u8], rels: usize, clauses: usize, vars: &[u8], m: usize, z:
     requires { ⌜ (rels ≤ 32) × (clauses ≤ 64) × (m * 4 ≤ length (now vars)) × (m ≤ 65535) × MatchThere (programOf (now image) rels clauses) (varsIn (now vars) m) z ⌝ }
     ensures { λ r. ⌜ Decides (matchAt (programOf (now (image .entry)) rels clauses) (varsIn (now (vars .entry)) m) z) r ⌝ }
 {
-    let l = prog::literal(image, rels, clauses, z);
+    let l = program::literal(image, rels, clauses, z);
     let q = l.rel;
     let size = l.arity;
     let a = l.a;
@@ -129,8 +129,8 @@ fn match_at(image: &[u8], rels: usize, clauses: usize, vars: &[u8], m: usize, z:
     let k = z.found as usize;
     let modes = four_modes(image, rels, clauses, q);
     let head = four_terms(image, rels, clauses, k);
-    let own = prog::clause_vars(image, rels, clauses, k);
-    let count = prog::mode_count(image, rels, clauses, q);
+    let own = program::clause_vars(image, rels, clauses, k);
+    let count = program::mode_count(image, rels, clauses, q);
     let arity = least(count, size);
     let args = [a, b, c, d];
     decide::match_of(vars, m, modes, args, z.base, head, z.first, own, arity)
@@ -181,7 +181,7 @@ fn equate_at(
     requires { ⌜ (rels ≤ 32) × (clauses ≤ 64) × (n * 24 ≤ length (now procs)) × (m * 4 ≤ length (now vars)) × (m ≤ 65535) × EquateThere (programOf (now image) rels clauses) (varsIn (now vars) m) z ⌝ }
     ensures { λ r. ⌜ Decides (equateAt (programOf (now (image .entry)) rels clauses) (stateIn (now (procs .entry)) n (now (vars .entry)) m) p z) r ⌝ }
 {
-    let l = prog::literal(image, rels, clauses, z);
+    let l = program::literal(image, rels, clauses, z);
     let t = l.a;
     let u = l.b;
     let bar = tree::enclosing_first(procs, n, p);
@@ -224,7 +224,7 @@ pub fn start_equate(
 fn still() -> Plan
     ensures { λ r. ⌜ (appliedOf r ≡ no-rule) × (r .count ≤ 12) × (r .fresh ≡ 0) × (r .changes .count ≡ 0) ⌝ }
 {
-    let mut r = plan::none();
+    let mut r = move_plan::none();
     r.fresh = 0;
     r
 }
@@ -239,6 +239,6 @@ pub fn wake(vars: &[u8], m: usize, p: usize, x: Process) -> Plan
     if !bound {
         return still();
     }
-    let y = plan::woken(x);
-    plan::only(Move::Wake(p), y)
+    let y = move_plan::woken(x);
+    move_plan::only(Move::Wake(p), y)
 }

@@ -15,7 +15,7 @@ use Rattle.parlog.specs.declared.Found.the-variants.{Nothing}
 use Rattle.parlog.specs.declared.Move.the-variants.{OrSearchStart}
 use Rattle.parlog.specs.declared.Process.{Process}
 use Rattle.parlog.specs.declared.Spot.{Spot}
-use Rattle.plan.specs.Plans.{Born, Of}
+use Rattle.move_plan.specs.Plans.{Born, Of}
 use Rattle.rows.proofs.Tables.{procs-length, procs-none, table-rows}
 use Rattle.rows.specs.Rows.{Table}
 

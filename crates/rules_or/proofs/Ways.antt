@@ -24,9 +24,9 @@ use Rattle.parlog.specs.declared.Move.{Move}
 use Rattle.parlog.specs.declared.Move.the-variants.{OrParFailure, OrParSpawn, OrParStart, OrParSuccess, OrSearchCommit, OrSearchFailure, SeqSearchFailure, SeqSearchNext, SeqSearchNone, SeqSearchStart, SeqSearchSuccess}
 use Rattle.parlog.specs.declared.Process.{Process}
 use Rattle.parlog.specs.declared.Spot.{Spot}
-use Rattle.plan.specs.Plans.{Born, Of}
-use Rattle.prog.specs.Parts.{shown}
-use Rattle.prog.specs.declared.Lit.{Lit}
+use Rattle.move_plan.specs.Plans.{Born, Of}
+use Rattle.program.specs.Parts.{shown}
+use Rattle.program.specs.declared.Lit.{Lit}
 use Rattle.rows.proofs.Tables.{procs-length, procs-none, table-rows}
 use Rattle.rows.specs.Rows.{Table}
 

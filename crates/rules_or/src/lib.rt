@@ -12,7 +12,7 @@ ghost use Rattle.parlog.specs.Rules.{blockAt, bodyChild, by-rule, orParHeard, o
 ghost use Rattle.parlog.specs.Tables.{at, newProcess, procsOf, State};
 ghost use Rattle.parlog.specs.declared.Binding.{Binding};
 ghost use Rattle.parlog.specs.declared.Found.the-variants.{Nothing};
-ghost use Rattle.plan.specs.Plans.{appliedOf};
+ghost use Rattle.move_plan.specs.Plans.{appliedOf};
 ghost use Rattle.rows.specs.Rows.{Table};
 use children::News;
 use children::Told;
@@ -20,7 +20,7 @@ use parlog::Found;
 use parlog::Move;
 use parlog::Process;
 use parlog::Spot;
-use plan::Plan;
+use move_plan::Plan;
 
 // ---- what the rules share
 
@@ -30,7 +30,7 @@ fn make_one(mv: Move, x: Process, nap: Found, y: Process) -> Plan
 {
     let mut new = [0u8; 288];
     rows::append(&mut new, 0, y);
-    plan::make(mv, x, nap, 1, new, 0)
+    move_plan::make(mv, x, nap, 1, new, 0)
 }
 
 // The relation that the literal at z calls.
@@ -38,7 +38,7 @@ fn called(image: &[u8], rels: usize, clauses: usize, z: Spot) -> usize
     requires { ⌜ (rels ≤ 32) × (clauses ≤ 64) ⌝ }
     ensures { λ r. ⌜ (r ≡ literalAt (programOf (now (image .entry)) rels clauses) z .rel) × (r ≤ 255) ⌝ }
 {
-    let l = prog::literal(image, rels, clauses, z);
+    let l = program::literal(image, rels, clauses, z);
     l.rel
 }
 
@@ -50,9 +50,9 @@ fn commit(mv: Move, procs: &[u8], n: usize, c: usize, x: Process) -> Plan
     let y = rows::get(procs, n, c);
     let told = y.spot;
     let own = x.spot;
-    let z = plan::with_clause(own, told.found, told.first);
-    let me = plan::with_spot(x, 4, z);
-    plan::report(mv, 1, me)
+    let z = move_plan::with_clause(own, told.found, told.first);
+    let me = move_plan::with_spot(x, 4, z);
+    move_plan::report(mv, 1, me)
 }
 
 // ---- or-par
@@ -63,9 +63,9 @@ pub fn start_or_par(n: usize, p: usize, x: Process) -> Plan
     ensures { λ r. ⌜ ((pr : Program) (s : State) → length (s .procs) ≡ n → appliedOf r ≡ startRule or-par pr s p x) × (r .count ≤ 12) × (r .changes .count ≡ 0) ⌝ }
 {
     let own = x.spot;
-    let z = plan::call_spot(own);
-    let y = plan::new_process(3, 2, p, z);
-    let me = plan::with_mode(x, 3);
+    let z = move_plan::call_spot(own);
+    let y = move_plan::new_process(3, 2, p, z);
+    let me = move_plan::with_mode(x, 3);
     make_one(Move::OrParStart(n), me, Found::Nothing, y)
 }
 
@@ -74,9 +74,9 @@ fn body_child(image: &[u8], rels: usize, clauses: usize, p: usize, k: u8, v: u16
     requires { ⌜ (rels ≤ 32) × (clauses ≤ 64) × (p ≤ 65535) ⌝ }
     ensures { λ r. ⌜ r ≡ bodyChild (programOf (now (image .entry)) rels clauses) p k v ⌝ }
 {
-    let t = prog::tag_of_goal_by(image, rels, clauses, 2, k as usize);
-    let z = plan::goal_spot(2, k, v);
-    plan::new_process(t, 2, p, z)
+    let t = program::tag_of_goal_by(image, rels, clauses, 2, k as usize);
+    let z = move_plan::goal_spot(2, k, v);
+    move_plan::new_process(t, 2, p, z)
 }
 
 // Child c tells success: a clause was found, or its body is done.
@@ -95,7 +95,7 @@ fn or_par_heard(
 {
     let y = rows::get(procs, n, c);
     if y.tag != 3 {
-        return plan::report(Move::OrParSuccess(p), 1, x);
+        return move_plan::report(Move::OrParSuccess(p), 1, x);
     }
     let told = y.spot;
     let child = body_child(image, rels, clauses, p, told.found, told.first);
@@ -118,9 +118,9 @@ pub fn wait_or_par(
 {
     let h = told.latest;
     match h {
-        News::Silent => plan::none(),
+        News::Silent => move_plan::none(),
         News::Good(c) => or_par_heard(image, rels, clauses, procs, n, p, x, c),
-        News::Bad(c) => plan::report(Move::OrParFailure(p), 2, x),
+        News::Bad(c) => move_plan::report(Move::OrParFailure(p), 2, x),
     }
 }
 
@@ -132,10 +132,10 @@ fn searching(mv: Move, b: u8, p: usize, x: Process, nap: Found) -> Plan
     ensures { λ r. ⌜ (appliedOf r ≡ by-rule mv (searching b p x nap)) × (r .count ≤ 12) × (r .changes .count ≡ 0) ⌝ }
 {
     let own = x.spot;
-    let here = plan::at_block(own, b);
-    let me = plan::with_spot(x, 3, here);
-    let z = plan::block_spot(own, b);
-    let y = plan::new_process(4, 2, p, z);
+    let here = move_plan::at_block(own, b);
+    let me = move_plan::with_spot(x, 3, here);
+    let z = move_plan::block_spot(own, b);
+    let y = move_plan::new_process(4, 2, p, z);
     make_one(mv, me, nap, y)
 }
 
@@ -145,7 +145,7 @@ fn blocks(image: &[u8], rels: usize, clauses: usize, z: Spot) -> usize
     ensures { λ r. ⌜ (r ≡ blockCount (programOf (now (image .entry)) rels clauses) (literalAt (programOf (now (image .entry)) rels clauses) z .rel)) × (r ≤ 64) ⌝ }
 {
     let rel = called(image, rels, clauses, z);
-    prog::block_count(image, rels, clauses, rel)
+    program::block_count(image, rels, clauses, rel)
 }
 
 // Tries the first block, if there is one.
@@ -163,7 +163,7 @@ pub fn start_seq_search(
     let z = x.spot;
     let count = blocks(image, rels, clauses, z);
     if count == 0 {
-        return plan::report(Move::SeqSearchNone(p), 2, x);
+        return move_plan::report(Move::SeqSearchNone(p), 2, x);
     }
     searching(Move::SeqSearchStart(n), 0, p, x, Found::Nothing)
 }
@@ -185,7 +185,7 @@ fn next_block(
     let count = blocks(image, rels, clauses, z);
     let b = z.block + 1;
     if count <= b as usize {
-        return plan::report(Move::SeqSearchFailure(p), 2, x);
+        return move_plan::report(Move::SeqSearchFailure(p), 2, x);
     }
     searching(Move::SeqSearchNext(n), b, p, x, Found::At(c))
 }
@@ -206,7 +206,7 @@ pub fn wait_seq_search(
 {
     let h = told.latest;
     match h {
-        News::Silent => plan::none(),
+        News::Silent => move_plan::none(),
         News::Good(c) => commit(Move::SeqSearchSuccess(p), procs, n, c, x),
         News::Bad(c) => next_block(image, rels, clauses, n, p, x, c),
     }
@@ -219,8 +219,8 @@ fn try_child(p: usize, z: Spot, k: usize, v: usize) -> Process
     requires { ⌜ (p ≤ 65535) × (k ≤ 255) × (v ≤ 65535) ⌝ }
     ensures { λ r. ⌜ r ≡ newProcess try-clause ready p (trySpot z k v) ⌝ }
 {
-    let y = plan::try_spot(z, k as u8, v as u16);
-    plan::new_process(5, 1, p, y)
+    let y = move_plan::try_spot(z, k as u8, v as u16);
+    move_plan::new_process(5, 1, p, y)
 }
 
 // The process for clause j of block b, as row j; answers the variable behind its own.
@@ -239,10 +239,10 @@ fn try_one(
     requires { ⌜ (rels ≤ 32) × (clauses ≤ 64) × (p ≤ 65535) × (v ≤ 65535) × (j * 24 + 24 ≤ length (now rows)) ⌝ }
     ensures { λ r. ⌜ (r ≡ v + varsOf (programOf (now (image .entry)) rels clauses) (getD (blockOf (programOf (now (image .entry)) rels clauses) rel b) j 255)) × (r ≤ v + 510) × Table (now (rows .entry)) (now (rows .exit)) (procsOf (now (rows .entry)) j ++ (newProcess try-clause ready p (trySpot z (getD (blockOf (programOf (now (image .entry)) rels clauses) rel b) j 255) v) ∷ [])) ⌝ }
 {
-    let k = prog::block_clause(image, rels, clauses, rel, b, j);
+    let k = program::block_clause(image, rels, clauses, rel, b, j);
     let y = try_child(p, z, k, v);
     rows::append(rows, j, y);
-    v + prog::vars_of(image, rels, clauses, k)
+    v + program::vars_of(image, rels, clauses, k)
 }
 
 // A process for each clause of block b; answers the variable behind those of all.
@@ -293,12 +293,12 @@ pub fn start_or_search(
     let z = x.spot;
     let rel = called(image, rels, clauses, z);
     let b = z.block as usize;
-    let size = prog::block_size(image, rels, clauses, rel, b);
+    let size = program::block_size(image, rels, clauses, rel, b);
     let mut new = [0u8; 288];
     let v = try_all(image, rels, clauses, &mut new, m, p, z, rel, b, size);
-    let me = plan::with_mode(x, 3);
+    let me = move_plan::with_mode(x, 3);
     let first = first_made(size, n, p);
-    plan::make(
+    move_plan::make(
         Move::OrSearchStart(first),
         me,
         Found::Nothing,
@@ -313,9 +313,9 @@ fn or_search_none(hopeless: bool, p: usize, x: Process) -> Plan
     ensures { λ r. ⌜ ((s : State) → appliedOf r ≡ orSearchWait Nothing hopeless s p x) × (r .count ≤ 12) × (r .changes .count ≡ 0) ⌝ }
 {
     if hopeless {
-        return plan::report(Move::OrSearchFailure(p), 2, x);
+        return move_plan::report(Move::OrSearchFailure(p), 2, x);
     }
-    plan::none()
+    move_plan::none()
 }
 
 // Commits to the first clause that succeeds.

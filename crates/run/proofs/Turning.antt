@@ -29,7 +29,7 @@ use Rattle.parlog.specs.declared.Ran.the-variants.{Unrun}
 use Rattle.parlog.specs.declared.Refusal.{Refusal}
 use Rattle.parlog.specs.declared.Stepped.{Stepped}
 use Rattle.parlog.specs.declared.Stepped.the-variants.{Moved, Unmoved}
-use Rattle.plan.specs.Plans.{stateIn}
+use Rattle.move_plan.specs.Plans.{stateIn}
 use Rattle.rows.proofs.Tables.{procs-length}
 use Rattle.run.proofs.Runs.{run-ended, run-goes, run-room, run-spent, run-waits}
 use Rattle.run.specs.Running.{OneSays, OneTo, RanSays, RunSays, StopSays, TurnedIn, Turning, TurnSays, WentSays, WentTo, WhoseSays}
@@ -37,7 +37,7 @@ use Rattle.run.specs.declared.Went.{Went}
 use Rattle.run.specs.declared.Went.the-variants.{On, Over}
 use Rattle.step.proofs.Deciding.{parents-fall}
 use Rattle.step.specs.Stepping.{stepIn, SteppedSays, tablesAfter}
-use Rattle.turns.specs.declared.Turn.{Turn}
+use Rattle.turn_search.specs.declared.Turn.{Turn}
 
 -- the bytes of three lent rows
 abbrev lent : List ℕ → List ℕ → List ℕ → Lent

@@ -20,7 +20,7 @@ use Rattle.parlog.specs.declared.Stepped.{Stepped}
 use Rattle.run.specs.declared.Went.{Went}
 use Rattle.run.specs.declared.Went.the-variants.{On, Over}
 use Rattle.tree.specs.Family.{Falls}
-use Rattle.turns.specs.declared.Turn.{Turn}
+use Rattle.turn_search.specs.declared.Turn.{Turn}
 
 -- ---- a turn
 

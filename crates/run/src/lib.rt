@@ -5,7 +5,7 @@ use parlog::Found;
 use parlog::Loaded;
 use parlog::Ran;
 use parlog::Stepped;
-use turns::Turn;
+use turn_search::Turn;
 ghost use mathlib.Core.Path.{_≡_};
 ghost use mathlib.Core.Bool.{not};
 ghost use Prim.Native.Nat.{_*_, _≤_, _<_};
@@ -62,7 +62,7 @@ fn whose(head: &[u8], procs: &[u8], vars: &[u8]) -> Turn
     let n = head::proc_count(head);
     let m = head::var_count(head);
     let last = head::marker_last(head);
-    turns::next(procs, n, vars, m, last)
+    turn_search::next(procs, n, vars, m, last)
 }
 
 // The step of whose turn it is, in tables that keep the rules.

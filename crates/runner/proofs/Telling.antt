@@ -24,8 +24,8 @@ use Rattle.parlog.specs.declared.Refusal.{Refusal}
 use Rattle.parlog.specs.declared.Term.{Term}
 use Rattle.parlog.specs.declared.Term.the-variants.{Var}
 use Rattle.runner.proofs.Playing.{Played, theRun}
-use Rattle.text.proofs.Laws.{as-text, still, then}
-use Rattle.text.specs.Fronting.{Fronted, lineText, ranText}
+use Rattle.runner_text.proofs.Laws.{as-text, still, then}
+use Rattle.runner_text.specs.Fronting.{Fronted, lineText, ranText}
 
 -- ---- the lines of the variables
 

@@ -12,7 +12,7 @@ ghost use Rattle.parlog.specs.Load.{loadOf};
 ghost use Rattle.parlog.specs.Tables.{varsIn};
 ghost use Rattle.parlog.specs.Text.{runnerText, varLines};
 ghost use Rattle.parlog.specs.declared.Loaded.the-variants.{Accepted};
-ghost use Rattle.text.specs.Fronting.{Fronted};
+ghost use Rattle.runner_text.specs.Fronting.{Fronted};
 
 // The limit of the runner's one run.
 const LIMIT: u16 = 60000;
@@ -27,7 +27,7 @@ fn lines(vars: &[u8], n: usize, goal: usize, out: &mut [u8]) -> usize
     while 0 < v {
         v -= 1;
         let t = unify::value_of(vars, n, Term::Var(v as u32));
-        p = text::line(out, p, v, t);
+        p = runner_text::line(out, p, v, t);
     }
     p
 }
@@ -45,7 +45,7 @@ fn play(
     requires { ⌜ (loadOf (now image) ≡ Accepted rels clauses) × (rels ≤ 32) × (clauses ≤ 64) × (length (now head) ≡ 10) × (length (now procs) ≡ 12288) × (length (now vars) ≡ 4096) × (length (now out) ≡ 16384) ⌝ }
     ensures { λ r. ⌜ Fronted (now (out .entry)) 16384 12534 (runnerText small (now (image .entry))) (now (out .exit)) r ⌝ }
 {
-    let goal = prog::goal_vars(image, rels, clauses);
+    let goal = program::goal_vars(image, rels, clauses);
     let begun = machine::start(image, head, procs, vars);
     let ran = run::run(image, head, procs, vars, LIMIT);
     let Ran::Ended(end, steps) = ran else {
@@ -53,7 +53,7 @@ fn play(
     };
     let n = head::var_count(head);
     let p = lines(vars, n, goal, out);
-    text::ran(out, p, end, steps)
+    runner_text::ran(out, p, end, steps)
 }
 
 // The text for an image, at the buffer's end: where it begins.
@@ -64,7 +64,7 @@ fn answer(image: &[u8], out: &mut [u8]) -> usize
     let l = load::load(image);
     let Loaded::Accepted(rels, clauses) = l else {
         let r = load::refusal(l);
-        return text::refused(out, r);
+        return runner_text::refused(out, r);
     };
     let mut head = [0u8; 10];
     let mut procs = [0u8; 12288];

@@ -26,9 +26,9 @@ use Rattle.parlog.specs.Scan.{every}
 use Rattle.parlog.specs.TableRules.{cellKnown, fullSize, lentOk, stateOk, tablesOk}
 use Rattle.parlog.specs.Tables.{at, Lent, procCount, procsOf, tablesIn, varCount}
 use Rattle.parlog.specs.declared.Process.{Process}
-use Rattle.plan.proofs.Plans.{applied-none, applied-some, fits-is, fits-procs, fits-vars}
-use Rattle.plan.specs.Plans.{appliedOf, deltaOf, fitsIn, stateIn, Within}
-use Rattle.plan.specs.declared.Plan.{Plan}
+use Rattle.move_plan.proofs.Plans.{applied-none, applied-some, fits-is, fits-procs, fits-vars}
+use Rattle.move_plan.specs.Plans.{appliedOf, deltaOf, fitsIn, stateIn, Within}
+use Rattle.move_plan.specs.declared.Plan.{Plan}
 use Rattle.rows.proofs.Tables.{procs-length}
 use Rattle.step.specs.Stepping.{stepIn}
 use Rattle.tree.specs.Family.{Falls}

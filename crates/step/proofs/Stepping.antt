@@ -23,9 +23,9 @@ use Rattle.parlog.specs.declared.Move.{Move}
 use Rattle.parlog.specs.declared.Refusal.{Refusal}
 use Rattle.parlog.specs.declared.Stepped.{Stepped}
 use Rattle.parlog.specs.declared.Stepped.the-variants.{Moved, Unmoved}
-use Rattle.plan.proofs.Plans.{delta-fresh, delta-new, fits-procs, fits-vars}
-use Rattle.plan.specs.Plans.{appliedOf, deltaOf, fitsIn, stateIn}
-use Rattle.plan.specs.declared.Plan.{Plan}
+use Rattle.move_plan.proofs.Plans.{delta-fresh, delta-new, fits-procs, fits-vars}
+use Rattle.move_plan.specs.Plans.{appliedOf, deltaOf, fitsIn, stateIn}
+use Rattle.move_plan.specs.declared.Plan.{Plan}
 use Rattle.rows.proofs.Tables.{procs-length}
 use Rattle.rows.specs.Rows.{Bytes, Table}
 use Rattle.step.proofs.Deciding.{step-full, step-made, step-still}

@@ -46,13 +46,13 @@ pub fn stepped(
     if !plan.acts {
         return Stepped::Unmoved(machine::refusal(10));
     }
-    if !plan::fits(PROCS, VARS, n, m, plan) {
+    if !move_plan::fits(PROCS, VARS, n, m, plan) {
         return Stepped::Unmoved(machine::refusal(11));
     }
     let made = head::marker_steps(head);
     let steps = count(made);
     let mv = plan.mv;
-    plan::write(procs, n, vars, m, p, plan);
+    move_plan::write(procs, n, vars, m, p, plan);
     head::put_head(head, n + plan.count, m + plan.fresh, p, steps);
     Stepped::Moved(mv)
 }

@@ -4,7 +4,7 @@ use Rattle.capi.proofs.rissobarm_watch.Statement.{statement}
 use Rattle.capi.proofs.rissobarm_watch.Tie as tie
 use Rattle.capi.proofs.rissobarm_watch.Reads as reads
 use Rattle.capi.proofs.rissobarm_watch.Lts as lts
-use Rattle.watching.proofs.watch_rows.Reads as watch-rows-reads
+use Rattle.watch_rows.proofs.watch_rows.Reads as watch-rows-reads
 use Rattle.words.proofs.watch_word.Reads as watch-word-reads
 
 pub rissobarm-watch-spec : {M : Type 1} → statement M

@@ -8,7 +8,7 @@ use Rattle.machine.proofs.enter.Reads as reads
 use Rattle.machine.proofs.enter.Lts as lts
 use Rattle.load.proofs.load.Reads as load-reads
 use Rattle.machine.proofs.refusal.Reads as refusal-reads
-use Rattle.sound.proofs.lent_ok.Reads as lent-ok-reads
+use Rattle.table_rules.proofs.lent_ok.Reads as lent-ok-reads
 
 pub enter-spec : {M : Type 1} → statement M
 enter-spec =

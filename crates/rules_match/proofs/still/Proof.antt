@@ -1,6 +1,6 @@
 use mathlib.Core.Path.{refl}
 use borrow.Author.Needs.{needs}
-use Rattle.plan.proofs.Plans.{applied-none}
+use Rattle.move_plan.proofs.Plans.{applied-none}
 use Rattle.rules_match.proofs.Ways.{rests}
 use Rattle.rules_match.proofs.still.Statement.{statement}
 use Rattle.rules_match.proofs.still.Tie as tie

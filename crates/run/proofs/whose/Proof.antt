@@ -8,7 +8,7 @@ use Rattle.run.proofs.whose.Lts as lts
 use Rattle.head.proofs.marker_last.Reads as marker-last-reads
 use Rattle.head.proofs.proc_count.Reads as proc-count-reads
 use Rattle.head.proofs.var_count.Reads as var-count-reads
-use Rattle.turns.proofs.next.Reads as next-reads
+use Rattle.turn_search.proofs.next.Reads as next-reads
 
 pub whose-spec : {M : Type 1} → statement M
 whose-spec =

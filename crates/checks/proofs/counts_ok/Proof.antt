@@ -1,7 +1,0 @@
-use borrow.Author.Needs.{needs}
-use Rattle.checks.proofs.counts_ok.Statement.{statement}
-use Rattle.checks.proofs.counts_ok.Tie as tie
-
-pub counts-ok-spec : {M : Type 1} → statement M
-counts-ok-spec =
-    tie.close (tie.spec (λ c κs. search needs) (λ c κs. search needs) (λ c κs. search needs) (λ c κs. search needs) (λ c. cc))

@@ -1,6 +1,0 @@
-use borrow.Author.Needs.{needs}
-use Rattle.checks.proofs.known.Statement.{statement}
-use Rattle.checks.proofs.known.Tie as tie
-
-pub known-spec : {M : Type 1} → statement M
-known-spec = tie.close (tie.spec (λ c κs. search needs) (λ c κs. search needs) (λ c κs. search needs) (λ c. cc))

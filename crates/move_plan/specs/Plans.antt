@@ -1,0 +1,88 @@
+-- What a plan means, and what its writers do to the lists of processes and bindings.
+use mathlib.Core.Path.{_≡_}
+use mathlib.Core.Bool.{_&&_, Bool, cond, false, true}
+use mathlib.Core.List.{_++_, List}
+use Prim.Native.Nat.{_+_, _<_, ℕ}
+use lib.Dec.{leb}
+use lib.ListN.{getD, length, replicate, set, take}
+use Rattle.parlog.specs.Codes.{dormant, Mode, modeCode, Tag, tagCode}
+use Rattle.parlog.specs.Delta.{Delta, rowAfter, withMode}
+use Rattle.parlog.specs.Rules.{Applied, by-rule, no-rule}
+use Rattle.parlog.specs.Scan.{build}
+use Rattle.parlog.specs.Tables.{at, newProcess, numberCode, procsOf, State, varsIn}
+use Rattle.parlog.specs.Unify.{change, changed}
+use Rattle.parlog.specs.declared.Binding.{Binding}
+use Rattle.parlog.specs.declared.Binding.the-variants.{Bound, Free}
+use Rattle.parlog.specs.declared.Change.{Change}
+use Rattle.parlog.specs.declared.Found.{Found}
+use Rattle.parlog.specs.declared.Found.the-variants.{At, Nothing}
+use Rattle.parlog.specs.declared.Process.{Process}
+use Rattle.parlog.specs.declared.Spot.{Spot}
+use Rattle.parlog.specs.declared.Term.the-variants.{Const}
+use Rattle.move_plan.specs.declared.Changes.{Changes}
+use Rattle.move_plan.specs.declared.Plan.{Plan}
+use Rattle.tree.specs.Family.{sleptBelow}
+
+-- what holds for each case whose number is k
+abbrev pub Of : {K A : Type 0} → (K → ℕ) → ℕ → (K → A) → A → Type 0
+Of {K = K} code k f r = (t : K) → code t ≡ k → r ≡ f t
+
+-- a new process, by the numbers of its tag and mode
+abbrev pub Born : ℕ → ℕ → ℕ → Spot → Process → Type 0
+Born k j parent z r = (t : Tag) → tagCode t ≡ k → (m : Mode) → modeCode m ≡ j → r ≡ newProcess t m parent z
+
+-- ---- a plan
+
+-- the bindings that wait, in order
+unfoldable pub changesOf : Changes → List Change
+changesOf c = take (c .count) (c .list)
+
+-- the change of the tables; the new processes wait as rows
+unfoldable pub deltaOf : Plan → Delta
+deltaOf pl = record {
+  me = pl .me;
+  cut = pl .cut;
+  nap = pl .nap;
+  new = procsOf (pl .rows) (pl .count);
+  changes = changesOf (pl .changes);
+  fresh = pl .fresh;
+}
+
+unfoldable pub appliedOf : Plan → Applied
+appliedOf pl = cond (pl .acts) (by-rule (pl .mv) (deltaOf pl)) no-rule
+
+-- 11 ROOM, by numbers: the limits, the counts
+unfoldable pub fitsIn : ℕ → ℕ → ℕ → ℕ → Plan → Bool
+fitsIn procs vars n m pl = leb (n + pl .count) procs && leb (m + pl .fresh) vars
+
+-- ---- the writers
+
+-- the tables' lists
+abbrev pub stateIn : List ℕ → ℕ → List ℕ → ℕ → State
+stateIn procs n vars m = record { procs = procsOf procs n; vars = varsIn vars m }
+
+unfoldable pub cutBelow : Bool → List Process → ℕ → List Process
+cutBelow true ps p = sleptBelow ps p
+cutBelow false ps p = ps
+
+unfoldable pub sleptAt : List Process → ℕ → List Process
+sleptAt ps c = set ps c (withMode dormant (at ps c))
+
+unfoldable pub napped : Found → List Process → List Process
+napped Nothing ps = ps
+napped (At c) ps = sleptAt ps c
+
+-- apply, list by list
+unfoldable pub procsAfter : List Process → ℕ → Delta → List Process
+procsAfter ps p d = build (rowAfter ps p d) (length ps) ++ d .new
+
+unfoldable pub varsAfter : List Binding → Delta → List Binding
+varsAfter vs d = changed (vs ++ replicate (d .fresh) Free) (d .changes)
+
+-- a change of one of the first m variables, to a term that a row can hold
+abbrev pub Binds : ℕ → Change → Type 0
+Binds m c = (c .var < m) × (numberCode (Bound (c .to)) < 16777216)
+
+-- the first k changes are such
+abbrev pub Within : ℕ → ℕ → List Change → Type 0
+Within m k cs = (i : ℕ) → i < k → Binds m (getD cs i (change 0 (Const 0)))

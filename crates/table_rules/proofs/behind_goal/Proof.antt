@@ -1,0 +1,21 @@
+use Rattle.parlog.specs.Program.{programOf}
+use Rattle.table_rules.proofs.Places.{goal-stage, goal-none, goal-literal}
+use borrow.Author.Needs.{needs}
+use Rattle.table_rules.proofs.behind_goal.Statement.{statement}
+use Rattle.table_rules.proofs.behind_goal.Tie as tie
+
+pub behind-goal-spec : {M : Type 1} → statement M
+behind-goal-spec =
+    tie.close
+    (tie.spec
+    (λ c κs. search needs)
+    (λ c. search needs)
+    (λ c κs. search needs)
+    (λ c κs. search needs)
+    (λ c. let s = c .before .before .before .before .before .before in goal-stage (programOf (s .args .image .now) (s .args .rels) (s .args .clauses)) (s .args .n) (s .args .z) (s .args .waits) (s .args .t) (c .before .before .before .before .if1 .taken) (c .before .before .before .goal-size .ensures .0) (c .before .or .ensures) (c .choose .ensures))
+    (λ c κs. search needs)
+    (λ c. search needs)
+    (λ c. let s = c .before .before .before .before .before in goal-none (programOf (s .args .image .now) (s .args .rels) (s .args .clauses)) (s .args .n) (s .args .z) (s .args .waits) (s .args .t) (c .before .before .before .if1 .left) (c .before .before .stage-size .ensures .0) (c .if2 .taken))
+    (λ c κs. search needs)
+    (λ c κs. search needs)
+    (λ c. let s = c .before .before .before .before .before .before .before in goal-literal (programOf (s .args .image .now) (s .args .rels) (s .args .clauses)) (s .args .n) (s .args .z) (s .args .waits) (s .args .t) (c .before .before .before .before .before .if1 .left) (c .before .before .before .before .stage-size .ensures .0) (c .before .before .if2 .left) (c .before .literal .ensures .0) (c .behind-literal .ensures)))

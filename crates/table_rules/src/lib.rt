@@ -1,0 +1,303 @@
+// The table rules over lent bytes: what is not refusal 8.
+use parlog::Process;
+use parlog::Spot;
+ghost use mathlib.Core.Path.{_≡_};
+ghost use mathlib.Core.Bool.{_&&_};
+ghost use Prim.Native.Nat.{_+_, _*_, _≤_, _<_};
+ghost use lib.ListN.{length};
+ghost use Rattle.parlog.specs.Codes.{tagOf};
+ghost use Rattle.parlog.specs.Program.{programOf};
+ghost use Rattle.parlog.specs.Scan.{every, implies};
+ghost use Rattle.parlog.specs.TableRules.{cellKnown, clauseIn, foundIn, fullSize, goalIn, goingOk, kinOk, known, lentOk, notesOk, placesOk, resultOk, rowOk, varOk};
+ghost use Rattle.parlog.specs.Tables.{procsOf, varsIn};
+ghost use Rattle.table_rules.specs.Parts.{behindCall, behindGoal, behindLiteral, cellOk};
+
+// ---- places
+
+// Clause k is there, and its variables from v on are.
+fn clause_in(image: &[u8], rels: usize, clauses: usize, n: usize, k: u8, v: u16) -> bool
+    requires { ⌜ (rels ≤ 32) × (clauses ≤ 64) ⌝ }
+    ensures { λ b. ⌜ b ≡ clauseIn (programOf (now (image .entry)) rels clauses) n k v ⌝ }
+{
+    let number = k as usize;
+    if clauses <= number {
+        return false;
+    }
+    let size = program::vars_of(image, rels, clauses, number);
+    (v as usize) + size <= n
+}
+
+// The goal is there, and its variables are.
+fn goal_in(image: &[u8], rels: usize, clauses: usize, n: usize, z: Spot) -> bool
+    requires { ⌜ (rels ≤ 32) × (clauses ≤ 64) ⌝ }
+    ensures { λ b. ⌜ b ≡ goalIn (programOf (now (image .entry)) rels clauses) n z ⌝ }
+{
+    if z.kind == 0 {
+        let size = program::goal_vars(image, rels, clauses);
+        return row_tests::and(z.base == 0, size <= n);
+    }
+    clause_in(image, rels, clauses, n, z.clause, z.base)
+}
+
+// Where a search tells of a clause, that is there.
+fn told_ok(image: &[u8], rels: usize, clauses: usize, n: usize, told: bool, z: Spot) -> bool
+    requires { ⌜ (rels ≤ 32) × (clauses ≤ 64) ⌝ }
+    ensures { λ b. ⌜ b ≡ implies told (foundIn (programOf (now (image .entry)) rels clauses) n z) ⌝ }
+{
+    if told {
+        return clause_in(image, rels, clauses, n, z.found, z.first);
+    }
+    true
+}
+
+// What a tag asks besides a call of relation rel: a block of it, or a clause of it.
+fn behind_call(
+    image: &[u8],
+    rels: usize,
+    clauses: usize,
+    n: usize,
+    t: u8,
+    waits: bool,
+    z: Spot,
+    rel: usize,
+) -> bool
+    requires { ⌜ (rels ≤ 32) × (clauses ≤ 64) ⌝ }
+    ensures { λ b. ⌜ b ≡ behindCall t waits (programOf (now (image .entry)) rels clauses) n z rel ⌝ }
+{
+    if row_tests::or(t == 4, row_tests::and(t == 3, waits)) {
+        let count = program::block_count(image, rels, clauses, rel);
+        return (z.block as usize) < count;
+    }
+    if t < 4 {
+        return true;
+    }
+    let found = clause_in(image, rels, clauses, n, z.found, z.first);
+    let own = program::clause_relation(image, rels, clauses, z.found as usize);
+    row_tests::and(found, own == rel)
+}
+
+// What a tag asks of a literal of relation rel.
+fn behind_literal(
+    image: &[u8],
+    rels: usize,
+    clauses: usize,
+    n: usize,
+    t: u8,
+    waits: bool,
+    z: Spot,
+    rel: usize,
+) -> bool
+    requires { ⌜ (rels ≤ 32) × (clauses ≤ 64) ⌝ }
+    ensures { λ b. ⌜ b ≡ behindLiteral t waits (programOf (now (image .entry)) rels clauses) n z rel ⌝ }
+{
+    if 7 < t {
+        return rel == 255;
+    }
+    if rel == 255 {
+        return false;
+    }
+    behind_call(image, rels, clauses, n, t, waits, z, rel)
+}
+
+// What a tag asks besides a goal: a stage, or a literal.
+fn behind_goal(
+    image: &[u8],
+    rels: usize,
+    clauses: usize,
+    n: usize,
+    t: u8,
+    waits: bool,
+    z: Spot,
+) -> bool
+    requires { ⌜ (rels ≤ 32) × (clauses ≤ 64) ⌝ }
+    ensures { λ b. ⌜ b ≡ behindGoal t waits (programOf (now (image .entry)) rels clauses) n z ⌝ }
+{
+    if t < 2 {
+        let stages = program::goal_size(image, rels, clauses, z);
+        let stage = z.stage as usize;
+        return row_tests::choose(row_tests::or(t == 0, waits), stage < stages, stage <= stages);
+    }
+    let size = program::stage_size(image, rels, clauses, z);
+    if size <= (z.literal as usize) {
+        return false;
+    }
+    let l = program::literal(image, rels, clauses, z);
+    let rel = l.rel;
+    behind_literal(image, rels, clauses, n, t, waits, z, rel)
+}
+
+// What the rules of its tag read is there, and what they read besides in its mode.
+fn placed_ok(image: &[u8], rels: usize, clauses: usize, n: usize, x: Process) -> bool
+    requires { ⌜ (rels ≤ 32) × (clauses ≤ 64) ⌝ }
+    ensures { λ b. ⌜ b ≡ (placesOk (tagOf (x .tag)) (programOf (now (image .entry)) rels clauses) n (x .spot) && goingOk (tagOf (x .tag)) (programOf (now (image .entry)) rels clauses) n x) ⌝ }
+{
+    let z = x.spot;
+    if x.tag == 7 {
+        return clause_in(image, rels, clauses, n, z.found, z.first);
+    }
+    let search = row_tests::or(x.tag == 3, x.tag == 4);
+    let told = row_tests::and(search, row_tests::and(x.mode == 4, x.result == 1));
+    let goal = goal_in(image, rels, clauses, n, z);
+    let found = told_ok(image, rels, clauses, n, told, z);
+    let there = row_tests::and(goal, found);
+    if !there {
+        return false;
+    }
+    behind_goal(image, rels, clauses, n, x.tag, x.mode == 3, z)
+}
+
+// ---- a row
+
+// Process 0 stands for the goal; every other has a parent before it that could have made it.
+fn kin_ok(
+    image: &[u8],
+    rels: usize,
+    clauses: usize,
+    procs: &[u8],
+    count: usize,
+    i: usize,
+    x: Process,
+) -> bool
+    requires { ⌜ (rels ≤ 32) × (clauses ≤ 64) × (count * 24 ≤ length (now procs)) ⌝ }
+    ensures { λ b. ⌜ b ≡ kinOk (programOf (now (image .entry)) rels clauses) (procsOf (now (procs .entry)) count) i x ⌝ }
+{
+    if i == 0 {
+        let goal = program::tag_of_goal_by(image, rels, clauses, 0, 0);
+        let z = x.spot;
+        return row_tests::and(x.tag == goal, row_tests::and(x.parent == 0, z.kind == 0));
+    }
+    let parent = x.parent as usize;
+    if i <= parent {
+        return false;
+    }
+    let up = rows::tag_at(procs, count, parent);
+    row_tests::makes(up, x.tag)
+}
+
+// What a row says of itself: known numbers, a result, notes.
+fn own_ok(n: usize, i: usize, x: Process) -> bool
+    ensures { λ b. ⌜ b ≡ (known x && (resultOk i x && notesOk n x)) ⌝ }
+{
+    let z = x.spot;
+    let numbers = row_tests::known(x.tag, x.mode, x.result, z.kind);
+    let result = row_tests::result_ok(i, x.mode, x.result);
+    let four = x.notes;
+    let notes = row_tests::notes_ok(n, x.mode, x.count, four);
+    row_tests::and(numbers, row_tests::and(result, notes))
+}
+
+// Row i of the first count.
+fn row_ok(
+    image: &[u8],
+    rels: usize,
+    clauses: usize,
+    procs: &[u8],
+    count: usize,
+    n: usize,
+    i: usize,
+) -> bool
+    requires { ⌜ (rels ≤ 32) × (clauses ≤ 64) × (count * 24 ≤ length (now procs)) ⌝ }
+    ensures { λ b. ⌜ b ≡ rowOk (programOf (now (image .entry)) rels clauses) (procsOf (now (procs .entry)) count) n i ⌝ }
+{
+    let x = rows::get(procs, count, i);
+    let own = own_ok(n, i, x);
+    if !own {
+        return false;
+    }
+    let kin = kin_ok(image, rels, clauses, procs, count, i, x);
+    if !kin {
+        return false;
+    }
+    placed_ok(image, rels, clauses, n, x)
+}
+
+// ---- the tables
+
+// Each of the first count rows.
+fn rows_ok(image: &[u8], rels: usize, clauses: usize, procs: &[u8], count: usize, n: usize) -> bool
+    requires { ⌜ (rels ≤ 32) × (clauses ≤ 64) × (count * 24 ≤ length (now procs)) ⌝ }
+    ensures { λ b. ⌜ b ≡ every (rowOk (programOf (now (image .entry)) rels clauses) (procsOf (now (procs .entry)) count) n) count ⌝ }
+{
+    let mut q = count;
+    while 0 < q {
+        q -= 1;
+        let ok = row_ok(image, rels, clauses, procs, count, n, q);
+        if !ok {
+            return false;
+        }
+    }
+    true
+}
+
+// The number in three bytes.
+fn number_of(a: u8, b: u8, c: u8) -> usize
+    ensures { λ r. ⌜ r ≡ a + b * 256 + c * 65536 ⌝ }
+{
+    (a as usize) + (b as usize) * 256 + (c as usize) * 65536
+}
+
+// The row of variable v of the first n.
+fn cell_ok(vars: &[u8], n: usize, v: usize) -> bool
+    requires { ⌜ (n * 4 ≤ length (now vars)) × (v < n) ⌝ }
+    ensures { λ b. ⌜ b ≡ cellOk (now (vars .entry)) n v ⌝ }
+{
+    let b = v * 4;
+    let number = number_of(vars[b + 1], vars[b + 2], vars[b + 3]);
+    row_tests::cell_ok(v, vars[b], number)
+}
+
+// Each of the first n rows of variables.
+fn cells_ok(vars: &[u8], n: usize) -> bool
+    requires { ⌜ n * 4 ≤ length (now vars) ⌝ }
+    ensures { λ b. ⌜ b ≡ (every (cellKnown (now (vars .entry))) n && every (varOk (varsIn (now (vars .entry)) n)) n) ⌝ }
+{
+    let mut q = n;
+    while 0 < q {
+        q -= 1;
+        let ok = cell_ok(vars, n, q);
+        if !ok {
+            return false;
+        }
+    }
+    true
+}
+
+// Each lent row of bytes has its full size.
+pub fn full_size(head: &[u8], procs: &[u8], vars: &[u8], most: usize, cap: usize) -> bool
+    requires { ⌜ (most ≤ 65535) × (cap ≤ 65535) ⌝ }
+    ensures { λ b. ⌜ b ≡ fullSize (record { procs = most; vars = cap }) (record { head = now (head .entry); procs = now (procs .entry); vars = now (vars .entry) }) ⌝ }
+{
+    let tables = row_tests::and(procs.len() == most * 24, vars.len() == cap * 4);
+    row_tests::and(head.len() == 10, tables)
+}
+
+// The lent tables keep every table rule.
+pub fn lent_ok(
+    image: &[u8],
+    rels: usize,
+    clauses: usize,
+    head: &[u8],
+    procs: &[u8],
+    vars: &[u8],
+    most: usize,
+    cap: usize,
+) -> bool
+    requires { ⌜ (rels ≤ 32) × (clauses ≤ 64) × (most ≤ 65535) × (cap ≤ 65535) ⌝ }
+    ensures { λ b. ⌜ b ≡ lentOk (record { procs = most; vars = cap }) (programOf (now (image .entry)) rels clauses) (record { head = now (head .entry); procs = now (procs .entry); vars = now (vars .entry) }) ⌝ }
+{
+    let full = full_size(head, procs, vars, most, cap);
+    if !full {
+        return false;
+    }
+    let count = head::proc_count(head);
+    let n = head::var_count(head);
+    let last = head::marker_last(head);
+    let goal = program::goal_vars(image, rels, clauses);
+    let counts = row_tests::counts_ok(count, n, last, goal, most, cap);
+    if !counts {
+        return false;
+    }
+    let cells = cells_ok(vars, n);
+    let rows = rows_ok(image, rels, clauses, procs, count, n);
+    row_tests::and(cells, rows)
+}

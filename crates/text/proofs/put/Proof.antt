@@ -1,7 +1,0 @@
-use Rattle.text.proofs.Laws.{put-one}
-use borrow.Author.Needs.{needs}
-use Rattle.text.proofs.put.Statement.{statement}
-use Rattle.text.proofs.put.Tie as tie
-
-pub put-spec : {M : Type 1} → statement M
-put-spec = tie.close (tie.spec (λ c. search needs) (λ c. search needs) (λ c. search needs) (λ c. put-one _ _ _ (c .pre .0) (c .pre .1)))

@@ -1,0 +1,16 @@
+use borrow.Author.Needs.{needs}
+use Rattle.turn_by_value.proofs.hand_back.Statement.{statement}
+use Rattle.turn_by_value.proofs.hand_back.Tie as tie
+use Rattle.turn_by_value.proofs.hand_back.Reads as reads
+use Rattle.turn_by_value.proofs.hand_back.Lts as lts
+use Rattle.head.proofs.marker_last.Reads as marker-last-reads
+use Rattle.head.proofs.marker_steps.Reads as marker-steps-reads
+
+pub hand-back-spec : {M : Type 1} → statement M
+hand-back-spec =
+    tie.close
+    (tie.spec
+    (λ c κs. search needs)
+    (λ c κs. search needs)
+    (λ c. search needs)
+    (λ c. rw (c .marker-steps .ensures, c .before .marker-last .ensures .0)))

@@ -1,0 +1,24 @@
+use borrow.Author.Needs.{needs}
+use Rattle.turn_by_value.proofs.Core.{joined}
+use Rattle.turn_by_value.proofs.join_head.Statement.{statement}
+use Rattle.turn_by_value.proofs.join_head.Tie as tie
+use Rattle.turn_by_value.proofs.join_head.Reads as reads
+use Rattle.turn_by_value.proofs.join_head.Lts as lts
+use Rattle.rows.proofs.high.Reads as high-reads
+use Rattle.rows.proofs.low.Reads as low-reads
+
+pub join-head-spec : {M : Type 1} → statement M
+join-head-spec =
+    tie.close
+    (tie.spec
+    (λ c. search needs)
+    (λ c. search needs)
+    (λ c. search needs)
+    (λ c. search needs)
+    (λ c κs. search needs)
+    (λ c κs. search needs)
+    (λ c. search needs)
+    (λ c. search needs)
+    (λ c. search needs)
+    (λ c. search needs)
+    (λ c. let s = c .before .before .before .before .before .before .before in joined (s .args .counts .now) (s .args .last) (s .args .steps) _ _ (s .pre) (c .before .low .ensures) (c .high .ensures)))

@@ -1,0 +1,28 @@
+use mathlib.Core.Path.{_∙_, _≡_, refl, sym}
+use mathlib.Core.List.{[]}
+use Rattle.rows.proofs.Tables.{procs-length}
+use Rattle.parlog.specs.Program.{programOf}
+use Rattle.turn_search.proofs.Passing.{all-start, turn-there}
+use borrow.Author.Needs.{needs}
+use Rattle.turn_search.proofs.next.Statement.{statement}
+use Rattle.turn_search.proofs.next.Tie as tie
+use Rattle.turn_search.proofs.next.Reads as reads
+use Rattle.turn_search.proofs.next.Lts as lts
+use Rattle.turn_search.proofs.pass.Reads as pass-reads
+use Rattle.turn_search.proofs.told_of.Reads as told-of-reads
+
+pub next-spec : {M : Type 1} → statement M
+next-spec =
+    tie.close
+    (tie.spec
+    (λ c. search needs)
+    (λ c. search needs)
+    (λ c. search needs)
+    (λ c. search needs)
+    (λ c κs. ((c .before .before .before .before .before .before .pre .0), (c .before .before .before .before .before .before .pre .1), (c .before .before .before .before .before .before .pre .2), (c .before .before .before .before .before .before .pre .3), (c .before .before .before .before .before .before .pre .4), refl, refl, refl, refl, all-start _ _ (procs-length _ _) 512 _ _ (c .before .before .before .before .before .before .pre .1)))
+    (λ c. search needs)
+    (λ c. search needs)
+    (λ c. search needs)
+    (λ c. search needs)
+    (λ c κs. ((c .before .before .before .before .before .before .before .before .before .before .before .before .before .before .before .pre .0), (c .before .before .before .before .before .before .before .before .before .before .before .before .before .before .before .pre .1), (c .before .before .before .before .before .before .before .before .pass .ensures .1), (c .before .before .before .before .before .before .before .before .pass .ensures .2), (c .before .before .before .before .before .before .before .before .pass .ensures .3), (c .before .before .before .before .before .before .before .before .pass .ensures .4), (c .before .before .before .before .before .before .before .before .pass .ensures .5), λ p e. turn-there (programOf [] 0 0) _ _ _ (procs-length _ _) (sym ((c .before .before .before .before .before .before .before .before .pass .ensures .0) (programOf [] 0 0)) ∙ e)))
+    (λ c. ((c .before .before .before .before .before .before .before .before .before .pass .ensures .0), (c .told-of .ensures))))

@@ -1,0 +1,43 @@
+use mathlib.Core.Path.{_∙_, _≡_}
+use Prim.Native.Nat.{_≤_}
+use lib.ListN.{length}
+use borrow.Author.Needs.{needs}
+use native.Mathlib.Omega.{arith}
+use Rattle.parlog.specs.Tables.{procsOf}
+use Rattle.move_plan.specs.Plans.{stateIn}
+use Rattle.rows.proofs.Tables.{procs-length}
+use Rattle.turn_search.specs.Notes.{AllNoted}
+use Rattle.turn_search.proofs.Passing.{all-end, all-here, all-less}
+use Rattle.turn_search.proofs.Order.{sweep-end, sweep-next, sweep-start, Swept}
+use Rattle.turn_search.proofs.sweep.Statement.{statement}
+use Rattle.turn_search.proofs.sweep.Tie as tie
+use Rattle.turn_search.proofs.sweep.Reads as reads
+use Rattle.turn_search.proofs.sweep.Lts as lts
+use Rattle.turn_search.proofs.can_move.Reads as can-move-reads
+use Rattle.turn_search.proofs.found.Reads as found-reads
+use Rattle.turn_search.proofs.hear_row.Reads as hear-row-reads
+
+abbrev Inv-loop : tie.InvT-loop
+Inv-loop procs n vars m silent₀ said₀ latest₀ lowest₀ lo hi best₀ q₀ silent said latest lowest best q = (lo ≤ q) × (q ≤ n) × (length silent ≡ 512) × (length said ≡ 512) × (length latest ≡ 512) × (length lowest ≡ 512) × AllNoted (procsOf procs n) n q silent said latest lowest × Swept (stateIn procs n vars m) n lo hi q best
+
+abbrev μ-loop : tie.MeasureT-loop
+μ-loop procs n vars m silent₀ said₀ latest₀ lowest₀ lo hi best₀ q₀ silent said latest lowest best q = q
+
+pub sweep-spec : {M : Type 1} → statement M
+sweep-spec =
+    tie.close
+    (tie.spec
+    Inv-loop
+    μ-loop
+    (λ c. (search needs, search needs, search needs, search needs, search needs, search needs, (c .before .before .before .before .before .before .pre .10), sweep-start _ (c .before .before .before .before .before .before .args .n) _ _))
+    (λ c. omega arith)
+    (λ c κs. (search needs, search needs, omega arith, omega arith, all-here _ _ (procs-length _ _) (c .before .before .before .before .before .before .before .before .before .before .before .before .pre .3) _ _ _ _ _ (omega arith) (c .before .before .before .before .before .loop .inv .1) (c .before .before .before .before .before .loop .inv .6)))
+    (λ c κs. search needs)
+    (λ c κs. (search needs, search needs, omega arith, (c .before .before .before .before .before .before .before .before .before .before .before .before .before .before .before .before .before .before .pre .3), search needs, search needs, search needs, search needs, all-less _ _ _ _ _ _ _ (omega arith) (c .before .before .before .before .before .before .before .before .before .before .before .loop .inv .6)))
+    (λ c. omega arith)
+    (λ c. (omega arith, omega arith, (c .before .before .before .before .before .before .before .before .hear-row .ensures .0), (c .before .before .before .before .before .before .before .before .hear-row .ensures .1), (c .before .before .before .before .before .before .before .before .hear-row .ensures .2), (c .before .before .before .before .before .before .before .before .hear-row .ensures .3), (c .before .before .before .before .before .before .before .before .hear-row .ensures .4), sweep-next _ (c .before .before .before .before .before .before .before .before .before .before .before .before .before .before .before .before .before .before .before .before .before .before .before .before .before .before .before .args .n) _ _ _ (c .before .before .before .before .before .before .before .before .before .before .before .before .before .before .before .before .before .before .before .before .loop .best) (c .before .before .before .before .before .before .before .before .before .before .before .before .before .before .before .before .before .before .before .loop-test .taken) (c .before .before .before .before .before .before .before .before .before .before .before .before .before .before .before .before .before .before .before .before .loop .inv .1) (c .before .before .before .before .before .before .before .before .before .before .before .before .before .before .before .before .before .before .before .before .loop .inv .7) (c .before .before .before .before .before .before .before .before .before .before .before .before .before .before .can-move .ensures) (c .before .before .before .before .before .before .before .before .before .before .before .before .before .found .ensures)))
+    (λ c. search needs)
+    (λ c. search needs)
+    (λ c. search needs)
+    (λ c. search needs)
+    (λ c. (sweep-end _ (c .before .before .before .before .before .before .before .before .args .n) _ _ _ (c .before .loop .best) (omega arith) (c .before .loop .inv .7), (c .before .loop .inv .2), (c .before .loop .inv .3), (c .before .loop .inv .4), (c .before .loop .inv .5), all-end _ _ _ _ _ _ _ _ (omega arith) (c .before .loop .inv .6))))

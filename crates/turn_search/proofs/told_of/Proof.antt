@@ -1,0 +1,22 @@
+use Rattle.turn_search.proofs.Passing.{asks-nothing, asks-told}
+use native.Mathlib.Omega.{arith}
+use borrow.Author.Needs.{needs}
+use Rattle.turn_search.proofs.told_of.Statement.{statement}
+use Rattle.turn_search.proofs.told_of.Tie as tie
+use Rattle.turn_search.proofs.told_of.Reads as reads
+use Rattle.turn_search.proofs.told_of.Lts as lts
+use Rattle.children.proofs.nothing.Reads as nothing-reads
+use Rattle.children.proofs.told_by.Reads as told-by-reads
+use Rattle.turn_search.proofs.note_at.Reads as note-at-reads
+
+pub told-of-spec : {M : Type 1} → statement M
+told-of-spec =
+    tie.close
+    (tie.spec
+    (λ c. search needs)
+    (λ c. search needs)
+    (λ c κs. search needs)
+    (λ c. λ p e. asks-nothing (c .before .enum-told .given .1) e)
+    (λ c κs. (let h = (c .before .before .before .before .before .before .before .before .pre .7) _ (c .before .who .given .1) in omega arith, let h = (c .before .before .before .before .before .before .before .before .pre .7) _ (c .before .who .given .1) in omega arith, let h = (c .before .before .before .before .before .before .before .before .pre .7) _ (c .before .who .given .1) in omega arith, let h = (c .before .before .before .before .before .before .before .before .pre .7) _ (c .before .who .given .1) in omega arith))
+    (λ c κs. search needs)
+    (λ c. asks-told _ _ _ _ _ _ (c .before .before .before .before .before .before .before .before .before .before .pre .6) (c .before .before .before .before .before .before .before .before .before .before .pre .7) (c .before .before .before .who .given .1) (c .before .note-at .ensures) (c .told-by .ensures)))

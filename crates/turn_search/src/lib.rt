@@ -1,0 +1,290 @@
+// Whose turn it is: one pass from the last row down, in which every process is asked whether it can move, and heard by its parent.
+ghost use mathlib.Core.Path.{_≡_};
+ghost use mathlib.Core.Bool.{cond};
+ghost use Prim.Native.Nat.{_*_, _≤_, _<_, suc, ℕ};
+ghost use lib.Dec.{eqb, ltb};
+ghost use lib.ListN.{length, set};
+ghost use Rattle.children.specs.Notes.{hear, Noted};
+ghost use Rattle.children.specs.Telling.{Tells};
+ghost use Rattle.parlog.specs.Codes.{tagOf};
+ghost use Rattle.parlog.specs.Program.{Program};
+ghost use Rattle.parlog.specs.Run.{canMove, turnOf};
+ghost use Rattle.parlog.specs.Scan.{orElse};
+ghost use Rattle.parlog.specs.Tables.{at, noted, procsOf, varsIn};
+ghost use Rattle.parlog.specs.Unify.{someBound};
+ghost use Rattle.parlog.specs.declared.Found.the-variants.{At};
+ghost use Rattle.move_plan.specs.Plans.{stateIn};
+ghost use Rattle.tree.specs.Family.{Falls};
+ghost use Rattle.turn_search.specs.Notes.{AllNoted, asksOf, firstFrom, foundIn, kept, noteIn, saidIn, tells};
+use children::Note;
+use children::Told;
+use parlog::Found;
+
+// Whose turn it is, and what its children report.
+pub struct Turn {
+    pub who: Found,
+    pub told: Told,
+}
+
+// ---- who can move
+
+// What a waiting process of this tag asks for: it can move unless exactly the high half of the low half was said.
+fn asks(tag: u8) -> u8
+    ensures { λ r. ⌜ r ≡ asksOf (tagOf tag) ⌝ }
+{
+    match tag {
+        0 => 21,
+        1 => 8,
+        2 => 8,
+        3 => 8,
+        4 => 19,
+        5 => 21,
+        7 => 8,
+        _ => 0,
+    }
+}
+
+// A waiting process of this tag can move by what its children said.
+fn tells(tag: u8, s: u8) -> bool
+    requires { ⌜ s < 16 ⌝ }
+    ensures { λ r. ⌜ r ≡ tells (tagOf tag) s ⌝ }
+{
+    let k = asks(tag);
+    s & (k % 16) != k / 16
+}
+
+// No row has more than four notes.
+fn few(count: u8) -> usize
+    ensures { λ r. ⌜ (r ≡ cond (ltb count 4) count 4) × (r ≤ 4) ⌝ }
+{
+    if count < 4 {
+        return count as usize;
+    }
+    4
+}
+
+// One of the variables that process p noted is bound.
+fn wakes(procs: &[u8], n: usize, vars: &[u8], m: usize, p: usize) -> bool
+    requires { ⌜ (n * 24 ≤ length (now procs)) × (m * 4 ≤ length (now vars)) ⌝ }
+    ensures { λ r. ⌜ r ≡ someBound (varsIn (now (vars .entry)) m) (noted (at (procsOf (now (procs .entry)) n) p)) ⌝ }
+{
+    let count = few(rows::count_at(procs, n, p));
+    let notes = rows::notes_at(procs, n, p);
+    unify::some_bound(vars, m, count, notes)
+}
+
+// A rule applies to process p, once all its children were heard.
+fn can_move(
+    procs: &[u8],
+    n: usize,
+    vars: &[u8],
+    m: usize,
+    silent: &[u8],
+    said: &[u8],
+    latest: &[u16],
+    lowest: &[u16],
+    p: usize,
+) -> bool
+    requires { ⌜ (n * 24 ≤ length (now procs)) × (m * 4 ≤ length (now vars)) × (p < length (now silent)) × (p < length (now said)) × Noted (procsOf (now procs) n) p 0 (noteIn (now silent) (now said) (now latest) (now lowest) p) ⌝ }
+    ensures { λ r. ⌜ ((pr : Program) → r ≡ canMove pr (stateIn (now (procs .entry)) n (now (vars .entry)) m) p) ⌝ }
+{
+    let mode = rows::mode_at(procs, n, p);
+    if mode == 0 {
+        return false;
+    }
+    if mode == 3 {
+        let tag = rows::tag_at(procs, n, p);
+        return tells(tag, silent[p] | said[p]);
+    }
+    if mode == 4 {
+        return p == 0;
+    }
+    if mode < 3 {
+        return true;
+    }
+    wakes(procs, n, vars, m, p)
+}
+
+// ---- the notes of all
+
+// What is noted for process p.
+fn note_at(silent: &[u8], said: &[u8], latest: &[u16], lowest: &[u16], p: usize) -> Note
+    requires { ⌜ (p < length (now silent)) × (p < length (now said)) × (p < length (now latest)) × (p < length (now lowest)) ⌝ }
+    ensures { λ r. ⌜ r ≡ noteIn (now (silent .entry)) (now (said .entry)) (now (latest .entry)) (now (lowest .entry)) p ⌝ }
+{
+    Note {
+        said: silent[p] | said[p],
+        latest: latest[p],
+        lowest: lowest[p],
+    }
+}
+
+// Row i becomes q, where this holds.
+fn keep(rows: &mut [u16], yes: bool, i: usize, q: u16)
+    requires { ⌜ i < length (now rows) ⌝ }
+    ensures { λ _. ⌜ now (rows .exit) ≡ kept yes (now (rows .entry)) i q ⌝ }
+{
+    if yes {
+        rows[i] = q;
+    }
+}
+
+// Process `up` hears q, which tells f.
+fn hear_told(
+    silent: &[u8],
+    said: &mut [u8],
+    latest: &mut [u16],
+    lowest: &mut [u16],
+    up: usize,
+    f: u8,
+    q: u16,
+)
+    requires { ⌜ (up < length (now silent)) × (up < length (now said)) × (up < length (now latest)) × (up < length (now lowest)) ⌝ }
+    ensures { λ _. ⌜ (now (said .exit) ≡ set (now (said .entry)) up (hear (saidIn (now (silent .entry)) (now (said .entry)) up) f)) × (now (latest .exit) ≡ kept (eqb (saidIn (now (silent .entry)) (now (said .entry)) up) 0) (now (latest .entry)) up q) × (now (lowest .exit) ≡ kept (eqb f 10) (now (lowest .entry)) up q) ⌝ }
+{
+    let s = silent[up] | said[up];
+    let t = children::with(s, f);
+    said[up] = t;
+    keep(latest, s == 0, up, q);
+    keep(lowest, f == 10, up, q);
+}
+
+// The parent of process q hears it; process 0 has none.
+fn hear_row(
+    procs: &[u8],
+    n: usize,
+    silent: &mut [u8],
+    said: &mut [u8],
+    latest: &mut [u16],
+    lowest: &mut [u16],
+    q: usize,
+)
+    requires { ⌜ (n * 24 ≤ length (now procs)) × (n ≤ 512) × (q < n) × Falls (procsOf (now procs) n) × (length (now silent) ≡ 512) × (length (now said) ≡ 512) × (length (now latest) ≡ 512) × (length (now lowest) ≡ 512) × AllNoted (procsOf (now procs) n) n (suc q) (now silent) (now said) (now latest) (now lowest) ⌝ }
+    ensures { λ _. ⌜ (length (now (silent .exit)) ≡ 512) × (length (now (said .exit)) ≡ 512) × (length (now (latest .exit)) ≡ 512) × (length (now (lowest .exit)) ≡ 512) × AllNoted (procsOf (now (procs .entry)) n) n q (now (silent .exit)) (now (said .exit)) (now (latest .exit)) (now (lowest .exit)) ⌝ }
+{
+    let up = rows::parent_at(procs, n, q) as usize;
+    if up < q {
+        let f = children::note_of(procs, n, q);
+        if f == 1 {
+            silent[up] = 1;
+        } else {
+            hear_told(silent, said, latest, lowest, up, f, q as u16);
+        }
+    }
+}
+
+// ---- whose turn it is
+
+// q where this holds, else what was found before.
+fn found(yes: bool, q: usize, before: usize) -> usize
+    ensures { λ r. ⌜ r ≡ cond yes q before ⌝ }
+{
+    if yes { q } else { before }
+}
+
+// The first of two numbers that is below n.
+fn first_below(n: usize, a: usize, b: usize) -> Found
+    ensures { λ r. ⌜ r ≡ orElse (foundIn n a) (foundIn n b) ⌝ }
+{
+    if a < n {
+        return Found::At(a);
+    }
+    if b < n {
+        return Found::At(b);
+    }
+    Found::Nothing
+}
+
+// The lowest that can move of the rows below `hi` down to `lo`, or n; each is heard by its parent.
+fn sweep(
+    procs: &[u8],
+    n: usize,
+    vars: &[u8],
+    m: usize,
+    silent: &mut [u8],
+    said: &mut [u8],
+    latest: &mut [u16],
+    lowest: &mut [u16],
+    lo: usize,
+    hi: usize,
+) -> usize
+    requires { ⌜ (n * 24 ≤ length (now procs)) × (n ≤ 512) × (m * 4 ≤ length (now vars)) × Falls (procsOf (now procs) n) × (lo ≤ hi) × (hi ≤ n) × (length (now silent) ≡ 512) × (length (now said) ≡ 512) × (length (now latest) ≡ 512) × (length (now lowest) ≡ 512) × AllNoted (procsOf (now procs) n) n hi (now silent) (now said) (now latest) (now lowest) ⌝ }
+    ensures { λ r. ⌜ ((pr : Program) → foundIn n r ≡ firstFrom (canMove pr (stateIn (now (procs .entry)) n (now (vars .entry)) m)) lo hi) × (length (now (silent .exit)) ≡ 512) × (length (now (said .exit)) ≡ 512) × (length (now (latest .exit)) ≡ 512) × (length (now (lowest .exit)) ≡ 512) × AllNoted (procsOf (now (procs .entry)) n) n lo (now (silent .exit)) (now (said .exit)) (now (latest .exit)) (now (lowest .exit)) ⌝ }
+{
+    let mut best = n;
+    let mut q = hi;
+    while lo < q {
+        q -= 1;
+        let can = can_move(procs, n, vars, m, silent, said, latest, lowest, q);
+        best = found(can, q, best);
+        hear_row(procs, n, silent, said, latest, lowest, q);
+    }
+    best
+}
+
+// The next process behind the last that can move, else the lowest that can: one pass over the rows, in two parts.
+fn pass(
+    procs: &[u8],
+    n: usize,
+    vars: &[u8],
+    m: usize,
+    last: usize,
+    silent: &mut [u8],
+    said: &mut [u8],
+    latest: &mut [u16],
+    lowest: &mut [u16],
+) -> Found
+    requires { ⌜ (n * 24 ≤ length (now procs)) × (n ≤ 512) × (m * 4 ≤ length (now vars)) × Falls (procsOf (now procs) n) × (last < n) × (length (now silent) ≡ 512) × (length (now said) ≡ 512) × (length (now latest) ≡ 512) × (length (now lowest) ≡ 512) × AllNoted (procsOf (now procs) n) n n (now silent) (now said) (now latest) (now lowest) ⌝ }
+    ensures { λ r. ⌜ ((pr : Program) → r ≡ turnOf (canMove pr (stateIn (now (procs .entry)) n (now (vars .entry)) m)) n last) × (length (now (silent .exit)) ≡ 512) × (length (now (said .exit)) ≡ 512) × (length (now (latest .exit)) ≡ 512) × (length (now (lowest .exit)) ≡ 512) × AllNoted (procsOf (now (procs .entry)) n) n 0 (now (silent .exit)) (now (said .exit)) (now (latest .exit)) (now (lowest .exit)) ⌝ }
+{
+    let behind = sweep(procs, n, vars, m, silent, said, latest, lowest, last + 1, n);
+    let round = sweep(procs, n, vars, m, silent, said, latest, lowest, 0, last + 1);
+    first_below(n, behind, round)
+}
+
+// What the children of that process report.
+fn told_of(
+    procs: &[u8],
+    n: usize,
+    silent: &[u8],
+    said: &[u8],
+    latest: &[u16],
+    lowest: &[u16],
+    who: Found,
+) -> Told
+    requires { ⌜ (n * 24 ≤ length (now procs)) × (n ≤ 512) × (length (now silent) ≡ 512) × (length (now said) ≡ 512) × (length (now latest) ≡ 512) × (length (now lowest) ≡ 512) × AllNoted (procsOf (now procs) n) n 0 (now silent) (now said) (now latest) (now lowest) × ((p : ℕ) → who ≡ At p → p < n) ⌝ }
+    ensures { λ r. ⌜ ((p : ℕ) → who ≡ At p → Tells (procsOf (now (procs .entry)) n) p r) ⌝ }
+{
+    let Found::At(p) = who else {
+        return children::nothing();
+    };
+    let x = note_at(silent, said, latest, lowest, p);
+    children::told_by(procs, n, x)
+}
+
+// The next process behind the last that can move, coming round to the last itself, and what its children report.
+pub fn next(procs: &[u8], n: usize, vars: &[u8], m: usize, last: usize) -> Turn
+    requires { ⌜ (n * 24 ≤ length (now procs)) × (n ≤ 512) × (m * 4 ≤ length (now vars)) × Falls (procsOf (now procs) n) × (last < n) ⌝ }
+    ensures { λ r. ⌜ ((pr : Program) → r .who ≡ turnOf (canMove pr (stateIn (now (procs .entry)) n (now (vars .entry)) m)) n last) × ((p : ℕ) → r .who ≡ At p → Tells (procsOf (now (procs .entry)) n) p (r .told)) ⌝ }
+{
+    let mut silent = [0u8; 512];
+    let mut said = [0u8; 512];
+    let mut latest = [0u16; 512];
+    let mut lowest = [0u16; 512];
+    let who = pass(
+        procs,
+        n,
+        vars,
+        m,
+        last,
+        &mut silent,
+        &mut said,
+        &mut latest,
+        &mut lowest,
+    );
+    let told = told_of(procs, n, &silent, &said, &latest, &lowest, who);
+    Turn {
+        who: who,
+        told: told,
+    }
+}
