@@ -13,8 +13,8 @@ ghost use Rattle.parlog.specs.declared.Binding.{Binding};
 ghost use Rattle.move_plan.specs.Plans.{appliedOf, stateIn, Within};
 ghost use Rattle.moves.specs.Legal.{Able, Legal};
 use children::Told;
-use parlog::Process;
 use move_plan::Plan;
+use parlog::Process;
 
 // A process about to start whose rule binds nothing, by its tag.
 fn start_tree(

@@ -1,4 +1,5 @@
 // The types that every crate shares: terms, bindings, the record of a process, and the answers of the calls.
+pub mod codes;
 
 // A term is a constant or a variable, nothing else.
 pub enum Term {

@@ -17,11 +17,11 @@ ghost use Rattle.move_plan.specs.Plans.{appliedOf};
 ghost use Rattle.rules_and.specs.Says.{nextStage, Readies, Starts, touched, Waits};
 use children::News;
 use children::Told;
+use move_plan::Plan;
 use parlog::Found;
 use parlog::Move;
 use parlog::Process;
 use parlog::Spot;
-use move_plan::Plan;
 
 // A ready process is about to start next.
 pub fn ready(p: usize, x: Process) -> Plan

@@ -1,12 +1,12 @@
 // Input-match, equate and wake: each reads the tables and answers a plan. Nothing is written.
 use decide::Decision;
 use decide::Deed;
+use move_plan::Changes;
+use move_plan::Plan;
 use parlog::Move;
 use parlog::Process;
 use parlog::Spot;
 use parlog::Term;
-use move_plan::Changes;
-use move_plan::Plan;
 ghost use mathlib.Core.Path.{_≡_};
 ghost use mathlib.Core.Bool.{cond};
 ghost use Prim.Native.Nat.{_*_, _≤_};

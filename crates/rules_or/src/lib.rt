@@ -16,11 +16,11 @@ ghost use Rattle.move_plan.specs.Plans.{appliedOf};
 ghost use Rattle.rows.specs.Rows.{Table};
 use children::News;
 use children::Told;
+use move_plan::Plan;
 use parlog::Found;
 use parlog::Move;
 use parlog::Process;
 use parlog::Spot;
-use move_plan::Plan;
 
 // ---- what the rules share
 

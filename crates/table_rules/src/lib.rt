@@ -115,7 +115,11 @@ fn behind_goal(
     if t < 2 {
         let stages = program::goal_size(image, rels, clauses, z);
         let stage = z.stage as usize;
-        return row_tests::choose(row_tests::or(t == 0, waits), stage < stages, stage <= stages);
+        return row_tests::choose(
+            row_tests::or(t == 0, waits),
+            stage < stages,
+            stage <= stages,
+        );
     }
     let size = program::stage_size(image, rels, clauses, z);
     if size <= (z.literal as usize) {
