@@ -23,3 +23,4 @@ pub mod Cases
 pub mod Notions
 pub mod Relation
 pub mod Demands
+pub mod Orders
