@@ -36,3 +36,4 @@ pub mod Forest
 pub mod Stuck
 pub mod OneValue
 pub mod Repeated
+pub mod Solutions
