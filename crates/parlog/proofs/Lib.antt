@@ -37,3 +37,4 @@ pub mod Stuck
 pub mod OneValue
 pub mod Repeated
 pub mod Solutions
+pub mod Order
