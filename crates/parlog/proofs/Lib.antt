@@ -38,3 +38,4 @@ pub mod OneValue
 pub mod Repeated
 pub mod Solutions
 pub mod Order
+pub mod Equates
