@@ -11,7 +11,7 @@ use Rattle.parlog.proofs.OneValue.{goal-value}
 use Rattle.parlog.proofs.Solutions.{each-reordered, fails-solutions, leads-under, same-solutions, under-values, unifies-solutions, values-respect, valuesIn}
 use Rattle.parlog.proofs.Unified.{clash-sound, from-bound, from-clash, more, unify-falling, unify-sound}
 use Rattle.parlog.proofs.Values.{Falling, leads-value, value-free}
-use Rattle.parlog.specs.Orders.{a-constant, Alike, both-fail, both-succeed, Each, Equal, Equations, Joined, KeepRules, Lowest, Over, Reordered, SameValues, Solution, the-lowest, under}
+use Rattle.parlog.specs.Orders.{a-constant, Alike, both-fail, both-succeed, Each, Equal, Equations, Joined, KeepRules, Lowest, NothingMore, Over, Reordered, SameValues, Solution, the-lowest, under}
 use Rattle.parlog.specs.Unify.{bound, changed, clash, joined, meet, meetVars, Outcome, unify, unifyFrom, unifyOne, value}
 use Rattle.parlog.specs.declared.Binding.{Binding}
 use Rattle.parlog.specs.declared.Change.{Change}
@@ -92,7 +92,7 @@ module _ (vs : List Binding) (ok : KeepRules vs) (es : List Pair) (over : Equati
         go (Var w) q j = the-lowest (value-free ws falls-then t w q) j (λ u k. goal-value ws falls-then (rw (sym (one-value t (Var u) k) ∙ q) at (leads-value ws falls-then (Var u))))
 
     -- once more over what is bound binds nothing
-    pub again : unify ws es ≡ bound []
+    pub again : NothingMore vs cs es
     again = holds-already ws es (itself .equal)
 
   -- ---- failure

@@ -90,6 +90,10 @@ pub data Lowest (vs : List Binding) (es : List Pair) (ws : List Binding) (t : Te
   a-constant : {c : ℕ} → Joined vs es t (Const c) → Lowest vs es ws t (Const c)
   the-lowest : {w : ℕ} → bindingOf ws w ≡ Free → Joined vs es t (Var w) → ((u : ℕ) → Joined vs es t (Var u) → w ≤ u) → Lowest vs es ws t (Var w)
 
+-- Request 6: "doing a list twice changes nothing": over what it bound it binds nothing more
+abbrev pub NothingMore : List Binding → List Change → List Pair → Type 0
+NothingMore vs cs es = unify (changed vs cs) es ≡ bound []
+
 -- ---- processes: the equations of a plan as the rules step them
 
 -- p is about to make e hold, outside guards, where nothing is held back
