@@ -17,7 +17,7 @@ use Rattle.parlog.proofs.Exact.{makes-exactly}
 use Rattle.parlog.proofs.Good.{Good, state-good}
 use Rattle.parlog.proofs.Keeps.{state-facts}
 use Rattle.parlog.proofs.Moves.{move-keeps}
-use Rattle.parlog.proofs.Order.{order}
+use Rattle.parlog.proofs.Order.{any-order}
 use Rattle.parlog.proofs.Placed.{literal-only}
 use Rattle.parlog.proofs.Sane.{Sane, termIn}
 use Rattle.parlog.proofs.Says.{agrees-below, there}
@@ -28,7 +28,7 @@ use Rattle.parlog.specs.Codes.{equate, failure, success}
 use Rattle.parlog.specs.Delta.{apply, reporting-with, withResult}
 use Rattle.parlog.specs.Limits.{Limits}
 use Rattle.parlog.specs.Notions.{Below, Child, deeper, HasTag, me, next-below, no-note, none-left, Notes, Older, ReportsWith, UnderGuard}
-use Rattle.parlog.specs.Orders.{a-later-fails, Alike, all-stepped, AllAsk, and-asks, and-succeeds, Asks, both-fail, both-succeed, by-binding, by-nothing, Each, each-fails, each-succeeds, EndAlike, Equations, Holds, nobody, OneFails, Over, Reordered, Succeed, TermThere, this-fails}
+use Rattle.parlog.specs.Orders.{a-later-fails, all-stepped, AllAsk, and-asks, and-succeeds, Asks, both-fail, both-succeed, by-binding, by-nothing, Each, each-fails, each-succeeds, EndAlike, Equations, Holds, nobody, OneFails, Over, Reordered, SameOutcome, Succeed, TermThere, this-fails}
 use Rattle.parlog.specs.Program.{argument, literalAt, Program}
 use Rattle.parlog.specs.Relation.{equate-bind, equate-failure, equate-success, Fits, Rule, spotOf}
 use Rattle.parlog.specs.TableRules.{equalityIn, goalIn, isEquality, literalIn, placesOk, stateOk}
@@ -203,13 +203,13 @@ walk lim pr sane (p ∷ ps) s ok (and-asks {e = e} {es = es} ask other rest) = g
 
 -- two plans, or one, whose processes ask the same equations in other orders, over the same bindings
 module _ (lim lim′ : Limits) (pr pr′ : Program) (sane : Sane pr) (sane′ : Sane pr′) (s t : State) (ok : stateOk lim pr s ≡ true) (ok′ : stateOk lim′ pr′ t ≡ true) where
-  meet-again : {ps qs : List ℕ} {o x : Outcome} → s .vars ≡ t .vars → Alike (s .vars) o x → Walks pr s ps o → Walks pr′ t qs x → EndAlike pr s ps pr′ t qs
+  meet-again : {ps qs : List ℕ} {o x : Outcome} → s .vars ≡ t .vars → SameOutcome (s .vars) o x → Walks pr s ps o → Walks pr′ t qs x → EndAlike pr s ps pr′ t qs
   meet-again v both-fail (walk-fails f) (walk-fails g) = each-fails f g
   meet-again v (both-succeed same) (walk-succeeds a b) (walk-succeeds c d) = each-succeeds a c (λ u. rw (b, d, ← v) (same u))
 
   pub plans-alike : {ps qs : List ℕ} {es fs : List Pair} → s .vars ≡ t .vars → AllAsk pr s ps es → AllAsk pr′ t qs fs → Reordered es fs → EndAlike pr s ps pr′ t qs
   plans-alike {ps} {qs} {es} {fs} v a b r =
-      meet-again v (order (s .vars) (bindings-test (s .vars) (assume-bindings lim pr s ok)) es fs (all-over lim pr sane s ok a) r)
+      meet-again v (any-order (s .vars) (bindings-test (s .vars) (assume-bindings lim pr s ok)) es fs (all-over lim pr sane s ok a) r)
       (walk lim pr sane ps s ok a) (rw v (walk lim′ pr′ sane′ qs t ok′ b))
 
 -- processes that ask, in another order, ask the same

@@ -11,7 +11,7 @@ use Rattle.parlog.proofs.OneValue.{goal-value}
 use Rattle.parlog.proofs.Solutions.{each-reordered, fails-solutions, leads-under, same-solutions, under-values, unifies-solutions, values-respect, valuesIn}
 use Rattle.parlog.proofs.Unified.{clash-sound, from-bound, from-clash, more, unify-falling, unify-sound}
 use Rattle.parlog.proofs.Values.{Falling, leads-value, value-free}
-use Rattle.parlog.specs.Orders.{a-constant, Alike, both-fail, both-succeed, Each, Equal, Equations, Joined, KeepRules, Lowest, NothingMore, Over, Reordered, SameValues, Solution, the-lowest, under}
+use Rattle.parlog.specs.Orders.{both-fail, both-succeed, Each, Equal, Equations, Joined, KeepRules, LowestOf, NothingMore, one-constant, Over, Reordered, SameOutcome, SameValues, Solution, the-lowest, under}
 use Rattle.parlog.specs.Unify.{bound, changed, clash, joined, meet, meetVars, Outcome, unify, unifyFrom, unifyOne, value}
 use Rattle.parlog.specs.declared.Binding.{Binding}
 use Rattle.parlog.specs.declared.Change.{Change}
@@ -84,11 +84,11 @@ module _ (vs : List Binding) (ok : KeepRules vs) (es : List Pair) (over : Equati
     classes t u = (λ q σ so. in-class t σ so ∙ ap (under σ) q ∙ sym (in-class u σ so), one-value t u)
 
     -- a value is a constant or the lowest variable of its class, which is unbound
-    pub lowest : (t : Term) → Lowest vs es ws t (value ws t)
-    lowest t = go (value ws t) refl (in-class t)
+    pub lowest-value : (t : Term) → LowestOf vs es ws t (value ws t)
+    lowest-value t = go (value ws t) refl (in-class t)
       where
-        go : (x : Term) → value ws t ≡ x → Joined vs es t x → Lowest vs es ws t x
-        go (Const c) q j = a-constant j
+        go : (x : Term) → value ws t ≡ x → Joined vs es t x → LowestOf vs es ws t x
+        go (Const c) q j = one-constant j
         go (Var w) q j = the-lowest (value-free ws falls-then t w q) j (λ u k. goal-value ws falls-then (rw (sym (one-value t (Var u) k) ∙ q) at (leads-value ws falls-then (Var u))))
 
     -- once more over what is bound binds nothing
@@ -108,8 +108,8 @@ module _ (vs : List Binding) (ok : KeepRules vs) (es : List Pair) (over : Equati
   -- ---- twice
 
   -- a list behind itself is that list
-  pub twice : unify vs (es ++ es) ≡ unify vs es
-  twice = unfold unify in (unify-append vs es es (bound []) ∙ go (unify vs es) refl)
+  pub done-twice : unify vs (es ++ es) ≡ unify vs es
+  done-twice = unfold unify in (unify-append vs es es (bound []) ∙ go (unify vs es) refl)
     where
       go : (o : Outcome) → unify vs es ≡ o → unifyFrom vs o es ≡ o
       go clash e = from-clash vs es
@@ -117,8 +117,8 @@ module _ (vs : List Binding) (ok : KeepRules vs) (es : List Pair) (over : Equati
 
 -- ---- order
 
-pub order : (vs : List Binding) → KeepRules vs → (es fs : List Pair) → Equations (length vs) es → Reordered es fs → Alike vs (unify vs es) (unify vs fs)
-order vs ok es fs over p = go (unify vs es) (unify vs fs) refl refl
+pub any-order : (vs : List Binding) → KeepRules vs → (es fs : List Pair) → Equations (length vs) es → Reordered es fs → SameOutcome vs (unify vs es) (unify vs fs)
+any-order vs ok es fs over p = go (unify vs es) (unify vs fs) refl refl
   where
     over-fs : Equations (length vs) fs
     over-fs = each-reordered (Over (length vs)) p over
@@ -138,7 +138,7 @@ order vs ok es fs over p = go (unify vs es) (unify vs fs) refl refl
           λ so. general vs ok es over cs e σ .1 (reordered (Permᴰ·symm p) (general vs ok fs over-fs ds f σ .0 so)),
         )) t
 
-    go : (o q : Outcome) → unify vs es ≡ o → unify vs fs ≡ q → Alike vs o q
+    go : (o q : Outcome) → unify vs es ≡ o → unify vs fs ≡ q → SameOutcome vs o q
     go clash clash e f = both-fail
     go clash (bound ds) e f = absurd (back ds f e)
     go (bound cs) clash e f = absurd (there cs e f)

@@ -59,9 +59,9 @@ abbrev pub SameValues : List Binding → List Binding → Type 0
 SameValues vs ws = (t : Term) → value vs t ≡ value ws t
 
 -- Request 6: both fail, or both succeed with the same values
-pub data Alike (vs : List Binding) : Outcome → Outcome → Type 0 where
-  both-fail : Alike vs clash clash
-  both-succeed : {cs ds : List Change} → SameValues (changed vs cs) (changed vs ds) → Alike vs (bound cs) (bound ds)
+pub data SameOutcome (vs : List Binding) : Outcome → Outcome → Type 0 where
+  both-fail : SameOutcome vs clash clash
+  both-succeed : {cs ds : List Change} → SameValues (changed vs cs) (changed vs ds) → SameOutcome vs (bound cs) (bound ds)
 
 -- a term for each variable, taken for its variables
 abbrev pub under : (ℕ → Term) → Term → Term
@@ -86,9 +86,9 @@ abbrev pub Joined : List Binding → List Pair → Term → Term → Type 0
 Joined vs es t u = (σ : ℕ → Term) → Solution vs es σ → under σ t ≡ under σ u
 
 -- Request 6: "a constant or the lowest variable of its class", for a term t whose value in the end is the last argument
-pub data Lowest (vs : List Binding) (es : List Pair) (ws : List Binding) (t : Term) : Term → Type 0 where
-  a-constant : {c : ℕ} → Joined vs es t (Const c) → Lowest vs es ws t (Const c)
-  the-lowest : {w : ℕ} → bindingOf ws w ≡ Free → Joined vs es t (Var w) → ((u : ℕ) → Joined vs es t (Var u) → w ≤ u) → Lowest vs es ws t (Var w)
+pub data LowestOf (vs : List Binding) (es : List Pair) (ws : List Binding) (t : Term) : Term → Type 0 where
+  one-constant : {c : ℕ} → Joined vs es t (Const c) → LowestOf vs es ws t (Const c)
+  the-lowest : {w : ℕ} → bindingOf ws w ≡ Free → Joined vs es t (Var w) → ((u : ℕ) → Joined vs es t (Var u) → w ≤ u) → LowestOf vs es ws t (Var w)
 
 -- Request 6: "doing a list twice changes nothing": over what it bound it binds nothing more
 abbrev pub NothingMore : List Binding → List Change → List Pair → Type 0
