@@ -28,7 +28,7 @@ use Rattle.parlog.specs.Codes.{equate, failure, success}
 use Rattle.parlog.specs.Delta.{apply, reporting-with, withResult}
 use Rattle.parlog.specs.Limits.{Limits}
 use Rattle.parlog.specs.Notions.{Below, Child, deeper, HasTag, me, next-below, no-note, none-left, Notes, Older, ReportsWith, UnderGuard}
-use Rattle.parlog.specs.Orders.{a-later-fails, all-stepped, AllAsk, and-asks, and-succeeds, Asks, both-fail, both-succeed, by-binding, by-nothing, Each, each-fails, each-succeeds, EndAlike, Equations, Holds, nobody, OneFails, Over, Reordered, SameOutcome, Succeed, TermThere, this-fails}
+use Rattle.parlog.specs.Orders.{a-later-fails, all-stepped, AllAsk, and-asks, and-succeeds, Asks, both-fail, both-succeed, Each, each-fails, each-succeeds, EndAlike, Equations, nobody, OneFails, Over, Reordered, SameOutcome, StepHolds, Succeed, TermThere, this-fails, with-binding, with-nothing}
 use Rattle.parlog.specs.Program.{argument, literalAt, Program}
 use Rattle.parlog.specs.Relation.{equate-bind, equate-failure, equate-success, Fits, Rule, spotOf}
 use Rattle.parlog.specs.TableRules.{equalityIn, goalIn, isEquality, literalIn, placesOk, stateOk}
@@ -93,11 +93,11 @@ module _ (lim : Limits) (pr : Program) (sane : Sane pr) (s : State) (ok : stateO
         let k = makes-exactly lim pr s ok p r fits-next in
         rw (k .state) (move-keeps lim pr sane s p m (k .delta) ok (k .move))
 
-  holds-so : (bs : List Change) → unify (s .vars) (e ∷ []) ≡ bound bs → Holds pr s p (apply s p (reporting-with success (me s p) bs)) × (stateOk lim pr (apply s p (reporting-with success (me s p) bs)) ≡ true)
-  holds-so [] q = let r = equate-success (a .starts) (a .equation) (unify-sound (s .vars) (good .falls) (e ∷ []) [] q) (after [] q) in (by-nothing r, keeps [] q r)
+  holds-so : (bs : List Change) → unify (s .vars) (e ∷ []) ≡ bound bs → StepHolds pr s p (apply s p (reporting-with success (me s p) bs)) × (stateOk lim pr (apply s p (reporting-with success (me s p) bs)) ≡ true)
+  holds-so [] q = let r = equate-success (a .starts) (a .equation) (unify-sound (s .vars) (good .falls) (e ∷ []) [] q) (after [] q) in (with-nothing r, keeps [] q r)
   holds-so (c ∷ cs) q =
       let r = equate-bind (a .starts) (a .equation) (unify-sound (s .vars) (good .falls) (e ∷ []) (c ∷ cs) q) (no-notes s p (a .outside) (c ∷ cs)) (after (c ∷ cs) q) in
-      (by-binding r, keeps (c ∷ cs) q r)
+      (with-binding r, keeps (c ∷ cs) q r)
 
   -- what stays: every other row, and of this one what names it
   module _ (bs : List Change) (q : unify (s .vars) (e ∷ []) ≡ bound bs) where
@@ -179,7 +179,7 @@ data Walks (pr : Program) (s : State) (ps : List ℕ) : Outcome → Type 0 where
   walk-fails : OneFails pr s ps → Walks pr s ps clash
   walk-succeeds : {s′ : State} {cs : List Change} → Succeed pr s ps s′ → s′ .vars ≡ changed (s .vars) cs → Walks pr s ps (bound cs)
 
-walk-on : (pr : Program) (s s′ : State) (p : ℕ) (ps : List ℕ) (bs : List Change) → Holds pr s p s′ → s′ .vars ≡ changed (s .vars) bs → (o : Outcome) → Walks pr s′ ps o → Walks pr s (p ∷ ps) (more bs o)
+walk-on : (pr : Program) (s s′ : State) (p : ℕ) (ps : List ℕ) (bs : List Change) → StepHolds pr s p s′ → s′ .vars ≡ changed (s .vars) bs → (o : Outcome) → Walks pr s′ ps o → Walks pr s (p ∷ ps) (more bs o)
 walk-on pr s s′ p ps bs h v clash (walk-fails f) = walk-fails (a-later-fails h f)
 walk-on pr s s′ p ps bs h v (bound cs) (walk-succeeds su w) = walk-succeeds {cs = bs ++ cs} (and-succeeds h su) (w ∙ rw v (sym (changed-append (s .vars) bs cs)))
 

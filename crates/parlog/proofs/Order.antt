@@ -8,10 +8,10 @@ use borrow.Author.Tests.{eq-eqb, le-ltb}
 use native.Mathlib.Omega.{arith}
 use Rattle.parlog.proofs.Good.{rules-fall}
 use Rattle.parlog.proofs.OneValue.{goal-value}
-use Rattle.parlog.proofs.Solutions.{each-reordered, fails-solutions, leads-under, same-solutions, under-values, unifies-solutions, values-respect, valuesIn}
+use Rattle.parlog.proofs.Solutions.{each-reordered, fails-solutions, leads-solved, same-solutions, solved-values, unifies-solutions, values-respect, valuesIn}
 use Rattle.parlog.proofs.Unified.{clash-sound, from-bound, from-clash, more, unify-falling, unify-sound}
 use Rattle.parlog.proofs.Values.{Falling, leads-value, value-free}
-use Rattle.parlog.specs.Orders.{both-fail, both-succeed, Each, Equal, Equations, Joined, KeepRules, LowestOf, NothingMore, one-constant, Over, Reordered, SameOutcome, SameValues, Solution, the-lowest, under}
+use Rattle.parlog.specs.Orders.{both-fail, both-succeed, Each, Equal, Equations, Joined, KeepRules, LowestOf, NothingMore, one-constant, Over, Reordered, SameOutcome, SameValues, Solution, solvedAs, the-lowest}
 use Rattle.parlog.specs.Unify.{bound, changed, clash, joined, meet, meetVars, Outcome, unify, unifyFrom, unifyOne, value}
 use Rattle.parlog.specs.declared.Binding.{Binding}
 use Rattle.parlog.specs.declared.Change.{Change}
@@ -37,7 +37,7 @@ holds-already vs [] h = refl
 holds-already vs (e ∷ es) h = rw one (holds-already vs es (h .1))
   where
     one : unifyOne vs (bound []) e ≡ bound []
-    one = unfold unifyOne changed joined in (rw (← under-values vs (e .left), ← under-values vs (e .right), h .0, meet-same))
+    one = unfold unifyOne changed joined in (rw (← solved-values vs (e .left), ← solved-values vs (e .right), h .0, meet-same))
 
 -- one list behind another
 unify-append : (vs : List Binding) (es fs : List Pair) (o : Outcome) → unifyFrom vs o (es ++ fs) ≡ unifyFrom vs (unifyFrom vs o es) fs
@@ -71,17 +71,17 @@ module _ (vs : List Binding) (ok : KeepRules vs) (es : List Pair) (over : Equati
       where
         go : (fs : List Pair) → Each (Equal (valuesIn ws)) fs → Each (λ (x : Pair). value ws (x .left) ≡ value ws (x .right)) fs
         go [] h = tt
-        go (x ∷ fs) h = (sym (under-values ws (x .left)) ∙ h .0 ∙ under-values ws (x .right), go fs (h .1))
+        go (x ∷ fs) h = (sym (solved-values ws (x .left)) ∙ h .0 ∙ solved-values ws (x .right), go fs (h .1))
 
     -- two terms have one value exactly when they are of one class
     one-value : (t u : Term) → Joined vs es t u → value ws t ≡ value ws u
-    one-value t u j = sym (under-values ws t) ∙ j (valuesIn ws) itself ∙ under-values ws u
+    one-value t u j = sym (solved-values ws t) ∙ j (valuesIn ws) itself ∙ solved-values ws u
 
     in-class : (t : Term) → Joined vs es t (value ws t)
-    in-class t σ so = leads-under σ (general σ .1 so .respects) (leads-value ws falls-then t)
+    in-class t σ so = leads-solved σ (general σ .1 so .respects) (leads-value ws falls-then t)
 
     pub classes : (t u : Term) → (value ws t ≡ value ws u) ↔ Joined vs es t u
-    classes t u = (λ q σ so. in-class t σ so ∙ ap (under σ) q ∙ sym (in-class u σ so), one-value t u)
+    classes t u = (λ q σ so. in-class t σ so ∙ ap (solvedAs σ) q ∙ sym (in-class u σ so), one-value t u)
 
     -- a value is a constant or the lowest variable of its class, which is unbound
     pub lowest-value : (t : Term) → LowestOf vs es ws t (value ws t)

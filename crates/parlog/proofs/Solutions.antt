@@ -15,7 +15,7 @@ use Rattle.parlog.proofs.Stays.{stays-set}
 use Rattle.parlog.proofs.Unified.{changed-append, meets-falling}
 use Rattle.parlog.proofs.Values.{Falling, leads-is, leads-value, value-free}
 use Rattle.parlog.specs.Notions.{a-constant, all-done, Clashes, different, Fails, fails-here, fails-later, higher-left, higher-right, Leads, Meets, one-done, onward, same-constant, same-variable, to-left, to-right, unbound, Unifies}
-use Rattle.parlog.specs.Orders.{Each, Equations, Over, Reordered, Respects, Solution, TermThere, under}
+use Rattle.parlog.specs.Orders.{Each, Equations, Over, Reordered, Respects, Solution, solvedAs, TermThere}
 use Rattle.parlog.specs.Tables.{bindingOf}
 use Rattle.parlog.specs.Unify.{changed, value}
 use Rattle.parlog.specs.declared.Binding.{Binding}
@@ -36,31 +36,31 @@ each-reordered P (List·Permᴰ·trans r q) h = each-reordered P q (each-reorder
 -- ---- a solution and the ways of bindings
 
 -- it gives a term and what it leads to the same
-pub leads-under : {vs : List Binding} {t u : Term} (σ : ℕ → Term) → Respects vs σ → Leads vs t u → under σ t ≡ under σ u
-leads-under σ re a-constant = refl
-leads-under σ re (unbound e) = refl
-leads-under σ re (onward {v = v} {t = t} e l) = re v t e ∙ leads-under σ re l
+pub leads-solved : {vs : List Binding} {t u : Term} (σ : ℕ → Term) → Respects vs σ → Leads vs t u → solvedAs σ t ≡ solvedAs σ u
+leads-solved σ re a-constant = refl
+leads-solved σ re (unbound e) = refl
+leads-solved σ re (onward {v = v} {t = t} e l) = re v t e ∙ leads-solved σ re l
 
 -- the values of bindings, as a term for each variable
 abbrev pub valuesIn : List Binding → ℕ → Term
 valuesIn vs v = value vs (Var v)
 
-pub under-values : (vs : List Binding) (t : Term) → under (valuesIn vs) t ≡ value vs t
+pub solved-values : (vs : List Binding) (t : Term) → solvedAs (valuesIn vs) t ≡ value vs t
 unfolding value
-under-values vs (Const c) = refl
-under-values vs (Var v) = refl
+solved-values vs (Const c) = refl
+solved-values vs (Var v) = refl
 
 -- they are a solution
 pub values-respect : (vs : List Binding) → Falling vs → Respects vs (valuesIn vs)
-values-respect vs fall v t e = leads-is vs fall (onward e (leads-value vs fall t)) ∙ sym (under-values vs t)
+values-respect vs fall v t e = leads-is vs fall (onward e (leads-value vs fall t)) ∙ sym (solved-values vs t)
 
 -- ---- one more binding is one more equation
 
 module _ (vs : List Binding) (w : ℕ) (t : Term) (σ : ℕ → Term) (there : w < length vs) (free : bindingOf vs w ≡ Free) where
-  set-gives : Respects (set vs w (Bound t)) σ → Respects vs σ × (σ w ≡ under σ t)
+  set-gives : Respects (set vs w (Bound t)) σ → Respects vs σ × (σ w ≡ solvedAs σ t)
   set-gives re = (λ v u e. re v u (stays-set vs w (Bound t) free v u e), re w t (getD-set-same vs w (Bound t) Free there))
 
-  set-takes : Respects vs σ → σ w ≡ under σ t → Respects (set vs w (Bound t)) σ
+  set-takes : Respects vs σ → σ w ≡ solvedAs σ t → Respects (set vs w (Bound t)) σ
   set-takes re q v u e = split (eqb v w)
       (λ z. let a : v ≡ w = eqb-true v w z in
       let b : Bound t ≡ Bound u = sym (getD-set-same vs w (Bound t) Free there) ∙ rw a at e in
@@ -83,7 +83,7 @@ open-end vs fall (Var v) (Var w) h l = (omega (arith, goal-value vs fall l), val
 open-end vs fall (Const c) (Var w) h l = const-open l
 
 module _ (vs : List Binding) (σ : ℕ → Term) where
-  meets-gives : {a b : Term} {bs : List Change} → Open vs a → Open vs b → Meets a b bs → Respects (changed vs bs) σ → Respects vs σ × (under σ a ≡ under σ b)
+  meets-gives : {a b : Term} {bs : List Change} → Open vs a → Open vs b → Meets a b bs → Respects (changed vs bs) σ → Respects vs σ × (solvedAs σ a ≡ solvedAs σ b)
   unfolding changed
   meets-gives ha hb same-constant re = (re, refl)
   meets-gives ha hb same-variable re = (re, refl)
@@ -92,7 +92,7 @@ module _ (vs : List Binding) (σ : ℕ → Term) where
   meets-gives ha hb (higher-left {v} {w} lt) re = set-gives vs v (Var w) σ (ha .0) (ha .1) re
   meets-gives ha hb (higher-right {v} {w} lt) re = let x = set-gives vs w (Var v) σ (hb .0) (hb .1) re in (x .0, sym (x .1))
 
-  meets-takes : {a b : Term} {bs : List Change} → Open vs a → Open vs b → Meets a b bs → Respects vs σ → under σ a ≡ under σ b → Respects (changed vs bs) σ
+  meets-takes : {a b : Term} {bs : List Change} → Open vs a → Open vs b → Meets a b bs → Respects vs σ → solvedAs σ a ≡ solvedAs σ b → Respects (changed vs bs) σ
   unfolding changed
   meets-takes ha hb same-constant re q = re
   meets-takes ha hb same-variable re q = re
@@ -112,12 +112,12 @@ module _ (vs : List Binding) (fall : Falling vs) (e : Pair) {a b : Term} {bs : L
   first-gives : {es : List Pair} → Solution (changed vs bs) es σ → Solution vs (e ∷ es) σ
   first-gives so =
       let x = meets-gives vs σ left-open right-open m (so .respects) in
-      record { respects = x .0; equal = (leads-under σ (x .0) l ∙ x .1 ∙ sym (leads-under σ (x .0) r), so .equal) }
+      record { respects = x .0; equal = (leads-solved σ (x .0) l ∙ x .1 ∙ sym (leads-solved σ (x .0) r), so .equal) }
 
   first-takes : {es : List Pair} → Solution vs (e ∷ es) σ → Solution (changed vs bs) es σ
   first-takes so =
       let re = so .respects in
-      record { respects = meets-takes vs σ left-open right-open m re (sym (leads-under σ re l) ∙ so .equal .0 ∙ leads-under σ re r); equal = so .equal .1 }
+      record { respects = meets-takes vs σ left-open right-open m re (sym (leads-solved σ re l) ∙ so .equal .0 ∙ leads-solved σ re r); equal = so .equal .1 }
 
 -- ---- a list of them
 
@@ -128,13 +128,13 @@ unifies-solutions vs fall (one-done {e = e} {bs = bs} {cs = cs} l r m u) h σ =
     let rec = unifies-solutions (changed vs bs) (meets-falling vs fall m) u (rw (changed-length vs bs) (h .1)) σ in
     rw (changed-append vs bs cs) (λ so. first-gives vs fall e (h .0) l r m σ (rec .0 so), λ so. rec .1 (first-takes vs fall e (h .0) l r m σ so))
 
-constants-clash : {a b : Term} (σ : ℕ → Term) → Clashes a b → under σ a ≡ under σ b → ⊥
+constants-clash : {a b : Term} (σ : ℕ → Term) → Clashes a b → solvedAs σ a ≡ solvedAs σ b → ⊥
 constants-clash σ (different {a} {b} ne) q = ne cc
 
 pub fails-solutions : (vs : List Binding) → Falling vs → {es : List Pair} → Fails vs es → Equations (length vs) es → (σ : ℕ → Term) → Solution vs es σ → ⊥
 fails-solutions vs fall (fails-here l r c) h σ so =
     let re = so .respects in
-    constants-clash σ c (sym (leads-under σ re l) ∙ so .equal .0 ∙ leads-under σ re r)
+    constants-clash σ c (sym (leads-solved σ re l) ∙ so .equal .0 ∙ leads-solved σ re r)
 fails-solutions vs fall (fails-later {e = e} {bs = bs} l r m f) h σ so =
     fails-solutions (changed vs bs) (meets-falling vs fall m) f (rw (changed-length vs bs) (h .1)) σ (first-takes vs fall e (h .0) l r m σ so)
 
@@ -144,15 +144,15 @@ fails-solutions vs fall (fails-later {e = e} {bs = bs} l r m f) h σ so =
 module _ (vs ws : List Binding) (fv : Falling vs) (fw : Falling ws) (same : (σ : ℕ → Term) → Solution vs [] σ ↔ Solution ws [] σ) (t : Term) where
   at-first : value vs t ≡ value vs (value ws t)
   at-first =
-      sym (under-values vs t)
-      ∙ leads-under (valuesIn vs) (same (valuesIn vs) .0 (record { respects = values-respect vs fv; equal = tt }) .respects) (leads-value ws fw t)
-      ∙ under-values vs (value ws t)
+      sym (solved-values vs t)
+      ∙ leads-solved (valuesIn vs) (same (valuesIn vs) .0 (record { respects = values-respect vs fv; equal = tt }) .respects) (leads-value ws fw t)
+      ∙ solved-values vs (value ws t)
 
   at-last : value ws t ≡ value ws (value vs t)
   at-last =
-      sym (under-values ws t)
-      ∙ leads-under (valuesIn ws) (same (valuesIn ws) .1 (record { respects = values-respect ws fw; equal = tt }) .respects) (leads-value vs fv t)
-      ∙ under-values ws (value vs t)
+      sym (solved-values ws t)
+      ∙ leads-solved (valuesIn ws) (same (valuesIn ws) .1 (record { respects = values-respect ws fw; equal = tt }) .respects) (leads-value vs fv t)
+      ∙ solved-values ws (value vs t)
 
   by-both : (x y : Term) → value vs t ≡ x → value ws t ≡ y → x ≡ y
   by-both (Const a) y ex ey = unfold value in (sym (rw (ex, ey) at at-last))

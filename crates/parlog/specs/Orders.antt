@@ -64,17 +64,17 @@ pub data SameOutcome (vs : List Binding) : Outcome → Outcome → Type 0 where
   both-succeed : {cs ds : List Change} → SameValues (changed vs cs) (changed vs ds) → SameOutcome vs (bound cs) (bound ds)
 
 -- a term for each variable, taken for its variables
-abbrev pub under : (ℕ → Term) → Term → Term
-under σ (Const c) = Const c
-under σ (Var v) = σ v
+abbrev pub solvedAs : (ℕ → Term) → Term → Term
+solvedAs σ (Const c) = Const c
+solvedAs σ (Var v) = σ v
 
 -- a bound variable and what it is bound to come out the same
 abbrev pub Respects : List Binding → (ℕ → Term) → Type 0
-Respects vs σ = (v : ℕ) (t : Term) → bindingOf vs v ≡ Bound t → σ v ≡ under σ t
+Respects vs σ = (v : ℕ) (t : Term) → bindingOf vs v ≡ Bound t → σ v ≡ solvedAs σ t
 
 -- and so do the two sides of an equation
 abbrev pub Equal : (ℕ → Term) → Pair → Type 0
-Equal σ e = under σ (e .left) ≡ under σ (e .right)
+Equal σ e = solvedAs σ (e .left) ≡ solvedAs σ (e .right)
 
 -- a solution of bindings and equations; nothing else of the machine stands in it
 pub record Solution (vs : List Binding) (es : List Pair) (σ : ℕ → Term) : Type 0 where
@@ -83,7 +83,7 @@ pub record Solution (vs : List Binding) (es : List Pair) (σ : ℕ → Term) : T
 
 -- Request 6: "its class": bindings and equations leave no choice but to give both the same
 abbrev pub Joined : List Binding → List Pair → Term → Term → Type 0
-Joined vs es t u = (σ : ℕ → Term) → Solution vs es σ → under σ t ≡ under σ u
+Joined vs es t u = (σ : ℕ → Term) → Solution vs es σ → solvedAs σ t ≡ solvedAs σ u
 
 -- Request 6: "a constant or the lowest variable of its class", for a term t whose value in the end is the last argument
 pub data LowestOf (vs : List Binding) (es : List Pair) (ws : List Binding) (t : Term) : Term → Type 0 where
@@ -108,19 +108,19 @@ pub data AllAsk (pr : Program) (s : State) : List ℕ → List Pair → Type 0 w
   and-asks : {p : ℕ} {ps : List ℕ} {e : Pair} {es : List Pair} → Asks pr s p e → Each (λ q. q ≢ p) ps → AllAsk pr s ps es → AllAsk pr s (p ∷ ps) (e ∷ es)
 
 -- p is stepped and reports success: rule 33, with a binding or with none
-pub data Holds (pr : Program) (s : State) (p : ℕ) (s′ : State) : Type 0 where
-  by-binding : {t : Term} → Rule pr s p (EquateBind t) s′ → Holds pr s p s′
-  by-nothing : Rule pr s p (EquateSuccess p) s′ → Holds pr s p s′
+pub data StepHolds (pr : Program) (s : State) (p : ℕ) (s′ : State) : Type 0 where
+  with-binding : {t : Term} → Rule pr s p (EquateBind t) s′ → StepHolds pr s p s′
+  with-nothing : Rule pr s p (EquateSuccess p) s′ → StepHolds pr s p s′
 
 -- each is stepped once, in this order, and reports success; the tables at the end
 pub data Succeed (pr : Program) : State → List ℕ → State → Type 0 where
   all-stepped : {s : State} → Succeed pr s [] s
-  and-succeeds : {s s′ s″ : State} {p : ℕ} {ps : List ℕ} → Holds pr s p s′ → Succeed pr s′ ps s″ → Succeed pr s (p ∷ ps) s″
+  and-succeeds : {s s′ s″ : State} {p : ℕ} {ps : List ℕ} → StepHolds pr s p s′ → Succeed pr s′ ps s″ → Succeed pr s (p ∷ ps) s″
 
 -- stepped in this order, one reports failure, rule 34, and all before it success
 pub data OneFails (pr : Program) : State → List ℕ → Type 0 where
   this-fails : {s s′ : State} {p : ℕ} {ps : List ℕ} → Rule pr s p (EquateFailure p) s′ → OneFails pr s (p ∷ ps)
-  a-later-fails : {s s′ : State} {p : ℕ} {ps : List ℕ} → Holds pr s p s′ → OneFails pr s′ ps → OneFails pr s (p ∷ ps)
+  a-later-fails : {s s′ : State} {p : ℕ} {ps : List ℕ} → StepHolds pr s p s′ → OneFails pr s′ ps → OneFails pr s (p ∷ ps)
 
 -- Request 6: "all orders fail, or all succeed and give every variable the same value"
 pub data EndAlike (pr : Program) (s : State) (ps : List ℕ) (pr′ : Program) (t : State) (qs : List ℕ) : Type 0 where
