@@ -15,13 +15,10 @@ enum {
     ORDERS = 4,       /* orders of each goal */
     STRAYED = 4,      /* in one goal of so many the last order is stepped at random first */
     STRAYS = 24,      /* random steps then */
-    LEAST = 10000,    /* how often each end must come at least */
+    LEAST = 10000,    /* how often each end, an open value, a doubled list and a random step must come at least */
     SHOWN = 10,       /* differences that are told one by one */
     LIMIT = 60000,    /* steps of a run */
-    IMAGE_ROOM = 128, /* over the longest image: 6 + 8 * 7 bytes */
-    GOAL_KIND = 3,    /* the record of a goal */
-    EQUALITY = 255,   /* the relation of an equation */
-    VARIABLE = 0x8000 /* the bit of a term that is a variable */
+    IMAGE_ROOM = 128  /* over the longest image: 6 + 8 * 7 bytes */
 };
 
 /* Two terms as the image has them. */
@@ -56,7 +53,7 @@ static unsigned successes, failures, open_values, doubled, moves, differences;
 /* A term's value so far. */
 static unsigned known(const struct wanted *wanted, unsigned term)
 {
-    return term & VARIABLE ? wanted->values[term - VARIABLE] : term;
+    return term & RISSOBARM_TERM_VARIABLE ? wanted->values[term - RISSOBARM_TERM_VARIABLE] : term;
 }
 
 /* One class of two: a constant is kept, else the lower variable; every member takes the value that is kept. */
@@ -76,11 +73,11 @@ static void solve(struct wanted *wanted, const struct plan *plan)
 
     wanted->end = RISSOBARM_END_SUCCESS;
     for (v = 0; v < plan->variables; v++)
-        wanted->values[v] = VARIABLE + v;
+        wanted->values[v] = RISSOBARM_TERM_VARIABLE + v;
     for (k = 0; k < plan->count; k++) {
         unsigned a = known(wanted, plan->equations[k].left), b = known(wanted, plan->equations[k].right);
 
-        if (a != b && !((a | b) & VARIABLE))
+        if (a != b && !((a | b) & RISSOBARM_TERM_VARIABLE))
             wanted->end = RISSOBARM_END_FAILURE;
         join(wanted, a, b, plan->variables);
     }
@@ -119,13 +116,13 @@ static size_t image_of(uint8_t *image, const struct plan *plan)
             next += size;
             stages++;
         }
-        image[at++] = EQUALITY;
+        image[at++] = RISSOBARM_EQUALITY;
         image[at++] = 2;
         at = put_term(image, at, plan->equations[k].left);
         at = put_term(image, at, plan->equations[k].right);
     }
     put_term(image, 0, (unsigned)at);
-    put_term(image, 2, GOAL_KIND);
+    put_term(image, 2, RISSOBARM_RECORD_GOAL);
     image[4] = (uint8_t)plan->variables;
     image[5] = (uint8_t)stages;
     return at;
@@ -156,10 +153,10 @@ static int values_right(const uint8_t *image, size_t length, struct tables *tabl
 
     for (v = 0; v < variables; v++) {
         uint64_t value = rissobarm_value(image, length, TABLES(tables), v);
-        unsigned sort = wanted->values[v] & VARIABLE ? RISSOBARM_SORT_VARIABLE : RISSOBARM_SORT_CONSTANT;
+        unsigned sort = wanted->values[v] & RISSOBARM_TERM_VARIABLE ? RISSOBARM_SORT_VARIABLE : RISSOBARM_SORT_CONSTANT;
 
         if (rissobarm_refusal(value) || rissobarm_value_sort(value) != sort
-            || rissobarm_value_number(value) != (wanted->values[v] & (VARIABLE - 1)))
+            || rissobarm_value_number(value) != (wanted->values[v] & (RISSOBARM_TERM_VARIABLE - 1)))
             return 0;
     }
     return 1;
@@ -189,7 +186,7 @@ static unsigned any_term(struct random *random, unsigned variables)
 {
     if (random_once(random, 3))
         return random_once(random, 8) ? RISSOBARM_CONSTANT_LIMIT : random_below(random, CONSTANTS);
-    return VARIABLE + random_below(random, variables);
+    return RISSOBARM_TERM_VARIABLE + random_below(random, variables);
 }
 
 static void any_plan(struct plan *plan, struct random *random)
@@ -253,7 +250,7 @@ static void count(const struct wanted *wanted, unsigned variables)
     failures += wanted->end == RISSOBARM_END_FAILURE;
     if (wanted->end == RISSOBARM_END_SUCCESS)
         for (v = 0; v < variables; v++)
-            open_values += (wanted->values[v] & VARIABLE) && wanted->values[v] != VARIABLE + v;
+            open_values += (wanted->values[v] & RISSOBARM_TERM_VARIABLE) && wanted->values[v] != RISSOBARM_TERM_VARIABLE + v;
 }
 
 /* One goal in all its orders and, where it fits, twice. */
@@ -287,5 +284,5 @@ int main(void)
         try_goal(goal, &random);
     printf("%d goals in %d orders, %u of them twice too: %u successes, %u failures\n", GOALS, ORDERS, doubled, successes, failures);
     printf("%u variables with a lower one for value, %u random steps, %u differences\n", open_values, moves, differences);
-    return differences == 0 && successes >= LEAST && failures >= LEAST && open_values >= LEAST && doubled >= LEAST ? 0 : 1;
+    return differences == 0 && successes >= LEAST && failures >= LEAST && open_values >= LEAST && doubled >= LEAST && moves >= LEAST ? 0 : 1;
 }

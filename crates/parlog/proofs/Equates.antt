@@ -28,7 +28,7 @@ use Rattle.parlog.specs.Codes.{equate, failure, success}
 use Rattle.parlog.specs.Delta.{apply, reporting-with, withResult}
 use Rattle.parlog.specs.Limits.{Limits}
 use Rattle.parlog.specs.Notions.{Below, Child, deeper, HasTag, me, next-below, no-note, none-left, Notes, Older, ReportsWith, UnderGuard}
-use Rattle.parlog.specs.Orders.{a-later-fails, all-stepped, AllAsk, and-asks, and-succeeds, Asks, both-fail, both-succeed, Each, each-fails, each-succeeds, EndAlike, Equations, nobody, OneFails, Over, Reordered, SameOutcome, StepHolds, Succeed, TermThere, this-fails, with-binding, with-nothing}
+use Rattle.parlog.specs.Orders.{a-later-fails, all-stepped, AllAsk, and-asks, and-succeeds, Asks, both-fail, both-succeed, Each, each-fails, each-succeeds, EndAlike, Equations, none-asks, OneFails, Over, Reordered, SameOutcome, StepHolds, Succeed, TermThere, this-fails, with-binding, with-nothing}
 use Rattle.parlog.specs.Program.{argument, literalAt, Program}
 use Rattle.parlog.specs.Relation.{equate-bind, equate-failure, equate-success, Fits, Rule, spotOf}
 use Rattle.parlog.specs.TableRules.{equalityIn, goalIn, isEquality, literalIn, placesOk, stateOk}
@@ -143,7 +143,7 @@ module _ (lim : Limits) (pr : Program) (sane : Sane pr) (s : State) (ok : stateO
         }
 
     all-stay : {ks : List ℕ} {xs : List Pair} → Each (λ k. k ≢ p) ks → AllAsk pr s ks xs → AllAsk pr (next bs q) ks xs
-    all-stay ne nobody = nobody
+    all-stay ne none-asks = none-asks
     all-stay ne (and-asks ask other more-ask) = and-asks (asks-stays (ne .0) ask) other (all-stay (ne .1) more-ask)
 
 -- ---- their equations are over the run's variables
@@ -170,7 +170,7 @@ module _ (lim : Limits) (pr : Program) (sane : Sane pr) (s : State) (ok : stateO
       (rw (t .left, ← l) (term-there n (side 0) (b .0)), rw (t .right, ← l) (term-there n (side 1) (b .1)))
 
   all-over : {ps : List ℕ} {es : List Pair} → AllAsk pr s ps es → Equations (length (s .vars)) es
-  all-over nobody = tt
+  all-over none-asks = tt
   all-over (and-asks ask other more-ask) = (asks-over ask, all-over more-ask)
 
 -- ---- stepped one after the other they unify their equations
@@ -184,7 +184,7 @@ walk-on pr s s′ p ps bs h v clash (walk-fails f) = walk-fails (a-later-fails h
 walk-on pr s s′ p ps bs h v (bound cs) (walk-succeeds su w) = walk-succeeds {cs = bs ++ cs} (and-succeeds h su) (w ∙ rw v (sym (changed-append (s .vars) bs cs)))
 
 walk : (lim : Limits) (pr : Program) → Sane pr → (ps : List ℕ) (s : State) → stateOk lim pr s ≡ true → {es : List Pair} → AllAsk pr s ps es → Walks pr s ps (unify (s .vars) es)
-walk lim pr sane [] s ok nobody = unfold unify unifyFrom in (walk-succeeds {cs = []} all-stepped (unfold changed in refl))
+walk lim pr sane [] s ok none-asks = unfold unify unifyFrom in (walk-succeeds {cs = []} all-stepped (unfold changed in refl))
 walk lim pr sane (p ∷ ps) s ok (and-asks {e = e} {es = es} ask other rest) = go (unify (s .vars) (e ∷ [])) refl (λ s′ ok′ a. walk lim pr sane ps s′ ok′ a)
   where
     first : unify (s .vars) (e ∷ es) ≡ unifyFrom (s .vars) (unify (s .vars) (e ∷ [])) es
@@ -219,7 +219,7 @@ record Asked (pr : Program) (s : State) (es : List Pair) (qs : List ℕ) : Type 
   pub order : Reordered es equations
 
 asked : (pr : Program) (s : State) {ps qs : List ℕ} {es : List Pair} → Reordered ps qs → AllAsk pr s ps es → Asked pr s es qs
-asked pr s List·Permᴰ·nil nobody = record { equations = []; ask = nobody; order = List·Permᴰ·nil }
+asked pr s List·Permᴰ·nil none-asks = record { equations = []; ask = none-asks; order = List·Permᴰ·nil }
 asked pr s (List·Permᴰ·cons {b = b} z r) (and-asks {p} {e = e} a n k) =
     let m = asked pr s r k in
     record { equations = e ∷ m .equations; ask = and-asks (rw z at a) (each-reordered (λ q. q ≢ b) r (rw z at n)) (m .ask); order = List·Permᴰ·cons refl (m .order) }

@@ -104,7 +104,7 @@ pub record Asks (pr : Program) (s : State) (p : ℕ) (e : Pair) : Type 0 where
 
 -- different processes, each with its equation
 pub data AllAsk (pr : Program) (s : State) : List ℕ → List Pair → Type 0 where
-  nobody : AllAsk pr s [] []
+  none-asks : AllAsk pr s [] []
   and-asks : {p : ℕ} {ps : List ℕ} {e : Pair} {es : List Pair} → Asks pr s p e → Each (λ q. q ≢ p) ps → AllAsk pr s ps es → AllAsk pr s (p ∷ ps) (e ∷ es)
 
 -- p is stepped and reports success: rule 33, with a binding or with none
@@ -122,7 +122,7 @@ pub data OneFails (pr : Program) : State → List ℕ → Type 0 where
   this-fails : {s s′ : State} {p : ℕ} {ps : List ℕ} → Rule pr s p (EquateFailure p) s′ → OneFails pr s (p ∷ ps)
   a-later-fails : {s s′ : State} {p : ℕ} {ps : List ℕ} → StepHolds pr s p s′ → OneFails pr s′ ps → OneFails pr s (p ∷ ps)
 
--- Request 6: "all orders fail, or all succeed and give every variable the same value"
+-- Request 6: in both orders one fails, or in both all succeed and every variable has the same value
 pub data EndAlike (pr : Program) (s : State) (ps : List ℕ) (pr′ : Program) (t : State) (qs : List ℕ) : Type 0 where
   each-fails : OneFails pr s ps → OneFails pr′ t qs → EndAlike pr s ps pr′ t qs
   each-succeeds : {s′ t′ : State} → Succeed pr s ps s′ → Succeed pr′ t qs t′ → SameValues (s′ .vars) (t′ .vars) → EndAlike pr s ps pr′ t qs
