@@ -1,7 +1,7 @@
 # To be sourced: how to compile C for the archive, which is x86-64 code, and how to run what was compiled.
 # CC the compiler with its flags, RUN the words before a program (none where it runs as it is), PROGRAM those before a
 # program that rt has linked, which needs a C library, BUILD the output folder.
-tests/install >&2
+tools/install >&2
 STRICT=(-std=c99 -Wall -Wextra -Wpedantic -Werror)
 if [ "$(uname -m)" = x86_64 ]; then
   CC=(gcc -O2 "${STRICT[@]}")
