@@ -73,6 +73,7 @@ def comments(path):
 
 
 def files(pattern):
+    """The files of all crates that a pattern names."""
     return sorted(glob.glob(os.path.join(ROOT, 'crates', pattern), recursive=True))
 
 
