@@ -126,7 +126,7 @@ asleep false x = x
 unfoldable pub rowAfter : List Process → ℕ → Delta → ℕ → Process
 rowAfter ps p d i = cond (eqb i p) (d .me) (asleep ((d .cut && below ps p i) || isAt (d .nap) i) (at ps i))
 
--- the tables after the change
+-- Tables 1: the tables after the change; what is made stands behind what was there
 unfoldable pub apply : State → ℕ → Delta → State
 apply s p d = record {
   procs = build (rowAfter (s .procs) p d) (length (s .procs)) ++ d .new;

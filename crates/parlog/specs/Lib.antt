@@ -1,5 +1,5 @@
--- What a reader must believe: document 01 as definitions, in its order. A comment names the section and the sentence that a definition fixes:
--- Image, Refusals, Tables, Tags and Turns with the numbers of docs/SENTENCES.md.
+-- What a reader must believe: docs/MACHINE.md as definitions, in its order. A comment names the sentences that a definition fixes by their numbers
+-- there, and the page names the definition at each of them (tests/machine.py).
 pub mod Scan
 pub mod Codes
 pub mod Image

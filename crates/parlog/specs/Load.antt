@@ -67,7 +67,7 @@ verdict s g at =
 abbrev pub refusal : ℕ → ℕ → Refusal
 refusal n o = record { number = n; offset = o }
 
--- Refusals 7, 19: at the end of the bytes there was a goal, or there was none
+-- Refusals 7, 16, 18, 19: at the end of the bytes there was a goal, or there was none
 abbrev pub loadEnd : List ℕ → Progress → Loaded
 loadEnd s g = cond (eqb (g .kind) 3) (Accepted (g .relations) (g .clauses)) (Refused (refusal 7 (length s)))
 
@@ -86,6 +86,6 @@ records s (suc n) at g =
 abbrev pub nothingRead : Progress
 nothingRead = record { relations = 0; clauses = 0; kind = 0; relation = 0; block = 0 }
 
--- Refusals 15: the length of the whole image is looked at before any record
+-- Refusals 15, 18: the length of the whole image is looked at before any record
 unfoldable pub loadOf : List ℕ → Loaded
 loadOf s = cond (long s) (Refused (refusal 1 0)) (records s (length s) 0 nothingRead)

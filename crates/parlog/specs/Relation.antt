@@ -51,7 +51,7 @@ pub record Called (pr : Program) (s : State) (p r : ℕ) : Type 0 where
 abbrev pub WithClauseOf : State → ℕ → ℕ → Process
 WithClauseOf s c p = withSpot reporting (withClause (spotOf s c .found) (spotOf s c .first) (spotOf s p)) (me s p)
 
--- which move process p can make, and the tables after it
+-- Tags 8: which move process p can make, and the tables after it
 pub data Rule (pr : Program) (s : State) (p : ℕ) : Move → State → Type 0 where
   -- rule 1, Tags 9
   ready-rule : {s′ : State} → HasMode s p ready → Becomes s p (withMode starting (me s p)) s′ → Rule pr s p (Ready p) s′

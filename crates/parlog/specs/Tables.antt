@@ -47,7 +47,7 @@ at ps i = getD ps i idle
 abbrev pub bindingOf : List Binding → ℕ → Binding
 bindingOf vs v = getD vs v Free
 
--- Tables 3: the notes that count
+-- Tables 3k: the notes that count
 unfoldable pub noted : Process → List ℕ
 noted x = take (x .count) (x .notes)
 
@@ -211,7 +211,7 @@ rowsBytes bytes (x ∷ xs) = bytes x ++ rowsBytes bytes xs
 unfoldable pub written : List ℕ → List ℕ → List ℕ
 written rows old = rows ++ drop (length rows) old
 
--- the lent bytes once they hold these tables
+-- Refusals 23: the lent bytes once they hold these tables
 unfoldable pub putTables : Lent → Tables → Lent
 putTables l t = record {
   head = headBytes (length (t .state .procs)) (length (t .state .vars)) (t .last) (t .steps);

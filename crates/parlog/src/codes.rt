@@ -1,4 +1,4 @@
-// The numbers of document 01 by their names: what rows and images hold, and what refusals are called.
+// The numbers of docs/MACHINE.md by their names: what rows and images hold, and what refusals are called.
 
 // ---- tags of a process
 

@@ -1,4 +1,4 @@
--- Demand 1: a word is a refusal exactly where document 01 has one, with its number and its offset, and a refusal leaves every lent byte as it was.
+-- Demand 1: a word is a refusal exactly where docs/MACHINE.md has one, with its number and its offset, and a refusal leaves every lent byte as it was.
 use mathlib.Core.Path.{_∙_, _≡_, ap, refl, sym}
 use mathlib.Core.Logic.{_≢_}
 use mathlib.Core.Bool.{true}

@@ -1,4 +1,4 @@
--- When a call is refused, in the words of document 01: the number, and the offset that it carries.
+-- When a call is refused, in the words of docs/MACHINE.md: the number, and the offset that it carries.
 use mathlib.Core.Path.{_≡_}
 use mathlib.Core.Logic.{_≢_}
 use mathlib.Core.Bool.{false, true}

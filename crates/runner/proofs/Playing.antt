@@ -26,7 +26,7 @@ use Rattle.run.specs.Running.{RunSays}
 
 -- ---- what the runner counts on after its run
 
--- the run of document 01
+-- Turns 11: the run that the runner makes
 abbrev pub theRun : Program → Running
 theRun pr = runTables 60000 small pr (freshTables pr)
 

@@ -19,7 +19,7 @@ abbrev pub tablesAfter : Stepping → Tables → Tables
 tablesAfter (unmade k) t = t
 tablesAfter (made m t′) t = t′
 
--- Turns 3, Refusals 10, 11, 23: the step in tables that keep the rules; they keep them afterwards, and no count shrinks
+-- Turns 3, Tables 4, Refusals 10, 11, 23: the step in tables that keep the rules; they keep them afterwards, and no count shrinks
 pub record SteppedSays (s : List ℕ) (r c : ℕ) (l : Lent) (p : ℕ) (a : Stepped) (h ps vs : List ℕ) : Type 0 where
   pub answer : a ≡ stepAnswer (stepIn s r c l p) l .answer
   pub head : h ≡ stepAnswer (stepIn s r c l p) l .lent .head

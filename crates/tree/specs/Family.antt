@@ -13,11 +13,11 @@ use Rattle.parlog.specs.declared.Process.{Process}
 unfoldable pub slept : List Process → ℕ → ℕ → Process
 slept ps p i = asleep (below ps p i) (at ps i)
 
--- Tags and modes, 5: every process below p becomes dormant
+-- Tags 5: every process below p becomes dormant
 unfoldable pub sleptBelow : List Process → ℕ → List Process
 sleptBelow ps p = build (slept ps p) (length ps)
 
--- Tables 3: every process but the first has a parent of a lower number
+-- Tables 3e: every process but the first has a parent of a lower number
 abbrev pub Falls : List Process → Type 0
 Falls ps = (i : ℕ) → i < length ps → i ≢ 0 → at ps i .parent < i
 
