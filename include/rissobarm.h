@@ -24,8 +24,14 @@ extern "C" {
 
 enum {
     RISSOBARM_IMAGE_LIMIT = 32768,   /* bytes of an image */
+    RISSOBARM_RECORD_HEAD = 4,       /* bytes of a record before its body: two of length, two of kind */
     RISSOBARM_RELATION_LIMIT = 32,   /* relations of an image */
     RISSOBARM_CLAUSE_LIMIT = 64,     /* clauses of an image */
+    RISSOBARM_BLOCK_LIMIT = 8,       /* clauses of a parallel block */
+    RISSOBARM_ARITY_LIMIT = 4,       /* arguments of a relation */
+    RISSOBARM_OWN_LIMIT = 16,        /* variables of a clause, or of the goal */
+    RISSOBARM_STAGE_LIMIT = 8,       /* stages of a goal */
+    RISSOBARM_LITERAL_LIMIT = 8,     /* literals of a goal, over all its stages */
     RISSOBARM_CONSTANT_LIMIT = 32767 /* the highest constant */
 };
 
@@ -33,11 +39,114 @@ enum {
 enum {
     RISSOBARM_PROCESS_LIMIT = 512,   /* rows of the process table */
     RISSOBARM_VARIABLE_LIMIT = 1024, /* rows of the variable table */
+    RISSOBARM_NOTE_LIMIT = 4,        /* variables that a suspended process notes */
     RISSOBARM_PROCESS_ROW = 24,      /* bytes of a process row */
     RISSOBARM_VARIABLE_ROW = 4,      /* bytes of a variable row */
     RISSOBARM_HEAD_SIZE = 10,        /* bytes of the head */
     RISSOBARM_PROCS_SIZE = RISSOBARM_PROCESS_LIMIT * RISSOBARM_PROCESS_ROW,
     RISSOBARM_VARS_SIZE = RISSOBARM_VARIABLE_LIMIT * RISSOBARM_VARIABLE_ROW
+};
+
+/* ---- images ---- */
+
+/* Kinds of records. */
+enum {
+    RISSOBARM_RECORD_RELATION = 1,
+    RISSOBARM_RECORD_CLAUSE = 2,
+    RISSOBARM_RECORD_GOAL = 3
+};
+
+/* What literals and terms hold. */
+enum {
+    RISSOBARM_EQUALITY = 255,       /* the relation number of equality, which has two arguments */
+    RISSOBARM_TERM_VARIABLE = 32768 /* a term below is a constant, one from here on a variable, counted from 0 */
+};
+
+/* ---- the head ---- */
+
+/* Where its fields stand. All numbers of the lent rows are little-endian. */
+enum {
+    RISSOBARM_HEAD_PROCS = 0, /* process count, 2 bytes */
+    RISSOBARM_HEAD_VARS = 2,  /* variable count, 2 bytes */
+    RISSOBARM_HEAD_LAST = 4,  /* turn marker: the process last stepped, 2 bytes */
+    RISSOBARM_HEAD_STEPS = 6  /* turn marker: steps taken so far, 4 bytes */
+};
+
+/* ---- process rows ---- */
+
+/* Where the fields of a process row stand: a byte each where nothing else is said. */
+enum {
+    RISSOBARM_ROW_TAG = 0,
+    RISSOBARM_ROW_MODE = 1,
+    RISSOBARM_ROW_RESULT = 2,
+    RISSOBARM_ROW_NOTE_COUNT = 3,
+    RISSOBARM_ROW_PARENT = 4,   /* 2 bytes */
+    RISSOBARM_ROW_KIND = 6,     /* goal kind */
+    RISSOBARM_ROW_CLAUSE = 7,   /* clause of that goal */
+    RISSOBARM_ROW_BASE = 8,     /* first variable of that goal, 2 bytes */
+    RISSOBARM_ROW_STAGE = 10,   /* stage of that goal */
+    RISSOBARM_ROW_LITERAL = 11, /* literal of the stage */
+    RISSOBARM_ROW_BLOCK = 12,   /* block of the relation called, from 0 */
+    RISSOBARM_ROW_FOUND = 13,   /* clause found or tried */
+    RISSOBARM_ROW_FIRST = 14,   /* first variable of that clause, 2 bytes */
+    RISSOBARM_ROW_NOTES = 16    /* the variables noted, RISSOBARM_NOTE_LIMIT of 2 bytes */
+};
+
+/* Tags. */
+enum {
+    RISSOBARM_TAG_AND_PAR = 0,
+    RISSOBARM_TAG_AND_SEQ = 1,
+    RISSOBARM_TAG_OR_PAR = 2,
+    RISSOBARM_TAG_SEQ_SEARCH = 3,
+    RISSOBARM_TAG_OR_SEARCH = 4,
+    RISSOBARM_TAG_TRY_CLAUSE = 5,
+    RISSOBARM_TAG_INPUT_MATCH = 6,
+    RISSOBARM_TAG_GUARD_EVAL = 7,
+    RISSOBARM_TAG_EQUATE = 8,
+    RISSOBARM_TAG_COUNT = 9
+};
+
+/* Modes; a process is live in every mode but the first. */
+enum {
+    RISSOBARM_MODE_DORMANT = 0,
+    RISSOBARM_MODE_READY = 1,
+    RISSOBARM_MODE_STARTING = 2,
+    RISSOBARM_MODE_WAITING = 3,
+    RISSOBARM_MODE_REPORTING = 4,
+    RISSOBARM_MODE_SUSPENDED = 5,
+    RISSOBARM_MODE_COUNT = 6
+};
+
+/* Results. */
+enum {
+    RISSOBARM_RESULT_NONE = 0,
+    RISSOBARM_RESULT_SUCCESS = 1,
+    RISSOBARM_RESULT_FAILURE = 2,
+    RISSOBARM_RESULT_COUNT = 3
+};
+
+/* Goal kinds. */
+enum {
+    RISSOBARM_GOAL_IMAGE = 0, /* the image's goal */
+    RISSOBARM_GOAL_GUARD = 1, /* the guard of the clause */
+    RISSOBARM_GOAL_BODY = 2,  /* the committed body of the clause */
+    RISSOBARM_GOAL_COUNT = 3
+};
+
+/* ---- variable rows ---- */
+
+/* Where the fields of a variable row stand. */
+enum {
+    RISSOBARM_CELL_SORT = 0,  /* 1 byte */
+    RISSOBARM_CELL_NUMBER = 1 /* of the constant or variable, 3 bytes; 0 when unbound */
+};
+
+/* Sorts: what a variable row holds, and what the value of a variable is. */
+enum {
+    RISSOBARM_SORT_UNBOUND = 0,  /* of a row alone */
+    RISSOBARM_SORT_CONSTANT = 1, /* a constant */
+    RISSOBARM_SORT_VARIABLE = 2, /* of a row: a lower variable; of a value: an unbound one */
+    RISSOBARM_SORT_COUNT = 3
 };
 
 /* ---- refusal numbers ---- */
@@ -57,7 +166,8 @@ enum {
     RISSOBARM_ROOM = 11,    /* its move does not fit into the tables any more */
     RISSOBARM_NOVAR = 12,   /* the goal has no such variable */
     RISSOBARM_BOUND = 13,   /* that variable has its value */
-    RISSOBARM_CONST = 14    /* the value is no constant of an image */
+    RISSOBARM_CONST = 14,   /* the value is no constant of an image */
+    RISSOBARM_REFUSAL_COUNT = 14
 };
 
 /* ---- rules: what a step did ---- */
@@ -114,14 +224,8 @@ enum {
     RISSOBARM_END_FAILURE = 2, /* the goal has ended in failure */
     RISSOBARM_END_WAITING = 3, /* nothing can move before a value is supplied */
     RISSOBARM_END_ROOM = 4,    /* the next step does not fit into the tables */
-    RISSOBARM_END_BUDGET = 5   /* the limit is used up */
-};
-
-/* ---- sorts: what a variable's value is ---- */
-
-enum {
-    RISSOBARM_SORT_CONSTANT = 1, /* a constant */
-    RISSOBARM_SORT_VARIABLE = 2  /* an unbound variable */
+    RISSOBARM_END_BUDGET = 5,  /* the limit is used up */
+    RISSOBARM_END_COUNT = 5
 };
 
 /* ---- answers ---- */
