@@ -35,7 +35,7 @@ enum {
     RISSOBARM_CONSTANT_LIMIT = 32767 /* the highest constant */
 };
 
-/* The three rows of a run; a row that is lent with another length is refused 8. */
+/* The three rows of a run; a row that is lent with another length is refused 8. Only the watch takes any length. */
 enum {
     RISSOBARM_PROCESS_LIMIT = 512,   /* rows of the process table */
     RISSOBARM_VARIABLE_LIMIT = 1024, /* rows of the variable table */
@@ -160,7 +160,7 @@ enum {
     RISSOBARM_NAME = 5,     /* something is named that is not there, or a clause is out of place */
     RISSOBARM_MANY = 6,     /* one relation, clause or clause of a block too many */
     RISSOBARM_NOGOAL = 7,   /* there is no goal */
-    RISSOBARM_STATE = 8,    /* the lent rows are no tables of a run of this image */
+    RISSOBARM_STATE = 8,    /* the tables break a table rule, or a lent row has another length */
     RISSOBARM_NODE = 9,     /* there is no such process */
     RISSOBARM_STILL = 10,   /* it has nothing to do */
     RISSOBARM_ROOM = 11,    /* its move does not fit into the tables any more */
@@ -222,7 +222,7 @@ enum {
 enum {
     RISSOBARM_END_SUCCESS = 1, /* the goal has ended in success */
     RISSOBARM_END_FAILURE = 2, /* the goal has ended in failure */
-    RISSOBARM_END_WAITING = 3, /* nothing can move before a value is supplied */
+    RISSOBARM_END_WAITING = 3, /* nothing can move, until a supply binds a variable that is noted, or for ever */
     RISSOBARM_END_ROOM = 4,    /* the next step does not fit into the tables */
     RISSOBARM_END_BUDGET = 5,  /* the limit is used up */
     RISSOBARM_END_COUNT = 5
@@ -236,7 +236,8 @@ enum {
  * call answers stands at the call. Every bit that is not named is 0.
  *
  * Every call that takes an image tests it first, as the load does, and may refuse with 1 to 7. Then come the lent rows:
- * 8 when one is not of its full length or, in every call but the start, when they are no tables of a run of that image.
+ * 8 when one is not of its full length or, in every call but the start, when the tables break a table rule. Tables that
+ * keep the rules are taken, whether a run makes them or not.
  */
 
 /* The refusal number of any answer; RISSOBARM_ACCEPTED for none. */
@@ -288,8 +289,9 @@ uint64_t rissobarm_step(const uint8_t *image, size_t image_len, uint8_t *head, s
                         uint32_t process);
 
 /*
- * Makes the move of the process whose turn it is: the first that can move after the one last stepped. Answers as a step
- * does. Refused: 1 to 8; 10 when nothing can move; 11 when there is no room for that process's move.
+ * Makes the move of the process whose turn it is: the first that can move after the one last stepped, by number, round
+ * from the last process to process 0 and on to the one last stepped itself. Answers as a step does. Refused: 1 to 8; 10
+ * when nothing can move; 11 when there is no room for that process's move.
  */
 uint64_t rissobarm_turn(const uint8_t *image, size_t image_len, uint8_t *head, size_t head_len,
                         uint8_t *procs, size_t procs_len, uint8_t *vars, size_t vars_len);
