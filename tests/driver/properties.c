@@ -97,13 +97,21 @@ static bool ended(const struct rows *rows)
     return rows->procs[RISSOBARM_ROW_MODE] == RISSOBARM_MODE_DORMANT;
 }
 
+/* The end that the result of an ended goal means. */
+static unsigned end_of(const struct rows *rows)
+{
+    bool success = rows->procs[RISSOBARM_ROW_RESULT] == RISSOBARM_RESULT_SUCCESS;
+
+    return success ? RISSOBARM_END_SUCCESS : RISSOBARM_END_FAILURE;
+}
+
 /* Why the run stops where it does. */
 static bool stops_right(const struct bed *bed, struct rows *rows, unsigned end, bool used_up)
 {
     unsigned refusal;
 
     if (ended(rows))
-        return end == rows->procs[RISSOBARM_ROW_RESULT];
+        return end == end_of(rows);
     refusal = rissobarm_refusal(call_turn(bed, rows));
     switch (end) {
     case RISSOBARM_END_WAITING:
