@@ -2,38 +2,34 @@
 use mathlib.Core.Path.{_∙_, _≡_, ap, sym}
 use mathlib.Core.Bool.{Bool, false, true}
 use mathlib.Core.List.{[], _∷_, List}
-use Prim.Native.Nat.{_<_, suc, zero, ℕ}
+use Prim.Native.Nat.{_<_, suc, ℕ}
 use lib.Dec.{ltb}
-use lib.ListN.{getD, length}
+use lib.ListN.{length}
 use borrow.Author.Tests.{eq-eqb, le-ltb, lt-ltb, ne-eqb}
-use native.Mathlib.Nat.{le-of-suc-le-suc, not-suc-le-zero}
-use Rattle.parlog.proofs.Bools.{or-right}
 use Rattle.parlog.proofs.Coded.{code-mode, code-tag}
 use Rattle.parlog.proofs.Decided.{binds-decides, fails-decides, input-tells, matches-complete, suspends-decides, Tells}
 use Rattle.parlog.proofs.Effects.{after-only}
 use Rattle.parlog.proofs.Good.{Good}
 use Rattle.parlog.proofs.Held.{older-tells}
 use Rattle.parlog.proofs.Kin.{all-fail, all-not-any, all-test, any-test, hears-bad, hears-good, lowest-child-is, no-lowest-child}
+use Rattle.parlog.proofs.Noted.{bound-noted}
 use Rattle.parlog.proofs.Placed.{called-only, committed-only, first-only, literal-only, members-only, stage-only, tries-only, works-only}
 use Rattle.parlog.proofs.Says.{agrees-below, agrees-just, agrees-none, there}
 use Rattle.parlog.specs.Codes.{and-par, and-seq, dormant, equate, failure, guard-eval, input-match, or-par, or-search, ready, reporting, seq-search, starting, success, suspended, Tag, tagCode, the-body, the-guard, try-clause, waiting}
 use Rattle.parlog.specs.Delta.{apply, atBlock, atStage, blockSpot, callSpot, Delta, guardSpot, literalSpot, making, only, report, reporting-with, trySpot, withMode, withNotes, withSpot, woken}
-use Rattle.parlog.specs.Notions.{After, Becomes, Below, HasMode, Is, Just, me, Nobody, none-left, Notes, Older}
+use Rattle.parlog.specs.Notions.{After, Becomes, Below, HasMode, Is, Just, me, Nobody, none-left, NoteBound, Notes, Older}
 use Rattle.parlog.specs.Program.{argument, blockCount, blockOf, clauseAt, Literal, literalAt, modesAt, Program, tagOfGoal, tagOfStage}
 use Rattle.parlog.specs.Relation.{and-par-failure, and-par-start, and-par-success, and-seq-failure, and-seq-next, and-seq-start, and-seq-success, equate-bind, equate-failure, equate-success, equate-suspend, Equating, guard-eval-empty, guard-eval-failure, guard-eval-start, guard-eval-success, input-match-bind, input-match-failure, input-match-success, input-match-suspend, InputOf, Matching, or-par-failure, or-par-spawn, or-par-start, or-par-success, or-search-commit, or-search-failure, or-search-start, ready-rule, Rule, seq-search-failure, seq-search-next, seq-search-none, seq-search-start, seq-search-success, spotOf, stop-rule, try-clause-failure, try-clause-start, try-clause-success, wake-rule, WithClauseOf}
 use Rattle.parlog.specs.Rules.{andParStart, andParWait, andSeqStart, andSeqWait, blockAt, bodyChild, by-rule, equateAt, equateStart, guardEvalStart, guardEvalWait, inputMatchStart, matchAt, members, orParHeard, orParStart, orParWait, orSearchStart, orSearchWait, ruleIn, ruleOf, searching, seqSearchNext, seqSearchStart, seqSearchWait, startRule, stopRule, tries, triesVars, tryClauseStart, tryClauseWait, waitRule, wakeRule, withFound}
-use Rattle.parlog.specs.Tables.{at, bindingOf, goalSpot, low, newProcess, noted, State}
+use Rattle.parlog.specs.Tables.{at, goalSpot, low, newProcess, noted, State}
 use Rattle.parlog.specs.Tree.{enclosing, firstOf}
-use Rattle.parlog.specs.Unify.{binds, decide, Decided, equateOf, fails, inputValue, isBound, matchOf, shift, someBound, suspends}
-use Rattle.parlog.specs.declared.Binding.{Binding}
-use Rattle.parlog.specs.declared.Binding.the-variants.{Bound}
+use Rattle.parlog.specs.Unify.{binds, decide, Decided, equateOf, fails, inputValue, matchOf, shift, someBound, suspends}
 use Rattle.parlog.specs.declared.Change.{Change}
 use Rattle.parlog.specs.declared.Found.the-variants.{At, Nothing}
 use Rattle.parlog.specs.declared.Move.{Move}
 use Rattle.parlog.specs.declared.Move.the-variants.{Ready, Stop, Wake}
 use Rattle.parlog.specs.declared.Pair.{Pair}
 use Rattle.parlog.specs.declared.Process.{Process}
-use Rattle.parlog.specs.declared.Term.{Term}
 
 pub record Computes (pr : Program) (s : State) (p : ℕ) (m : Move) (s′ : State) : Type 0 where
   pub delta : Delta
@@ -89,15 +85,9 @@ module _ (pr : Program) (s : State) (g : Good s) (p : ℕ) where
 
   -- ---- wake
 
-  noted-bound : (vs : List Binding) (ns : List ℕ) (k : ℕ) {t : Term} → k < length ns → bindingOf vs (getD ns k 0) ≡ Bound t → someBound vs ns ≡ true
-  unfolding someBound
-  noted-bound vs [] k h b = absurd (not-suc-le-zero h)
-  noted-bound vs (v ∷ ns) zero h b = rw b
-  noted-bound vs (v ∷ ns) (suc k) h b = or-right (isBound (bindingOf vs v)) (someBound vs ns) (noted-bound vs ns k (le-of-suc-le-suc h) b)
-
-  wake-computes : {s′ : State} (k : ℕ) {t : Term} → HasMode s p suspended → k < length (noted x) → bindingOf (s .vars) (getD (noted x) k 0) ≡ Bound t → Becomes s p (woken x) s′ → Computes pr s p (Wake p) s′
+  wake-computes : {s′ : State} → HasMode s p suspended → NoteBound s p → Becomes s p (woken x) s′ → Computes pr s p (Wake p) s′
   unfolding wakeRule
-  wake-computes k m h b a = record { delta = only (woken x); rule = by-wake m ∙ rw (noted-bound (s .vars) (noted x) k h b); state = only-none (there s p 4 m) a }
+  wake-computes m b a = record { delta = only (woken x); rule = by-wake m ∙ rw (bound-noted s p b); state = only-none (there s p 4 m) a }
 
   stop-computes : {s′ : State} → HasMode s p reporting → p ≡ 0 → Becomes s p (withMode dormant x) s′ → Computes pr s p (Stop 0) s′
   unfolding stopRule
@@ -142,7 +132,7 @@ module _ (pr : Program) (s : State) (g : Good s) (p : ℕ) where
   pub computes : {m : Move} {s′ : State} → Rule pr s p m s′ → Computes pr s p m s′
   unfolding startRule waitRule andParStart andParWait andSeqStart andSeqWait orParStart orParHeard orParWait bodyChild searching seqSearchStart seqSearchNext seqSearchWait withFound orSearchStart orSearchWait blockAt tryClauseStart tryClauseWait inputMatchStart guardEvalStart guardEvalWait equateStart
   computes (ready-rule m a) = record { delta = only (withMode starting x); rule = by-ready m; state = only-none (there s p 0 m) a }
-  computes (wake-rule k m h b a) = wake-computes k m h b a
+  computes (wake-rule m b a) = wake-computes m b a
   computes (stop-rule m e a) = stop-computes m e a
   computes (and-par-start {new = new} i st per f a) =
       let z = stage-only pr (x .spot) st in

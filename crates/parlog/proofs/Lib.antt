@@ -22,6 +22,7 @@ pub mod Moves
 pub mod Kept
 pub mod Assume
 pub mod Held
+pub mod Noted
 pub mod Says
 pub mod Computes
 pub mod Exact

@@ -7,7 +7,7 @@ use lib.ListN.{getD, length, replicate}
 use Rattle.parlog.specs.Codes.{dormant, guard-eval, Mode, modeCode, ready, reporting, Result, resultCode, Tag, tagCode, try-clause}
 use Rattle.parlog.specs.Delta.{literalSpot, trySpot, withMode, withResult}
 use Rattle.parlog.specs.Program.{Clause, clauseAt, Goal, Literal, modesAt, noLiteral, Program, tagOfLiteral, varsOf}
-use Rattle.parlog.specs.Tables.{at, bindingOf, fresh, newProcess, State}
+use Rattle.parlog.specs.Tables.{at, bindingOf, fresh, newProcess, noted, State}
 use Rattle.parlog.specs.Tree.{below, latest, reports}
 use Rattle.parlog.specs.Unify.{change, changed, shift}
 use Rattle.parlog.specs.declared.Binding.{Binding}
@@ -191,6 +191,13 @@ pub data Notes (Held : ℕ → Type 0) : List Change → List ℕ → Type 0 whe
   none-left : Notes Held [] []
   a-note : {c : Change} {cs : List Change} {ns : List ℕ} → Held (c .var) → Notes Held cs ns → Notes Held (c ∷ cs) (c .var ∷ ns)
   no-note : {c : Change} {cs : List Change} {ns : List ℕ} → (Held (c .var) → ⊥) → Notes Held cs ns → Notes Held (c ∷ cs) ns
+
+-- Tags 37: one of the variables that p has noted is bound
+pub record NoteBound (s : State) (p : ℕ) : Type 0 where
+  pub which : ℕ
+  pub there : which < length (noted (me s p))
+  pub to : Term
+  pub bound : bindingOf (s .vars) (getD (noted (me s p)) which 0) ≡ Bound to
 
 -- ---- the tables after a move
 

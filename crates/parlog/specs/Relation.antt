@@ -7,18 +7,16 @@ use lib.ListN.{getD, length}
 use Rattle.parlog.specs.Codes.{and-par, and-seq, dormant, equate, failure, guard-eval, input-match, or-par, or-search, ready, reporting, seq-search, starting, success, suspended, the-body, the-guard, try-clause, waiting}
 use Rattle.parlog.specs.Delta.{atBlock, atStage, blockSpot, callSpot, guardSpot, literalSpot, trySpot, withClause, withMode, withNotes, withSpot, woken}
 use Rattle.parlog.specs.Limits.{Limits}
-use Rattle.parlog.specs.Notions.{After, AllReport, AtLiteral, AtStage, Becomes, Committed, Creates, Ends, Fails, FirstMade, HasMode, HasTag, Hears, InputValue, Is, Just, LowestReports, Matches, me, Nobody, Notes, Older, PerLiteral, ReportsWith, SomeReports, Trials, Unifies, Works}
+use Rattle.parlog.specs.Notions.{After, AllReport, AtLiteral, AtStage, Becomes, Committed, Creates, Ends, Fails, FirstMade, HasMode, HasTag, Hears, InputValue, Is, Just, LowestReports, Matches, me, Nobody, NoteBound, Notes, Older, PerLiteral, ReportsWith, SomeReports, Trials, Unifies, Works}
 use Rattle.parlog.specs.Program.{argument, blockCount, blockOf, clauseAt, Goal, Literal, modesAt, Program, tagOfGoal, tagOfStage}
-use Rattle.parlog.specs.Tables.{bindingOf, goalSpot, newProcess, noted, State}
+use Rattle.parlog.specs.Tables.{goalSpot, newProcess, State}
 use Rattle.parlog.specs.Unify.{shift}
-use Rattle.parlog.specs.declared.Binding.the-variants.{Bound}
 use Rattle.parlog.specs.declared.Change.{Change}
 use Rattle.parlog.specs.declared.Move.{Move}
 use Rattle.parlog.specs.declared.Move.the-variants.{AndParFailure, AndParStart, AndParSuccess, AndSeqFailure, AndSeqNext, AndSeqStart, AndSeqSuccess, EquateBind, EquateFailure, EquateSuccess, EquateSuspend, GuardEvalEmpty, GuardEvalFailure, GuardEvalStart, GuardEvalSuccess, InputMatchBind, InputMatchFailure, InputMatchSuccess, InputMatchSuspend, OrParFailure, OrParSpawn, OrParStart, OrParSuccess, OrSearchCommit, OrSearchFailure, OrSearchStart, Ready, SeqSearchFailure, SeqSearchNext, SeqSearchNone, SeqSearchStart, SeqSearchSuccess, Stop, TryClauseFailure, TryClauseStart, TryClauseSuccess, Wake}
 use Rattle.parlog.specs.declared.Pair.{Pair}
 use Rattle.parlog.specs.declared.Process.{Process}
 use Rattle.parlog.specs.declared.Spot.{Spot}
-use Rattle.parlog.specs.declared.Term.{Term}
 use Rattle.parlog.specs.declared.Term.the-variants.{Var}
 
 -- the places that p names
@@ -56,8 +54,7 @@ pub data Rule (pr : Program) (s : State) (p : ℕ) : Move → State → Type 0 w
   -- rule 1, Tags 9
   ready-rule : {s′ : State} → HasMode s p ready → Becomes s p (withMode starting (me s p)) s′ → Rule pr s p (Ready p) s′
   -- rule 2, Tags 37
-  wake-rule : {s′ : State} {t : Term} (k : ℕ) → HasMode s p suspended → k < length (noted (me s p)) → bindingOf (s .vars) (getD (noted (me s p)) k 0) ≡ Bound t
-      → Becomes s p (woken (me s p)) s′ → Rule pr s p (Wake p) s′
+  wake-rule : {s′ : State} → HasMode s p suspended → NoteBound s p → Becomes s p (woken (me s p)) s′ → Rule pr s p (Wake p) s′
   -- rule 3, Tags 38
   stop-rule : {s′ : State} → HasMode s p reporting → p ≡ 0 → Becomes s p (withMode dormant (me s p)) s′ → Rule pr s p (Stop 0) s′
   -- rule 4, Tags 12
