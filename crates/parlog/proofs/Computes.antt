@@ -13,12 +13,13 @@ use Rattle.parlog.proofs.Good.{Good}
 use Rattle.parlog.proofs.Held.{older-tells}
 use Rattle.parlog.proofs.Kin.{all-fail, all-not-any, all-test, any-test, hears-bad, hears-good, lowest-child-is, no-lowest-child}
 use Rattle.parlog.proofs.Noted.{bound-noted}
+use Rattle.parlog.proofs.Openers.{block-counted, block-only, clause-counted, no-block-counted, no-clause-counted}
 use Rattle.parlog.proofs.Placed.{called-only, committed-only, first-only, literal-only, members-only, stage-only, tries-only, works-only}
 use Rattle.parlog.proofs.Says.{agrees-below, agrees-just, agrees-none, there}
 use Rattle.parlog.specs.Codes.{and-par, and-seq, dormant, equate, failure, guard-eval, input-match, or-par, or-search, ready, reporting, seq-search, starting, success, suspended, Tag, tagCode, the-body, the-guard, try-clause, waiting}
 use Rattle.parlog.specs.Delta.{apply, atBlock, atStage, blockSpot, callSpot, Delta, guardSpot, literalSpot, making, only, report, reporting-with, trySpot, withMode, withNotes, withSpot, woken}
 use Rattle.parlog.specs.Notions.{After, Becomes, Below, HasMode, Is, Just, me, Nobody, none-left, NoteBound, Notes, Older}
-use Rattle.parlog.specs.Program.{argument, blockCount, blockOf, clauseAt, Literal, literalAt, modesAt, Program, tagOfGoal, tagOfStage}
+use Rattle.parlog.specs.Program.{argument, blockCount, clauseAt, Literal, literalAt, modesAt, Program, tagOfGoal, tagOfStage}
 use Rattle.parlog.specs.Relation.{and-par-failure, and-par-start, and-par-success, and-seq-failure, and-seq-next, and-seq-start, and-seq-success, equate-bind, equate-failure, equate-success, equate-suspend, Equating, guard-eval-empty, guard-eval-failure, guard-eval-start, guard-eval-success, input-match-bind, input-match-failure, input-match-success, input-match-suspend, InputOf, Matching, or-par-failure, or-par-spawn, or-par-start, or-par-success, or-search-commit, or-search-failure, or-search-start, ready-rule, Rule, seq-search-failure, seq-search-next, seq-search-none, seq-search-start, seq-search-success, spotOf, stop-rule, try-clause-failure, try-clause-start, try-clause-success, wake-rule, WithClauseOf}
 use Rattle.parlog.specs.Rules.{andParStart, andParWait, andSeqStart, andSeqWait, blockAt, bodyChild, by-rule, equateAt, equateStart, guardEvalStart, guardEvalWait, inputMatchStart, matchAt, members, orParHeard, orParStart, orParWait, orSearchStart, orSearchWait, ruleIn, ruleOf, searching, seqSearchNext, seqSearchStart, seqSearchWait, startRule, stopRule, tries, triesVars, tryClauseStart, tryClauseWait, waitRule, wakeRule, withFound}
 use Rattle.parlog.specs.Tables.{at, goalSpot, low, newProcess, noted, State}
@@ -167,29 +168,29 @@ module _ (pr : Program) (s : State) (g : Good s) (p : ℕ) where
   computes (or-par-success {c = c} i h t a) =
       record { delta = report success x; rule = by-wait or-par i ∙ rw (hears-good s p h, ne-eqb (me s c .tag) (tagCode seq-search) t); state = only-below (at-wait or-par i) a }
   computes (or-par-failure i h a) = record { delta = report failure x; rule = by-wait or-par i ∙ rw (hears-bad s p h); state = only-below (at-wait or-par i) a }
-  computes (seq-search-none i k e a) =
-      record { delta = report failure x; rule = by-start seq-search i ∙ rw (called-only pr s p k, e); state = only-below (at-start seq-search i) a }
+  computes (seq-search-none {r = r} i k e a) =
+      record { delta = report failure x; rule = by-start seq-search i ∙ rw (called-only pr s p k, no-clause-counted pr r e); state = only-below (at-start seq-search i) a }
   computes (seq-search-start {r = r} i k h a) =
       record {
         delta = making (withSpot waiting (atBlock 0 (x .spot)) x) Nothing (newProcess or-search starting p (blockSpot (x .spot) 0) ∷ []) 0;
-        rule = by-start seq-search i ∙ rw (called-only pr s p k, lt-ltb 0 (blockCount pr r) h);
+        rule = by-start seq-search i ∙ rw (called-only pr s p k, lt-ltb 0 (blockCount pr r) (clause-counted pr r h));
         state = only-none (at-start seq-search i) a;
       }
   computes (seq-search-next {r = r} {c} i h k l a) =
       record {
         delta = making (withSpot waiting (atBlock (suc (x .spot .block)) (x .spot)) x) (At c) (newProcess or-search starting p (blockSpot (x .spot) (suc (x .spot .block))) ∷ []) 0;
-        rule = by-wait seq-search i ∙ rw (hears-bad s p h, called-only pr s p k, lt-ltb (suc (x .spot .block)) (blockCount pr r) l);
+        rule = by-wait seq-search i ∙ rw (hears-bad s p h, called-only pr s p k, lt-ltb (suc (x .spot .block)) (blockCount pr r) (block-counted pr r (suc (x .spot .block)) l));
         state = only-just (at-wait seq-search i) a;
       }
   computes (seq-search-success {c = c} i h a) =
       record { delta = report success (WithClauseOf s c p); rule = by-wait seq-search i ∙ rw (hears-good s p h); state = only-below (at-wait seq-search i) a }
   computes (seq-search-failure {r = r} i h k l a) =
-      record { delta = report failure x; rule = by-wait seq-search i ∙ rw (hears-bad s p h, called-only pr s p k, le-ltb (suc (x .spot .block)) (blockCount pr r) l); state = only-below (at-wait seq-search i) a }
-  computes (or-search-start {r = r} {new = new} i k t f a) =
+      record { delta = report failure x; rule = by-wait seq-search i ∙ rw (hears-bad s p h, called-only pr s p k, le-ltb (suc (x .spot .block)) (blockCount pr r) (no-block-counted pr r (suc (x .spot .block)) l)); state = only-below (at-wait seq-search i) a }
+  computes (or-search-start {r = r} {ks = ks} {new} i k g t f a) =
       let w = tries-only pr p (x .spot) t in
       record {
-        delta = making (withMode waiting x) Nothing (tries pr p (x .spot) (length (s .vars)) (blockOf pr r (x .spot .block))) (triesVars pr (blockOf pr r (x .spot .block)));
-        rule = by-start or-search i ∙ rw (called-only pr s p k, first-only s p f, w .0);
+        delta = making (withMode waiting x) Nothing (tries pr p (x .spot) (length (s .vars)) ks) (triesVars pr ks);
+        rule = by-start or-search i ∙ rw (called-only pr s p k, block-only pr r (x .spot .block) g, first-only s p f, w .0);
         state = only-none (at-start or-search i) (rw (w .0, w .1) at a);
       }
   computes (or-search-commit {c = c} i l a) =

@@ -3,6 +3,8 @@ pub mod Bools
 pub mod Scans
 pub mod Along
 pub mod Blocks
+pub mod Listing
+pub mod Openers
 pub mod Coded
 pub mod Rows
 pub mod Kin

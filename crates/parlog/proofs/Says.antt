@@ -15,6 +15,7 @@ use Rattle.parlog.proofs.Good.{Good}
 use Rattle.parlog.proofs.Held.{older-tells}
 use Rattle.parlog.proofs.Kin.{all-at, any-at, below-at, below-test, heard-bad, heard-good, Kin, lowest-child-at}
 use Rattle.parlog.proofs.Noted.{note-bound}
+use Rattle.parlog.proofs.Openers.{block-counted, block-is, clause-counted, has-block, has-clause}
 use Rattle.parlog.proofs.Placed.{called-is, committed-is, first-is, literal-is, members-are, stage-is, tries-are, works-is}
 use Rattle.parlog.specs.Codes.{and-par, and-seq, dormant, equate, failure, guard-eval, input-match, isTag, Mode, modeCode, modeOf, or-par, or-search, ready, reporting, Result, seq-search, starting, success, suspended, Tag, tagCode, tagOf, the-guard, try-clause, waiting}
 use Rattle.parlog.specs.Delta.{apply, atBlock, atStage, blockSpot, callSpot, Delta, guardSpot, literalSpot, making, only, reporting-with, trySpot, withMode, withNotes, withResult, withSpot, woken}
@@ -133,16 +134,18 @@ module _ (pr : Program) (s : State) (g : Good s) (p : ℕ) where
     unfolding seqSearchStart searching
     says-search-start i false q =
         let l = ltb-false 0 (blockCount pr rel) q in
-        says-rule (seq-search-none i (called-is pr s p kind) (omega arith) (reports-so low failure x []))
+        says-rule (seq-search-none i (called-is pr s p kind) (λ c. let m = clause-counted pr rel c in omega arith) (reports-so low failure x []))
     says-search-start i true q =
-        says-rule (seq-search-start i (called-is pr s p kind) (ltb-true 0 (blockCount pr rel) q)
+        says-rule (seq-search-start i (called-is pr s p kind) (has-clause pr rel (ltb-true 0 (blockCount pr rel) q))
         (creates low (withSpot waiting (atBlock 0 (x .spot)) x) (newProcess or-search starting p (blockSpot (x .spot) 0) ∷ []) 0))
 
     says-search-next : Is s p seq-search waiting → (c : ℕ) → Hears s p c failure → (b : Bool) → ltb (suc (x .spot .block)) (blockCount pr rel) ≡ b → Says pr s p (seqSearchNext b s p x c)
     unfolding seqSearchNext searching
-    says-search-next i c h false q = says-rule (seq-search-failure i h (called-is pr s p kind) (ltb-false (suc (x .spot .block)) (blockCount pr rel) q) (reports-so low failure x []))
+    says-search-next i c h false q =
+        let l = ltb-false (suc (x .spot .block)) (blockCount pr rel) q in
+        says-rule (seq-search-failure i h (called-is pr s p kind) (λ g. let m = block-counted pr rel (suc (x .spot .block)) g in omega arith) (reports-so low failure x []))
     says-search-next i c h true q =
-        says-rule (seq-search-next i h (called-is pr s p kind) (ltb-true (suc (x .spot .block)) (blockCount pr rel) q)
+        says-rule (seq-search-next i h (called-is pr s p kind) (has-block pr rel (suc (x .spot .block)) (ltb-true (suc (x .spot .block)) (blockCount pr rel) q))
         (replaces low c (withSpot waiting (atBlock (suc (x .spot .block)) (x .spot)) x) (newProcess or-search starting p (blockSpot (x .spot) (suc (x .spot .block))) ∷ []) 0))
 
     says-search-wait : Is s p seq-search waiting → (h : Heard) → heard (s .procs) p ≡ h → Says pr s p (seqSearchWait h (blockCount pr rel) s p x)
@@ -237,7 +240,7 @@ module _ (pr : Program) (s : State) (g : Good s) (p : ℕ) where
     says-start or-par i = says-rule (or-par-start i (creates low (withMode waiting x) (newProcess seq-search starting p (callSpot (x .spot)) ∷ []) 0))
     says-start seq-search i = says-search-start i (ltb 0 (blockCount pr rel)) refl
     says-start or-search i =
-        says-rule (or-search-start i (called-is pr s p kind) (tries-are pr p (x .spot) (length (s .vars)) (blockOf pr rel (x .spot .block)))
+        says-rule (or-search-start i (called-is pr s p kind) (block-is pr rel (x .spot .block)) (tries-are pr p (x .spot) (length (s .vars)) (blockOf pr rel (x .spot .block)))
         (first-is s p (tries pr p (x .spot) (length (s .vars)) (blockOf pr rel (x .spot .block))))
         (creates low (withMode waiting x) (tries pr p (x .spot) (length (s .vars)) (blockOf pr rel (x .spot .block))) (triesVars pr (blockOf pr rel (x .spot .block)))))
     says-start try-clause i =

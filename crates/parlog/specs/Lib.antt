@@ -21,6 +21,8 @@ pub mod Text
 pub mod Opened
 pub mod Cases
 pub mod Stories
+pub mod Listed
+pub mod Clauses
 pub mod Notions
 pub mod Relation
 pub mod Demands
