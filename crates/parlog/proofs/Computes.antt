@@ -14,8 +14,9 @@ use Rattle.parlog.proofs.Held.{older-tells}
 use Rattle.parlog.proofs.Kin.{all-fail, all-not-any, all-test, any-test, hears-bad, hears-good, lowest-child-is, no-lowest-child}
 use Rattle.parlog.proofs.Noted.{bound-noted}
 use Rattle.parlog.proofs.Openers.{block-counted, block-only, clause-counted, no-block-counted, no-clause-counted}
-use Rattle.parlog.proofs.Placed.{called-only, committed-only, first-only, literal-only, members-only, stage-only, tries-only, works-only}
+use Rattle.parlog.proofs.Placed.{called-only, committed-only, first-only, literal-only, members-only, stage-only, works-only}
 use Rattle.parlog.proofs.Says.{agrees-below, agrees-just, agrees-none, there}
+use Rattle.parlog.proofs.Trying.{tries-only}
 use Rattle.parlog.specs.Codes.{and-par, and-seq, dormant, equate, failure, guard-eval, input-match, or-par, or-search, ready, reporting, seq-search, starting, success, suspended, Tag, tagCode, the-body, the-guard, try-clause, waiting}
 use Rattle.parlog.specs.Delta.{apply, atBlock, atStage, blockSpot, callSpot, Delta, guardSpot, literalSpot, making, only, report, reporting-with, trySpot, withMode, withNotes, withSpot, woken}
 use Rattle.parlog.specs.Notions.{After, Becomes, Below, HasMode, Is, Just, me, Nobody, none-left, NoteBound, Notes, Older}

@@ -5,6 +5,7 @@ pub mod Along
 pub mod Blocks
 pub mod Listing
 pub mod Openers
+pub mod Trying
 pub mod Coded
 pub mod Rows
 pub mod Kin

@@ -1,10 +1,12 @@
 -- Laws of lists by what is in them: there is one for each notion, and a scan gives it.
-use mathlib.Core.Path.{_∙_, _≡_, refl, sym}
+use mathlib.Core.Path.{_∙_, _≡_, ap, refl, sym}
 use mathlib.Core.Logic.{_⊎_, inl, inr}
 use mathlib.Core.Bool.{Bool, cond, false, true}
 use mathlib.Core.List.{[], _++_, _∷_, List}
 use Prim.Native.Nat.{_<_, suc, zero, ℕ}
+use lib.ListN.{getD, length}
 use native.Mathlib.Omega.{arith}
+use native.Mathlib.Nat.{le-of-suc-le-suc, not-suc-le-zero}
 use Rattle.parlog.proofs.Bools.{never}
 use Rattle.parlog.proofs.Scans.{below-suc}
 use Rattle.parlog.specs.Listed.{Among, at-head, further, Listed, lower-first, no-number, Rising}
@@ -69,6 +71,9 @@ listed-same {ks = ks} {js} a b = same-numbers ks js (a .rising) (b .rising) (λ 
 pub listed-as : {P Q : ℕ → Type 0} {ks : List ℕ} → ((k : ℕ) → P k → Q k) → ((k : ℕ) → Q k → P k) → Listed P ks → Listed Q ks
 listed-as f g a = record { rising = a .rising; inside = λ k q. f k (a .inside k q); all = λ k q. a .all k (g k q) }
 
+pub none-listed : {P : ℕ → Type 0} → ((k : ℕ) → P k → ⊥) → Listed P []
+none-listed n = record { rising = no-number; inside = λ k a. absurd (none-among a refl); all = λ k p. absurd (n k p) }
+
 -- ---- the numbers that pass a test
 
 rising-last : (ks : List ℕ) (n : ℕ) → Rising ks → ((j : ℕ) → Among j ks → j < n) → Rising (ks ++ (n ∷ []))
@@ -101,9 +106,65 @@ those-same t n e a = listed-as (λ k p. (omega (arith, p .0), p .1)) (λ k p. be
 
 pub those-listed : (t : ℕ → Bool) (n : ℕ) → Listed (Passes t n) (those t n)
 unfolding those
-those-listed t zero = record { rising = no-number; inside = λ k a. absurd (none-among a refl); all = λ k p. absurd (let l = p .0 in omega arith) }
+those-listed t zero = none-listed (λ k p. let l = p .0 in omega arith)
 those-listed t (suc n) = go (t n) refl (those-listed t n)
   where
     go : (b : Bool) → t n ≡ b → Listed (Passes t n) (those t n) → Listed (Passes t (suc n)) (cond b (those t n ++ (n ∷ [])) (those t n))
     go true e a = those-more t n e a
     go false e a = those-same t n e a
+
+-- ---- numbers that count on by one
+
+unfoldable pub sucs : List ℕ → List ℕ
+sucs [] = []
+sucs (k ∷ ks) = suc k ∷ sucs ks
+
+sucs-among : {k : ℕ} {ks : List ℕ} → Among k ks → Among (suc k) (sucs ks)
+unfolding sucs
+sucs-among at-head = at-head
+sucs-among (further a) = further (sucs-among a)
+
+among-sucs : {j : ℕ} (ks : List ℕ) → Among j (sucs ks) → (k : ℕ) × (j ≡ suc k) × Among k ks
+unfolding sucs
+among-sucs [] a = absurd (none-among a refl)
+among-sucs (k ∷ ks) at-head = (k, refl, at-head)
+among-sucs (k ∷ ks) (further a) = let (i, e, b) = among-sucs ks a in (i, e, further b)
+
+sucs-rising : (ks : List ℕ) → Rising ks → Rising (sucs ks)
+unfolding sucs
+sucs-rising [] r = no-number
+sucs-rising (k ∷ ks) r = lower-first {k = suc k} (λ j a. let (i, e, b) = among-sucs ks a in let l = rises-first r i b in omega arith) (sucs-rising ks (rises-rest r))
+
+pub sucs-length : (ks : List ℕ) → length (sucs ks) ≡ length ks
+unfolding sucs
+sucs-length [] = refl
+sucs-length (k ∷ ks) = ap suc (sucs-length ks)
+
+pub sucs-at : (ks : List ℕ) (j : ℕ) → j < length ks → getD (sucs ks) j 0 ≡ suc (getD ks j 0)
+unfolding sucs
+sucs-at [] j h = absurd (not-suc-le-zero h)
+sucs-at (k ∷ ks) zero h = refl
+sucs-at (k ∷ ks) (suc j) h = sucs-at ks j (le-of-suc-le-suc h)
+
+-- a notion that does not hold of 0, and one that does
+module _ (P : ℕ → Type 0) {ks : List ℕ} (a : Listed (λ k. P (suc k)) ks) where
+  from-suc : (k : ℕ) → Among k (sucs ks) → P k
+  from-suc k q = let (i, e, b) = among-sucs ks q in rw e (a .inside i b)
+
+  pub listed-skip : (P 0 → ⊥) → Listed P (sucs ks)
+  listed-skip n = record { rising = sucs-rising ks (a .rising); inside = from-suc; all = go }
+    where
+      go : (k : ℕ) → P k → Among k (sucs ks)
+      go zero p = absurd (n p)
+      go (suc k) p = sucs-among (a .all k p)
+
+  pub listed-take : P 0 → Listed P (0 ∷ sucs ks)
+  listed-take z = record { rising = lower-first {k = 0} (λ j q. let (i, e, b) = among-sucs ks q in omega arith) (sucs-rising ks (a .rising)); inside = on; all = go }
+    where
+      on : (k : ℕ) → Among k (0 ∷ sucs ks) → P k
+      on k at-head = z
+      on k (further q) = from-suc k q
+
+      go : (k : ℕ) → P k → Among k (0 ∷ sucs ks)
+      go zero p = at-head
+      go (suc k) p = further (sucs-among (a .all k p))

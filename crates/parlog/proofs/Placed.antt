@@ -2,21 +2,20 @@
 use mathlib.Core.Path.{_∙_, _≡_, ap, refl, sym}
 use mathlib.Core.Bool.{Bool, cond, false, true}
 use mathlib.Core.List.{[], _∷_, List}
-use Prim.Native.Nat.{_+_, _<_, suc, ℕ}
+use Prim.Native.Nat.{_<_, suc, ℕ}
 use lib.ListN.{length}
 use lib.Seq.{ext-getD}
 use borrow.Author.Tests.{eq-eqb, eqb-false, eqb-true, ne-eqb}
 use native.Mathlib.Omega.{arith}
 use Rattle.parlog.proofs.Coded.{kind-code}
 use Rattle.parlog.proofs.Scans.{build-at, build-length}
-use Rattle.parlog.specs.Codes.{Kind, kindCode, kindOf, ready, the-body, the-goal, the-guard, try-clause}
-use Rattle.parlog.specs.Delta.{trySpot}
+use Rattle.parlog.specs.Codes.{Kind, kindCode, kindOf, the-body, the-goal, the-guard}
 use Rattle.parlog.specs.Image.{isInput}
-use Rattle.parlog.specs.Notions.{a-new-one, a-trial, an-output, as-it-stands, AtLiteral, AtStage, Committed, FirstMade, in-body, in-front, in-goal, in-guard, itself, no-argument, no-term, no-trial, one-stage, Outputs, OutputsOf, PerLiteral, skip-input, Trials, Works}
-use Rattle.parlog.specs.Program.{before, Clause, clauseAt, committedBody, equation, Goal, goalAt, goalBy, Literal, literalAt, modesAt, outputs, Program, stageAt, varsOf}
+use Rattle.parlog.specs.Notions.{a-new-one, an-output, as-it-stands, AtLiteral, AtStage, Committed, FirstMade, in-body, in-front, in-goal, in-guard, itself, no-argument, no-term, one-stage, Outputs, OutputsOf, PerLiteral, skip-input, Works}
+use Rattle.parlog.specs.Program.{before, Clause, clauseAt, committedBody, equation, Goal, goalAt, goalBy, Literal, literalAt, modesAt, outputs, Program, stageAt}
 use Rattle.parlog.specs.Relation.{Called, spotOf}
-use Rattle.parlog.specs.Rules.{firstMade, member, members, memberTag, tries, triesVars}
-use Rattle.parlog.specs.Tables.{idle, newProcess, State}
+use Rattle.parlog.specs.Rules.{firstMade, member, members, memberTag}
+use Rattle.parlog.specs.Tables.{idle, State}
 use Rattle.parlog.specs.declared.Process.{Process}
 use Rattle.parlog.specs.declared.Spot.{Spot}
 use Rattle.parlog.specs.declared.Term.{Term}
@@ -107,18 +106,6 @@ pub members-only : (pr : Program) (p : ℕ) (z : Spot) {new : List Process} → 
 members-only pr p z {new} a =
     let b = members-are pr p z in
     ext-getD idle new (members pr p z) (a .count ∙ sym (b .count)) (λ i h. let c = a .count in a .child i (omega arith) ∙ sym (b .child i (omega arith)))
-
-pub tries-are : (pr : Program) (p : ℕ) (z : Spot) (v : ℕ) (ks : List ℕ) → Trials pr p z v ks (tries pr p z v ks) (triesVars pr ks)
-unfolding tries triesVars
-tries-are pr p z v [] = no-trial
-tries-are pr p z v (k ∷ ks) = a-trial (tries-are pr p z (v + varsOf pr k) ks)
-
-pub tries-only : (pr : Program) (p : ℕ) (z : Spot) {v : ℕ} {ks : List ℕ} {ys : List Process} {n : ℕ} → Trials pr p z v ks ys n → (ys ≡ tries pr p z v ks) × (n ≡ triesVars pr ks)
-unfolding tries triesVars
-tries-only pr p z no-trial = (refl, refl)
-tries-only pr p z (a-trial {v} {k} {n} t) =
-    let r = tries-only pr p z t in
-    (ap (λ l. newProcess try-clause ready p (trySpot z k v) ∷ l) (r .0), ap (λ m. varsOf pr k + m) (r .1))
 
 pub first-is : (s : State) (p : ℕ) (new : List Process) → FirstMade s p new (firstMade s p new)
 first-is s p [] = itself

@@ -16,7 +16,8 @@ use Rattle.parlog.proofs.Held.{older-tells}
 use Rattle.parlog.proofs.Kin.{all-at, any-at, below-at, below-test, heard-bad, heard-good, Kin, lowest-child-at}
 use Rattle.parlog.proofs.Noted.{note-bound}
 use Rattle.parlog.proofs.Openers.{block-counted, block-is, clause-counted, has-block, has-clause}
-use Rattle.parlog.proofs.Placed.{called-is, committed-is, first-is, literal-is, members-are, stage-is, tries-are, works-is}
+use Rattle.parlog.proofs.Placed.{called-is, committed-is, first-is, literal-is, members-are, stage-is, works-is}
+use Rattle.parlog.proofs.Trying.{tries-are}
 use Rattle.parlog.specs.Codes.{and-par, and-seq, dormant, equate, failure, guard-eval, input-match, isTag, Mode, modeCode, modeOf, or-par, or-search, ready, reporting, Result, seq-search, starting, success, suspended, Tag, tagCode, tagOf, the-guard, try-clause, waiting}
 use Rattle.parlog.specs.Delta.{apply, atBlock, atStage, blockSpot, callSpot, Delta, guardSpot, literalSpot, making, only, reporting-with, trySpot, withMode, withNotes, withResult, withSpot, woken}
 use Rattle.parlog.specs.Notions.{After, Becomes, Below, HasMode, Hears, Is, Just, me, Nobody, Older, ReportsWith}

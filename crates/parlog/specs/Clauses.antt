@@ -1,10 +1,12 @@
--- The blocks of a relation in words of the relation of the rules: who opens one, where block b begins, and which clauses it has.
+-- In words of the relation of the rules: the blocks of a relation (who opens one, where block b begins, which clauses it has), its output
+-- arguments, and the variables of a clause.
 use mathlib.Core.Path.{_≡_}
+use mathlib.Core.Logic.{_≢_}
 use mathlib.Core.List.{List}
-use Prim.Native.Nat.{_<_, _≤_, suc, ℕ}
-use lib.ListN.{length}
+use Prim.Native.Nat.{_+_, _<_, _≤_, suc, ℕ}
+use lib.ListN.{getD, length}
 use Rattle.parlog.specs.Listed.{Listed}
-use Rattle.parlog.specs.Program.{clauseAt, Program}
+use Rattle.parlog.specs.Program.{clauseAt, modesAt, Program}
 
 -- Image 5: clause k is there, and of relation r
 pub record ClauseOf (pr : Program) (r k : ℕ) : Type 0 where
@@ -49,3 +51,13 @@ pub record HasClause (pr : Program) (r : ℕ) : Type 0 where
 pub record HasBlock (pr : Program) (r b : ℕ) : Type 0 where
   pub opener : ℕ
   pub begins : Begins pr r b opener
+
+-- Image 3: the places of the output arguments, in order; past the last mode a place reads as input
+abbrev pub OutputPlaces : List ℕ → List ℕ → Type 0
+OutputPlaces ms is = Listed (λ i. getD ms i 0 ≢ 0) is
+
+-- Tags 24: a copy of clause k gets n variables: its own, and one for each output argument of its relation
+pub record HasVars (pr : Program) (k n : ℕ) : Type 0 where
+  pub places : List ℕ
+  pub outputs : OutputPlaces (modesAt pr (clauseAt pr k .rel)) places
+  pub count : n ≡ clauseAt pr k .vars + length places

@@ -4,9 +4,10 @@ use mathlib.Core.Logic.{_≢_}
 use mathlib.Core.List.{[], _++_, _∷_, List}
 use Prim.Native.Nat.{_+_, _<_, _≤_, suc, ℕ}
 use lib.ListN.{getD, length, replicate}
+use Rattle.parlog.specs.Clauses.{HasVars}
 use Rattle.parlog.specs.Codes.{dormant, guard-eval, Mode, modeCode, ready, reporting, Result, resultCode, Tag, tagCode, try-clause}
 use Rattle.parlog.specs.Delta.{literalSpot, trySpot, withMode, withResult}
-use Rattle.parlog.specs.Program.{Clause, clauseAt, Goal, Literal, modesAt, noLiteral, Program, tagOfLiteral, varsOf}
+use Rattle.parlog.specs.Program.{Clause, clauseAt, Goal, Literal, modesAt, noLiteral, Program, tagOfLiteral}
 use Rattle.parlog.specs.Tables.{at, bindingOf, fresh, newProcess, noted, State}
 use Rattle.parlog.specs.Tree.{below, latest, reports}
 use Rattle.parlog.specs.Unify.{change, changed, shift}
@@ -244,8 +245,12 @@ pub record PerLiteral (p : ℕ) (z : Spot) (st : List Literal) (new : List Proce
   pub count : length new ≡ length st
   pub child : (j : ℕ) → j < length st → at new j ≡ newProcess (tagOfLiteral (getD st j noLiteral)) ready p (literalSpot z j)
 
--- Tags 10, 24: a ready try-clause for each clause, in order, its variables counting on from v; n are made in all
-pub data Trials (pr : Program) (p : ℕ) (z : Spot) : ℕ → List ℕ → List Process → ℕ → Type 0 where
-  no-trial : {v : ℕ} → Trials pr p z v [] [] 0
-  a-trial : {v k n : ℕ} {ks : List ℕ} {ys : List Process} → Trials pr p z (v + varsOf pr k) ks ys n
-      → Trials pr p z v (k ∷ ks) (newProcess try-clause ready p (trySpot z k v) ∷ ys) (varsOf pr k + n)
+-- Tags 10, 24: a ready try-clause for each clause, in order; the variables of the first begin at v, those of each other behind those of the one
+-- before, and n are made in all
+pub record Trials (pr : Program) (p : ℕ) (z : Spot) (v : ℕ) (ks : List ℕ) (new : List Process) (n : ℕ) : Type 0 where
+  pub first : ℕ → ℕ
+  pub count : length new ≡ length ks
+  pub child : (j : ℕ) → j < length ks → at new j ≡ newProcess try-clause ready p (trySpot z (getD ks j 0) (first j))
+  pub begins : first 0 ≡ v
+  pub goes-on : (j m : ℕ) → j < length ks → HasVars pr (getD ks j 0) m → first (suc j) ≡ first j + m
+  pub ends : first (length ks) ≡ v + n
