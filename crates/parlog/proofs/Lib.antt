@@ -6,6 +6,7 @@ pub mod Blocks
 pub mod Listing
 pub mod Openers
 pub mod Trying
+pub mod Outputs
 pub mod Coded
 pub mod Rows
 pub mod Kin

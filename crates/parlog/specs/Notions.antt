@@ -7,6 +7,7 @@ use lib.ListN.{getD, length, replicate}
 use Rattle.parlog.specs.Clauses.{HasVars}
 use Rattle.parlog.specs.Codes.{dormant, guard-eval, Mode, modeCode, ready, reporting, Result, resultCode, Tag, tagCode, try-clause}
 use Rattle.parlog.specs.Delta.{literalSpot, trySpot, withMode, withResult}
+use Rattle.parlog.specs.Listed.{Listed}
 use Rattle.parlog.specs.Program.{Clause, clauseAt, Goal, Literal, modesAt, noLiteral, Program, tagOfLiteral}
 use Rattle.parlog.specs.Tables.{at, bindingOf, fresh, newProcess, noted, State}
 use Rattle.parlog.specs.Tree.{below, latest, reports}
@@ -96,13 +97,12 @@ pub record UnderGuard (s : State) (p : ℕ) : Type 0 where
 
 -- ---- the committed body
 
--- Tags 41: an equation per output argument
-pub data Outputs : List ℕ → List Term → ℕ → List Literal → Type 0 where
-  no-argument : {ts : List Term} {v : ℕ} → Outputs [] ts v []
-  no-term : {m : ℕ} {ms : List ℕ} {v : ℕ} → Outputs (m ∷ ms) [] v []
-  skip-input : {m : ℕ} {ms : List ℕ} {t : Term} {ts : List Term} {v : ℕ} {es : List Literal} → m ≡ 0 → Outputs ms ts v es → Outputs (m ∷ ms) (t ∷ ts) v es
-  an-output : {m : ℕ} {ms : List ℕ} {t : Term} {ts : List Term} {v : ℕ} {es : List Literal} → m ≢ 0 → Outputs ms ts (suc v) es
-      → Outputs (m ∷ ms) (t ∷ ts) v (record { rel = 255; args = t ∷ Var v ∷ [] } ∷ es)
+-- Tags 41: an equation per output argument that the head has a term for, in order; the variables count on from v
+pub record Outputs (ms : List ℕ) (ts : List Term) (v : ℕ) (es : List Literal) : Type 0 where
+  pub places : List ℕ
+  pub outputs : Listed (λ i. (getD ms i 0 ≢ 0) × (i < length ts)) places
+  pub count : length es ≡ length places
+  pub equation : (j : ℕ) → j < length places → getD es j noLiteral ≡ record { rel = 255; args = getD ts (getD places j 0) (Const 0) ∷ Var (v + j) ∷ [] }
 
 -- Tags 41: those of a clause
 abbrev pub OutputsOf : Program → Clause → List Literal → Type 0
