@@ -7,11 +7,12 @@ use lib.Dec.{ltb}
 use lib.ListN.{length}
 use borrow.Author.Tests.{eq-eqb, le-ltb, lt-ltb, ne-eqb}
 use Rattle.parlog.proofs.Coded.{code-mode, code-tag}
-use Rattle.parlog.proofs.Decided.{binds-decides, fails-decides, input-tells, matches-complete, suspends-decides, Tells}
+use Rattle.parlog.proofs.Decided.{binds-decides, fails-decides, input-tells, suspends-decides, Tells}
 use Rattle.parlog.proofs.Effects.{after-only}
 use Rattle.parlog.proofs.Good.{Good}
 use Rattle.parlog.proofs.Held.{older-tells}
 use Rattle.parlog.proofs.Kin.{all-fail, all-not-any, all-test, any-test, hears-bad, hears-good, lowest-child-is, no-lowest-child}
+use Rattle.parlog.proofs.Matched.{matches-complete}
 use Rattle.parlog.proofs.Noted.{bound-noted}
 use Rattle.parlog.proofs.Openers.{block-counted, block-only, clause-counted, no-block-counted, no-clause-counted}
 use Rattle.parlog.proofs.Placed.{called-only, committed-only, first-only, literal-only, members-only, stage-only, works-only}

@@ -7,6 +7,7 @@ pub mod Listing
 pub mod Openers
 pub mod Trying
 pub mod Outputs
+pub mod Matched
 pub mod Coded
 pub mod Rows
 pub mod Kin

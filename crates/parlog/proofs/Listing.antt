@@ -39,6 +39,10 @@ among-either [] a = inr a
 among-either (j ∷ ks) at-head = inl at-head
 among-either (j ∷ ks) (further a) = on-either (among-either ks a)
 
+pub among-at : {k : ℕ} {ks : List ℕ} → Among k ks → (i : ℕ) × (i < length ks) × (getD ks i 0 ≡ k)
+among-at at-head = (0, omega arith, refl)
+among-at (further a) = let (i, h, e) = among-at a in (suc i, omega arith, e)
+
 -- ---- one list for each notion
 
 rises-first : {k : ℕ} {ks : List ℕ} → Rising (k ∷ ks) → (j : ℕ) → Among j ks → k < j

@@ -9,11 +9,12 @@ use borrow.Author.Tests.{eqb-false, eqb-true, ltb-false, ltb-true}
 use native.Mathlib.Omega.{arith}
 use Rattle.parlog.proofs.Bools.{never, or-none, split}
 use Rattle.parlog.proofs.Coded.{mode-code, tag-code}
-use Rattle.parlog.proofs.Decided.{decide-binds, decide-fails, decide-suspends, input-tells, matches-sound, Tells}
+use Rattle.parlog.proofs.Decided.{decide-binds, decide-fails, decide-suspends, input-tells, Tells}
 use Rattle.parlog.proofs.Effects.{after-apply, Agrees}
 use Rattle.parlog.proofs.Good.{Good}
 use Rattle.parlog.proofs.Held.{older-tells}
 use Rattle.parlog.proofs.Kin.{all-at, any-at, below-at, below-test, heard-bad, heard-good, Kin, lowest-child-at}
+use Rattle.parlog.proofs.Matched.{matches-sound}
 use Rattle.parlog.proofs.Noted.{note-bound}
 use Rattle.parlog.proofs.Openers.{block-counted, block-is, clause-counted, has-block, has-clause}
 use Rattle.parlog.proofs.Placed.{called-is, committed-is, first-is, literal-is, members-are, stage-is, works-is}

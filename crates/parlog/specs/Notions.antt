@@ -4,7 +4,7 @@ use mathlib.Core.Logic.{_≢_}
 use mathlib.Core.List.{[], _++_, _∷_, List}
 use Prim.Native.Nat.{_+_, _<_, _≤_, suc, ℕ}
 use lib.ListN.{getD, length, replicate}
-use Rattle.parlog.specs.Clauses.{HasVars}
+use Rattle.parlog.specs.Clauses.{HasVars, OutputPlaces}
 use Rattle.parlog.specs.Codes.{dormant, guard-eval, Mode, modeCode, ready, reporting, Result, resultCode, Tag, tagCode, try-clause}
 use Rattle.parlog.specs.Delta.{literalSpot, trySpot, withMode, withResult}
 use Rattle.parlog.specs.Listed.{Listed}
@@ -165,15 +165,20 @@ pub data Fails : List Binding → List Pair → Type 0 where
   fails-later : {vs : List Binding} {e : Pair} {es : List Pair} {a b : Term} {bs : List Change}
       → Leads vs (e .left) a → Leads vs (e .right) b → Meets a b bs → Fails (changed vs bs) es → Fails vs (e ∷ es)
 
--- Tags 28: the call's arguments beside the head's
-pub data Matches (base first : ℕ) : List ℕ → List Term → List Term → ℕ → List Pair → Type 0 where
-  no-mode : {xs ts : List Term} {out : ℕ} → Matches base first [] xs ts out []
-  no-call : {m : ℕ} {ms : List ℕ} {ts : List Term} {out : ℕ} → Matches base first (m ∷ ms) [] ts out []
-  no-head : {m : ℕ} {ms : List ℕ} {a : Term} {xs : List Term} {out : ℕ} → Matches base first (m ∷ ms) (a ∷ xs) [] out []
-  input : {m : ℕ} {ms : List ℕ} {a t : Term} {xs ts : List Term} {out : ℕ} {es : List Pair} → m ≡ 0 → Matches base first ms xs ts out es
-      → Matches base first (m ∷ ms) (a ∷ xs) (t ∷ ts) out (record { left = shift base a; right = shift first t } ∷ es)
-  output : {m : ℕ} {ms : List ℕ} {a t : Term} {xs ts : List Term} {out : ℕ} {es : List Pair} → m ≢ 0 → Matches base first ms xs ts (out + 1) es
-      → Matches base first (m ∷ ms) (a ∷ xs) (t ∷ ts) out (record { left = shift base a; right = Var (first + out) } ∷ es)
+-- what is read past the last pair
+abbrev pub noPair : Pair
+noPair = record { left = Const 0; right = Const 0 }
+
+-- Tags 28: the call's arguments beside the head's, place by place as far as modes, call and head go; output argument j of the head gives way to
+-- the clause's variable out + j
+pub record Matches (base first : ℕ) (ms : List ℕ) (xs ts : List Term) (out : ℕ) (es : List Pair) : Type 0 where
+  pub places : List ℕ
+  pub outputs : OutputPlaces ms places
+  pub within : (i : ℕ) → i < length es → (i < length ms) × (i < length xs) × (i < length ts)
+  pub all : (i : ℕ) → i < length ms → i < length xs → i < length ts → i < length es
+  pub call : (i : ℕ) → i < length es → getD es i noPair .left ≡ shift base (getD xs i (Const 0))
+  pub input : (i : ℕ) → i < length es → getD ms i 0 ≡ 0 → getD es i noPair .right ≡ shift first (getD ts i (Const 0))
+  pub output : (j : ℕ) → j < length places → getD places j 0 < length es → getD es (getD places j 0) noPair .right ≡ Var (first + (out + j))
 
 -- Tags 30: in_var: some input argument leads to v
 pub data InputValue (vs : List Binding) (base v : ℕ) : List ℕ → List Term → Type 0 where
