@@ -11,6 +11,7 @@ pub mod Matched
 pub mod Coded
 pub mod Rows
 pub mod Kin
+pub mod Changing
 pub mod Effects
 pub mod Placed
 pub mod Values

@@ -11,7 +11,7 @@ use Rattle.parlog.specs.Listed.{Listed}
 use Rattle.parlog.specs.Program.{Clause, clauseAt, Goal, Literal, modesAt, noLiteral, Program, tagOfLiteral}
 use Rattle.parlog.specs.Tables.{at, bindingOf, fresh, newProcess, noted, State}
 use Rattle.parlog.specs.Tree.{below, latest, reports}
-use Rattle.parlog.specs.Unify.{change, changed, shift}
+use Rattle.parlog.specs.Unify.{change, shift}
 use Rattle.parlog.specs.declared.Binding.{Binding}
 use Rattle.parlog.specs.declared.Binding.the-variants.{Bound, Free}
 use Rattle.parlog.specs.declared.Change.{Change}
@@ -153,17 +153,28 @@ pub data Meets : Term → Term → List Change → Type 0 where
 pub data Clashes : Term → Term → Type 0 where
   different : {a b : ℕ} → a ≢ b → Clashes (Const a) (Const b)
 
+-- what is read past the last change
+abbrev pub noChange : Change
+noChange = change 0 (Const 0)
+
+-- the bindings ws are vs after changes: a variable that was changed is bound as the last of its changes says, any other as it was
+pub record Changed (vs : List Binding) (cs : List Change) (ws : List Binding) : Type 0 where
+  pub count : length ws ≡ length vs
+  pub bound : (v i : ℕ) → v < length vs → i < length cs → getD cs i noChange .var ≡ v → ((k : ℕ) → i < k → k < length cs → getD cs k noChange .var ≢ v)
+      → bindingOf ws v ≡ Bound (getD cs i noChange .to)
+  pub kept : (v : ℕ) → ((i : ℕ) → i < length cs → getD cs i noChange .var ≢ v) → bindingOf ws v ≡ bindingOf vs v
+
 -- Tags 28: pair by pair from the left, each side by where it leads; what is bound, in order
 pub data Unifies : List Binding → List Pair → List Change → Type 0 where
   all-done : {vs : List Binding} → Unifies vs [] []
-  one-done : {vs : List Binding} {e : Pair} {es : List Pair} {a b : Term} {bs cs : List Change}
-      → Leads vs (e .left) a → Leads vs (e .right) b → Meets a b bs → Unifies (changed vs bs) es cs → Unifies vs (e ∷ es) (bs ++ cs)
+  one-done : {vs ws : List Binding} {e : Pair} {es : List Pair} {a b : Term} {bs cs : List Change}
+      → Leads vs (e .left) a → Leads vs (e .right) b → Meets a b bs → Changed vs bs ws → Unifies ws es cs → Unifies vs (e ∷ es) (bs ++ cs)
 
 -- Tags 29: some pair on the way clashes
 pub data Fails : List Binding → List Pair → Type 0 where
   fails-here : {vs : List Binding} {e : Pair} {es : List Pair} {a b : Term} → Leads vs (e .left) a → Leads vs (e .right) b → Clashes a b → Fails vs (e ∷ es)
-  fails-later : {vs : List Binding} {e : Pair} {es : List Pair} {a b : Term} {bs : List Change}
-      → Leads vs (e .left) a → Leads vs (e .right) b → Meets a b bs → Fails (changed vs bs) es → Fails vs (e ∷ es)
+  fails-later : {vs ws : List Binding} {e : Pair} {es : List Pair} {a b : Term} {bs : List Change}
+      → Leads vs (e .left) a → Leads vs (e .right) b → Meets a b bs → Changed vs bs ws → Fails ws es → Fails vs (e ∷ es)
 
 -- what is read past the last pair
 abbrev pub noPair : Pair
@@ -214,7 +225,7 @@ pub record After (s : State) (p : ℕ) (self : Process) (Sleeps : ℕ → Type 0
   pub slept : (i : ℕ) → i < length (s .procs) → i ≢ p → Sleeps i → me s′ i ≡ withMode dormant (me s i)
   pub kept : (i : ℕ) → i < length (s .procs) → i ≢ p → (Sleeps i → ⊥) → me s′ i ≡ me s i
   pub created : (j : ℕ) → j < length new → me s′ (length (s .procs) + j) ≡ at new j
-  pub bindings : s′ .vars ≡ changed (s .vars ++ replicate fresh Free) cs
+  pub bindings : Changed (s .vars ++ replicate fresh Free) cs (s′ .vars)
 
 -- nobody falls asleep
 abbrev pub Nobody : ℕ → Type 0
