@@ -26,14 +26,14 @@ pub record Opens (pr : Program) (r k : ℕ) : Type 0 where
   pub alone : Joins pr k → ⊥
 
 -- Image 6: block b begins at clause k: the first that opens one, or the next behind the beginning of the block before
-pub data Begins (pr : Program) (r : ℕ) : ℕ → ℕ → Type 0 where
-  first-block : {k : ℕ} → Opens pr r k → ((i : ℕ) → Opens pr r i → k ≤ i) → Begins pr r 0 k
-  next-block : {b j k : ℕ} → Begins pr r b j → Opens pr r k → j < k → ((i : ℕ) → Opens pr r i → j < i → k ≤ i) → Begins pr r (suc b) k
+pub data BeginsAt (pr : Program) (r : ℕ) : ℕ → ℕ → Type 0 where
+  first-block : {k : ℕ} → Opens pr r k → ((i : ℕ) → Opens pr r i → k ≤ i) → BeginsAt pr r 0 k
+  next-block : {b j k : ℕ} → BeginsAt pr r b j → Opens pr r k → j < k → ((i : ℕ) → Opens pr r i → j < i → k ≤ i) → BeginsAt pr r (suc b) k
 
 -- Image 6: clause k is of block b: of the relation, not before the clause that opens the block, and before the next that opens one
 pub record InBlock (pr : Program) (r b k : ℕ) : Type 0 where
   pub opener : ℕ
-  pub begins : Begins pr r b opener
+  pub begins : BeginsAt pr r b opener
   pub clause : ClauseOf pr r k
   pub behind : opener ≤ k
   pub before-next : (i : ℕ) → Opens pr r i → opener < i → k < i
@@ -50,7 +50,7 @@ pub record HasClause (pr : Program) (r : ℕ) : Type 0 where
 -- Tags 22: the relation has a block b
 pub record HasBlock (pr : Program) (r b : ℕ) : Type 0 where
   pub opener : ℕ
-  pub begins : Begins pr r b opener
+  pub begins : BeginsAt pr r b opener
 
 -- Image 3: the places of the output arguments, in order; past the last mode a place reads as input
 abbrev pub OutputPlaces : List ℕ → List ℕ → Type 0
