@@ -1,4 +1,4 @@
--- A dozen runs told in full and computed from the bytes of their images: every turn with its process, its rule and the number of what it touched,
+-- Fifteen runs told in full and computed from the bytes of their images: every turn with its process, its rule and the number of what it touched,
 -- then end, processes, bindings and notes. They shut out machines that change what function and relation of the rules share, and together
 -- make every rule.
 use mathlib.Core.Path.{_≡_, refl}
