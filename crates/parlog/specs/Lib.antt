@@ -20,6 +20,9 @@ pub mod Calls
 pub mod Text
 pub mod Opened
 pub mod Cases
+pub mod Stories
+pub mod Listed
+pub mod Clauses
 pub mod Notions
 pub mod Relation
 pub mod Demands

@@ -13,10 +13,10 @@ use Rattle.parlog.proofs.Fair.{served}
 use Rattle.parlog.proofs.Repeated.{deadlock-waiting, runs-only}
 use Rattle.parlog.proofs.Stuck.{deadlock, ended-all}
 use Rattle.parlog.specs.Codes.{dormant, suspended}
-use Rattle.parlog.specs.Demands.{a-supply, a-turn, aborted, another-moves, Deadlock, Event, events-over, has-no-room, is-not-supplied, is-supplied, moves-itself, NoteBound, Served}
+use Rattle.parlog.specs.Demands.{a-supply, a-turn, aborted, another-moves, Deadlock, Event, events-over, has-no-room, is-not-supplied, is-supplied, moves-itself, Served}
 use Rattle.parlog.specs.Limits.{small}
 use Rattle.parlog.specs.Load.{loadOf}
-use Rattle.parlog.specs.Notions.{HasMode}
+use Rattle.parlog.specs.Notions.{HasMode, NoteBound}
 use Rattle.parlog.specs.Numbers.{endNumber}
 use Rattle.parlog.specs.Program.{Program, programOf}
 use Rattle.parlog.specs.Run.{canMove, Running}
