@@ -2,6 +2,7 @@
 -- Image, Refusals, Tables, Tags and Turns with the numbers of docs/SENTENCES.md.
 pub mod Scan
 pub mod Codes
+pub mod Records
 pub mod Image
 pub mod Program
 pub mod Body
