@@ -5,7 +5,6 @@ use mathlib.Core.List.{List}
 use Prim.Native.Nat.{_*_, _<_, _≤_, ℕ}
 use lib.Dec.{leb, ltb}
 use lib.ListN.{length}
-use Rattle.load.specs.Reading.{row}
 use Rattle.parlog.specs.Calls.{SupplyCall, supplyCall}
 use Rattle.parlog.specs.Limits.{small}
 use Rattle.parlog.specs.Load.{refusal}

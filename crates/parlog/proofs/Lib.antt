@@ -2,6 +2,7 @@
 pub mod Bools
 pub mod Scans
 pub mod Along
+pub mod Walk
 pub mod Blocks
 pub mod Listing
 pub mod Openers

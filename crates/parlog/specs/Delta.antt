@@ -5,7 +5,6 @@ use Prim.Native.Nat.{ℕ}
 use lib.Dec.{eqb}
 use lib.ListN.{getD, length, replicate}
 use Rattle.parlog.specs.Codes.{dormant, Mode, modeCode, reporting, Result, resultCode, starting, suspended}
-use Rattle.parlog.specs.Load.{cut}
 use Rattle.parlog.specs.Scan.{build}
 use Rattle.parlog.specs.Tables.{at, fresh, noNotes, nowhere, State}
 use Rattle.parlog.specs.Tree.{below}

@@ -2,6 +2,7 @@
 -- there, and the page names the definition at each of them (tests/machine.py).
 pub mod Scan
 pub mod Codes
+pub mod Records
 pub mod Image
 pub mod Program
 pub mod Body

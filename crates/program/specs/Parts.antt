@@ -5,11 +5,10 @@ use Prim.Native.Nat.{_+_, _≤_, suc, zero, ℕ}
 use lib.Dec.{eqb}
 use lib.ListN.{getD, length}
 use Rattle.parlog.specs.Codes.{equate, or-par, tagCode}
-use Rattle.parlog.specs.Image.{byteAt, equality, modeEnd, recordEnd, termAt, termEnd}
+use Rattle.parlog.specs.Image.{byteAt, equality, modeEnd, numberOf, recordEnd, termAt, termEnd}
 use Rattle.parlog.specs.Program.{clauseAt, Literal, modesOf, outputs, Program}
 use Rattle.parlog.specs.Scan.{listOf}
-use Rattle.parlog.specs.declared.Term.{Term}
-use Rattle.parlog.specs.declared.Term.the-variants.{Const, Var}
+use Rattle.parlog.specs.declared.Term.the-variants.{Const}
 use Rattle.program.specs.declared.Lit.{Lit}
 
 -- a literal as a struct: relation, arity, and the four arguments that it may have
@@ -22,11 +21,6 @@ shown l = record {
   c = getD (l .args) 2 (Const 0);
   d = getD (l .args) 3 (Const 0);
 }
-
--- the number in a term
-abbrev pub numberOf : Term → ℕ
-numberOf (Const c) = c
-numberOf (Var v) = v
 
 -- bounds that every literal in an image keeps
 abbrev pub Small : Lit → Type 0

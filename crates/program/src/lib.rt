@@ -10,9 +10,9 @@ ghost use lib.ListN.{length, getD};
 ghost use Rattle.parlog.specs.declared.Term.the-variants.{Const, Var};
 ghost use Rattle.parlog.specs.Codes.{kindOf, tagCode};
 ghost use Rattle.parlog.specs.Scan.{listOf};
-ghost use Rattle.parlog.specs.Image.{byteAt, termAt, termEnd, modeEnd, recordEnd, recordAt, guardAt, bodyAt};
+ghost use Rattle.parlog.specs.Image.{byteAt, numberOf, termAt, termEnd, modeEnd, recordEnd, recordAt, guardAt, bodyAt};
 ghost use Rattle.parlog.specs.Program.{noLiteral, equation, outputs, literalOf, goalOf, modesOf, programOf, clauseAt, modesAt, outCount, varsOf, blockCount, blockOf, goalBy, goalAt, stageAt, literalAt, tagOfLiteral, tagOfStage, tagOfGoal};
-ghost use Rattle.program.specs.Parts.{shown, Small, numberOf, outsOf, clauseOuts, stagesWith, opensBy, relationTag};
+ghost use Rattle.program.specs.Parts.{shown, Small, outsOf, clauseOuts, stagesWith, opensBy, relationTag};
 
 // A literal: its relation, its arity, and the four arguments that it may have.
 pub struct Lit {

@@ -3,7 +3,6 @@ use mathlib.Core.Path.{_∙_, _≡_, refl, sym}
 use mathlib.Core.Bool.{true}
 use mathlib.Core.List.{List}
 use Prim.Native.Nat.{_≤_, ℕ}
-use Rattle.load.proofs.Accepted.{reached}
 use Rattle.machine.proofs.Held.{same-lent}
 use Rattle.parlog.proofs.Kept.{run-keeps, step-keeps, supply-keeps, turn-keeps}
 use Rattle.parlog.proofs.Repeated.{run-reached}

@@ -5,8 +5,6 @@ use mathlib.Core.Bool.{false}
 use mathlib.Core.List.{List}
 use Prim.Native.Nat.{_/_, _<_, suc, ℕ}
 use lib.ListN.{length}
-use Rattle.load.proofs.Accepted.{accepted}
-use Rattle.load.proofs.Turn.{ends}
 use Rattle.parlog.proofs.Repeated.{runs}
 use Rattle.parlog.proofs.Shape.{tells}
 use Rattle.parlog.specs.Codes.{modeCode, suspended}

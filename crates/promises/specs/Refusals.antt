@@ -4,7 +4,6 @@ use mathlib.Core.Logic.{_≢_}
 use mathlib.Core.Bool.{false, true}
 use mathlib.Core.List.{List}
 use Prim.Native.Nat.{_<_, _≤_, ℕ}
-use Rattle.load.proofs.Accepted.{kept}
 use Rattle.parlog.specs.Delta.{only}
 use Rattle.parlog.specs.Limits.{small}
 use Rattle.parlog.specs.Load.{after, loadOf}

@@ -10,12 +10,12 @@ use native.Mathlib.Omega.{arith}
 use Rattle.parlog.proofs.Assume.{assume-counts}
 use Rattle.parlog.proofs.Bools.{and-true}
 use Rattle.parlog.proofs.Scans.{lowest-at}
+use Rattle.parlog.proofs.Walk.{walk-holds}
 use Rattle.parlog.specs.Calls.{enter, enterBy, entered, enterLoaded, Entry, runCall, runEntry, startBy, startCall, startLoaded, stepAnswer, stepCall, stepEntry, supplyAnswer, supplyCall, supplyEntry, turnCall, turned-away, turnEntry, valueAnswer, valueCall, valueEntry}
 use Rattle.parlog.specs.Codes.{isMode, suspended}
 use Rattle.parlog.specs.Delta.{Delta}
-use Rattle.parlog.specs.Image.{recordEnd}
 use Rattle.parlog.specs.Limits.{Limits, small}
-use Rattle.parlog.specs.Load.{after, loadEnd, loadOf, long, nothingRead, records, verdict}
+use Rattle.parlog.specs.Load.{after, broken, judged, loadEnd, loadOf, long, nothingRead, records, verdict}
 use Rattle.parlog.specs.Program.{Program, programOf}
 use Rattle.parlog.specs.Rules.{Applied, by-rule, fits, move, moved, no-rule, room, ruleOf, withRoom}
 use Rattle.parlog.specs.Run.{given, goalEnded, halt, Looking, made, procsIn, runFrom, Running, runStep, runTables, runTest, runTurn, seen, stepBy, Stepping, stepTables, Supplying, supplyTables, turnFor, turnTables, turnTo, ungiven, unmade, unseen, valueTables, watchOf}
@@ -51,14 +51,12 @@ module _ (s : List ℕ) where
   after-within rest go at h (Refuses k) = omega arith
   after-within rest go at h (Goes g) = go g
 
-  records-within : (n at : ℕ) (g : Progress) → LoadWithin (length s) (records s n at g)
-  unfolding records
-  records-within zero at g = ends-within g (eqb (g .kind) 3) refl
-  records-within (suc n) at g = by (ltb at (length s)) refl (records-within n (recordEnd s at))
-    where
-      by : (b : Bool) → ltb at (length s) ≡ b → ((k : Progress) → LoadWithin (length s) (records s n (recordEnd s at) k)) → LoadWithin (length s) (cond b (after (records s n (recordEnd s at)) at (verdict s g at)) (loadEnd s g))
-      by true e go = after-within (records s n (recordEnd s at)) go at (ltb-true at (length s) e) (verdict s g at)
-      by false e go = ends-within g (eqb (g .kind) 3) refl
+  records-within : LoadWithin (length s) (records s (length s) 0 nothingRead)
+  records-within = walk-holds s broken (judged s) (loadEnd s) (λ at g. Unit {0}) (LoadWithin (length s))
+      (λ at g p l e. omega arith)
+      (λ at g p l e rest go. after-within rest (λ t. go t tt) at l (verdict s g at))
+      (λ at g p h. ends-within g (eqb (g .kind) 3) refl)
+      (length s) 0 nothingRead (omega arith) tt
 
   -- an image that is not too long has no offset over its length
   pub load-fits : LoadWithin 4294967295 (loadOf s)
@@ -71,7 +69,7 @@ module _ (s : List ℕ) where
 
       by : (b : Bool) → ltb 32768 (length s) ≡ b → LoadWithin 4294967295 (cond b (Refused (record { number = 1; offset = 0 })) (records s (length s) 0 nothingRead))
       by true e = omega arith
-      by false e = wider (records s (length s) 0 nothingRead) (records-within (length s) 0 nothingRead) (ltb-false 32768 (length s) e)
+      by false e = wider (records s (length s) 0 nothingRead) records-within (ltb-false 32768 (length s) e)
 
 -- ---- the start
 
