@@ -74,7 +74,7 @@ fn look(
     requires { ⌜ (rels ≤ 32) × (clauses ≤ 64) × (10 ≤ length (now head)) × (varCount (now head) * 4 ≤ length (now vars)) × (programOf (now image) rels clauses .goalVars ≤ varCount (now head)) ⌝ }
     ensures { λ r. ⌜ r ≡ valueAnswer (cond (ltb variable (programOf (now (image .entry)) rels clauses .goalVars)) (seen (value (varsIn (now (vars .entry)) (varCount (now (head .entry)))) (Var variable))) (unseen 12)) ⌝ }
 {
-    let goal = program::goal_vars(image, rels, clauses);
+    let goal = program_clause::goal_vars(image, rels, clauses);
     if goal <= (variable as usize) {
         return Valued::Unvalued(refusal(12));
     }
@@ -116,7 +116,7 @@ fn goal_process(image: &[u8], rels: usize, clauses: usize) -> Process
     requires { ⌜ (rels ≤ 32) × (clauses ≤ 64) ⌝ }
     ensures { λ r. ⌜ r ≡ newProcess (tagOfGoal (programOf (now (image .entry)) rels clauses .goal)) starting 0 (goalSpot the-goal 0 0) ⌝ }
 {
-    let tag = program::tag_of_goal_by(image, rels, clauses, 0, 0);
+    let tag = program_goal::tag_of_goal(image, rels, clauses, 0, 0);
     let spot = Spot {
         kind: 0,
         clause: 0,
@@ -161,7 +161,7 @@ fn begin(
     requires { ⌜ (rels ≤ 32) × (clauses ≤ 64) × (length (now head) ≡ 10) × (length (now procs) ≡ 12288) × (length (now vars) ≡ 4096) ⌝ }
     ensures { λ _. ⌜ BeginSays (programOf (now (image .entry)) rels clauses) (now (head .exit)) (now (procs .exit)) (now (vars .exit)) ⌝ }
 {
-    let goal = program::goal_vars(image, rels, clauses);
+    let goal = program_clause::goal_vars(image, rels, clauses);
     begin_procs(image, rels, clauses, procs);
     rows::wipe(vars, 0, VAR_BYTES);
     head::put_head(head, 1, goal, 0, 0);
@@ -230,7 +230,7 @@ fn asked(
     requires { ⌜ (rels ≤ 32) × (clauses ≤ 64) × (10 ≤ length (now head)) × (varCount (now head) * 4 ≤ length (now vars)) × (programOf (now image) rels clauses .goalVars ≤ varCount (now head)) ⌝ }
     ensures { λ r. ⌜ r ≡ askedOf (programOf (now (image .entry)) rels clauses) (varsIn (now (vars .entry)) (varCount (now (head .entry)))) variable value ⌝ }
 {
-    let goal = program::goal_vars(image, rels, clauses);
+    let goal = program_clause::goal_vars(image, rels, clauses);
     if goal <= (variable as usize) {
         return Supplied::Ungiven(refusal(12));
     }

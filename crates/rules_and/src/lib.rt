@@ -22,6 +22,7 @@ use parlog::Found;
 use parlog::Move;
 use parlog::Process;
 use parlog::Spot;
+use parlog::codes;
 
 // A ready process is about to start next.
 pub fn ready(p: usize, x: Process) -> Plan
@@ -81,7 +82,7 @@ fn member(image: &[u8], rels: usize, clauses: usize, p: usize, z: Spot, j: usize
     ensures { λ r. ⌜ r ≡ member (programOf (now (image .entry)) rels clauses) p z j ⌝ }
 {
     let y = move_plan::literal_spot(z, j as u8);
-    let t = program::tag_of_literal(image, rels, clauses, y);
+    let t = program_goal::tag_of_literal(image, rels, clauses, y);
     move_plan::new_process(t, 1, p, y)
 }
 
@@ -111,7 +112,7 @@ pub fn start_and_par(
     ensures { λ r. ⌜ Starts and-par (programOf (now (image .entry)) rels clauses) n p x (appliedOf r) × (r .count ≤ 12) × (r .changes .count ≡ 0) ⌝ }
 {
     let z = x.spot;
-    let k = program::stage_size(image, rels, clauses, z);
+    let k = program_goal::stage_size(image, rels, clauses, z);
     let mut new = [0u8; 288];
     members(image, rels, clauses, p, z, k, &mut new);
     let me = move_plan::with_mode(x, 3);
@@ -147,12 +148,12 @@ pub fn start_and_seq(
     ensures { λ r. ⌜ Starts and-seq (programOf (now (image .entry)) rels clauses) n p x (appliedOf r) × (r .count ≤ 12) × (r .changes .count ≡ 0) ⌝ }
 {
     let z = x.spot;
-    let stages = program::goal_size(image, rels, clauses, z);
+    let stages = program_goal::goal_size(image, rels, clauses, z.kind, z.clause);
     let i = z.stage as usize;
     if stages <= i {
         return move_plan::report(Move::AndSeqSuccess(p), 1, x);
     }
-    let t = program::tag_of_stage(image, rels, clauses, z);
+    let t = program_goal::tag_of_stage(image, rels, clauses, z);
     let y = move_plan::literal_spot(z, 0);
     let child = move_plan::new_process(t, 2, p, y);
     let me = move_plan::with_mode(x, 3);
@@ -236,12 +237,12 @@ pub fn start_guard_eval(
     ensures { λ r. ⌜ Starts guard-eval (programOf (now (image .entry)) rels clauses) n p x (appliedOf r) × (r .count ≤ 12) × (r .changes .count ≡ 0) ⌝ }
 {
     let z = x.spot;
-    let size = program::guard_size(image, rels, clauses, z.found as usize);
+    let size = program_goal::goal_size(image, rels, clauses, codes::THE_GUARD, z.found);
     if size == 0 {
         return move_plan::report(Move::GuardEvalEmpty(p), 1, x);
     }
-    let y = move_plan::goal_spot(1, z.found, z.first);
-    let t = program::tag_of_goal(image, rels, clauses, y);
+    let y = move_plan::goal_spot(codes::THE_GUARD, z.found, z.first);
+    let t = program_goal::tag_of_goal(image, rels, clauses, codes::THE_GUARD, z.found);
     let child = move_plan::new_process(t, 2, p, y);
     let me = move_plan::with_mode(x, 3);
     with_child(Move::GuardEvalStart(n), me, child)

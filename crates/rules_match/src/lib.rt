@@ -89,10 +89,10 @@ fn four_modes(image: &[u8], rels: usize, clauses: usize, q: usize) -> [u8; 4]
     requires { ⌜ (rels ≤ 32) × (clauses ≤ 64) ⌝ }
     ensures { λ r. ⌜ r ≡ inFour 0 (modesAt (programOf (now (image .entry)) rels clauses) q) ⌝ }
 {
-    let a = program::mode_of(image, rels, clauses, q, 0);
-    let b = program::mode_of(image, rels, clauses, q, 1);
-    let c = program::mode_of(image, rels, clauses, q, 2);
-    let d = program::mode_of(image, rels, clauses, q, 3);
+    let a = program_clause::mode_of(image, rels, clauses, q, 0);
+    let b = program_clause::mode_of(image, rels, clauses, q, 1);
+    let c = program_clause::mode_of(image, rels, clauses, q, 2);
+    let d = program_clause::mode_of(image, rels, clauses, q, 3);
     [a as u8, b as u8, c as u8, d as u8]
 }
 
@@ -101,10 +101,10 @@ fn four_terms(image: &[u8], rels: usize, clauses: usize, k: usize) -> [Term; 4]
     requires { ⌜ (rels ≤ 32) × (clauses ≤ 64) ⌝ }
     ensures { λ r. ⌜ r ≡ inFour (Const 0) (clauseAt (programOf (now (image .entry)) rels clauses) k .head) ⌝ }
 {
-    let a = program::head_term(image, rels, clauses, k, 0);
-    let b = program::head_term(image, rels, clauses, k, 1);
-    let c = program::head_term(image, rels, clauses, k, 2);
-    let d = program::head_term(image, rels, clauses, k, 3);
+    let a = program_clause::head_term(image, rels, clauses, k, 0);
+    let b = program_clause::head_term(image, rels, clauses, k, 1);
+    let c = program_clause::head_term(image, rels, clauses, k, 2);
+    let d = program_clause::head_term(image, rels, clauses, k, 3);
     [a, b, c, d]
 }
 
@@ -119,7 +119,7 @@ fn match_at(image: &[u8], rels: usize, clauses: usize, vars: &[u8], m: usize, z:
     requires { ⌜ (rels ≤ 32) × (clauses ≤ 64) × (m * 4 ≤ length (now vars)) × (m ≤ 65535) × MatchThere (programOf (now image) rels clauses) (varsIn (now vars) m) z ⌝ }
     ensures { λ r. ⌜ Decides (matchAt (programOf (now (image .entry)) rels clauses) (varsIn (now (vars .entry)) m) z) r ⌝ }
 {
-    let l = program::literal(image, rels, clauses, z);
+    let l = program_goal::literal(image, rels, clauses, z);
     let q = l.rel;
     let size = l.arity;
     let a = l.a;
@@ -129,8 +129,8 @@ fn match_at(image: &[u8], rels: usize, clauses: usize, vars: &[u8], m: usize, z:
     let k = z.found as usize;
     let modes = four_modes(image, rels, clauses, q);
     let head = four_terms(image, rels, clauses, k);
-    let own = program::clause_vars(image, rels, clauses, k);
-    let count = program::mode_count(image, rels, clauses, q);
+    let own = program_clause::clause_vars(image, rels, clauses, k);
+    let count = program_clause::mode_count(image, rels, clauses, q);
     let arity = least(count, size);
     let args = [a, b, c, d];
     decide::match_of(vars, m, modes, args, z.base, head, z.first, own, arity)
@@ -181,7 +181,7 @@ fn equate_at(
     requires { ⌜ (rels ≤ 32) × (clauses ≤ 64) × (n * 24 ≤ length (now procs)) × (m * 4 ≤ length (now vars)) × (m ≤ 65535) × EquateThere (programOf (now image) rels clauses) (varsIn (now vars) m) z ⌝ }
     ensures { λ r. ⌜ Decides (equateAt (programOf (now (image .entry)) rels clauses) (stateIn (now (procs .entry)) n (now (vars .entry)) m) p z) r ⌝ }
 {
-    let l = program::literal(image, rels, clauses, z);
+    let l = program_goal::literal(image, rels, clauses, z);
     let t = l.a;
     let u = l.b;
     let bar = tree::enclosing_first(procs, n, p);

@@ -38,7 +38,7 @@ fn called(image: &[u8], rels: usize, clauses: usize, z: Spot) -> usize
     requires { ⌜ (rels ≤ 32) × (clauses ≤ 64) ⌝ }
     ensures { λ r. ⌜ (r ≡ literalAt (programOf (now (image .entry)) rels clauses) z .rel) × (r ≤ 255) ⌝ }
 {
-    let l = program::literal(image, rels, clauses, z);
+    let l = program_goal::literal(image, rels, clauses, z);
     l.rel
 }
 
@@ -74,7 +74,7 @@ fn body_child(image: &[u8], rels: usize, clauses: usize, p: usize, k: u8, v: u16
     requires { ⌜ (rels ≤ 32) × (clauses ≤ 64) × (p ≤ 65535) ⌝ }
     ensures { λ r. ⌜ r ≡ bodyChild (programOf (now (image .entry)) rels clauses) p k v ⌝ }
 {
-    let t = program::tag_of_goal_by(image, rels, clauses, 2, k as usize);
+    let t = program_goal::tag_of_goal(image, rels, clauses, 2, k);
     let z = move_plan::goal_spot(2, k, v);
     move_plan::new_process(t, 2, p, z)
 }
@@ -145,7 +145,7 @@ fn blocks(image: &[u8], rels: usize, clauses: usize, z: Spot) -> usize
     ensures { λ r. ⌜ (r ≡ blockCount (programOf (now (image .entry)) rels clauses) (literalAt (programOf (now (image .entry)) rels clauses) z .rel)) × (r ≤ 64) ⌝ }
 {
     let rel = called(image, rels, clauses, z);
-    program::block_count(image, rels, clauses, rel)
+    program_block::block_count(image, rels, clauses, rel)
 }
 
 // Tries the first block, if there is one.
@@ -232,17 +232,17 @@ fn try_one(
     p: usize,
     z: Spot,
     rel: usize,
-    b: usize,
+    b: u8,
     j: usize,
     v: usize,
 ) -> usize
     requires { ⌜ (rels ≤ 32) × (clauses ≤ 64) × (p ≤ 65535) × (v ≤ 65535) × (j * 24 + 24 ≤ length (now rows)) ⌝ }
     ensures { λ r. ⌜ (r ≡ v + varsOf (programOf (now (image .entry)) rels clauses) (getD (blockOf (programOf (now (image .entry)) rels clauses) rel b) j 255)) × (r ≤ v + 510) × Table (now (rows .entry)) (now (rows .exit)) (procsOf (now (rows .entry)) j ++ (newProcess try-clause ready p (trySpot z (getD (blockOf (programOf (now (image .entry)) rels clauses) rel b) j 255) v) ∷ [])) ⌝ }
 {
-    let k = program::block_clause(image, rels, clauses, rel, b, j);
+    let k = program_block::block_clause(image, rels, clauses, rel, b, j);
     let y = try_child(p, z, k, v);
     rows::append(rows, j, y);
-    v + program::vars_of(image, rels, clauses, k)
+    v + program_clause::vars_of(image, rels, clauses, k)
 }
 
 // A process for each clause of block b; answers the variable behind those of all.
@@ -255,7 +255,7 @@ fn try_all(
     p: usize,
     z: Spot,
     rel: usize,
-    b: usize,
+    b: u8,
     size: usize,
 ) -> usize
     requires { ⌜ (rels ≤ 32) × (clauses ≤ 64) × (p ≤ 65535) × (size ≡ length (blockOf (programOf (now image) rels clauses) rel b)) × (size * 24 ≤ length (now rows)) × (m + 510 * size ≤ 65535) ⌝ }
@@ -292,8 +292,8 @@ pub fn start_or_search(
 {
     let z = x.spot;
     let rel = called(image, rels, clauses, z);
-    let b = z.block as usize;
-    let size = program::block_size(image, rels, clauses, rel, b);
+    let b = z.block;
+    let size = program_block::block_size(image, rels, clauses, rel, b);
     let mut new = [0u8; 288];
     let v = try_all(image, rels, clauses, &mut new, m, p, z, rel, b, size);
     let me = move_plan::with_mode(x, 3);

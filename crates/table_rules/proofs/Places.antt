@@ -11,14 +11,14 @@ use Rattle.row_tests.proofs.Laws.{and-one}
 use Rattle.row_tests.specs.Tests.{choose}
 use Rattle.parlog.proofs.Bools.{split}
 use Rattle.parlog.specs.Codes.{kindOf, tagOf}
-use Rattle.parlog.specs.Program.{blockCount, clauseAt, goalAt, Literal, literalAt, Program, programOf, stageAt, varsOf}
+use Rattle.parlog.specs.Program.{blockCount, clauseAt, goalAt, goalBy, Literal, literalAt, Program, programOf, stageAt, varsOf}
 use Rattle.parlog.specs.Scan.{implies}
 use Rattle.parlog.specs.TableRules.{blockIn, callIn, clauseIn, equalityIn, foundIn, goalIn, goalInBy, goingOk, isEquality, literalIn, placesOk, succeeds, tryIn}
 use Rattle.parlog.specs.declared.Process.{Process}
 use Rattle.parlog.specs.declared.Spot.{Spot}
 use Rattle.place.proofs.Clauses.{clause-count}
-use Rattle.program.specs.Parts.{shown}
-use Rattle.program.specs.declared.Lit.{Lit}
+use Rattle.program_goal.specs.Parts.{shown}
+use Rattle.program_goal.specs.declared.Lit.{Lit}
 use Rattle.table_rules.specs.Parts.{behindCall, behindGoal, behindLiteral}
 
 -- ---- clauses
@@ -86,8 +86,8 @@ relation-of : (pr : Program) (z : Spot) {l : Lit} → l ≡ shown (literalAt pr 
 relation-of pr z e = ap (λ (l : Lit). l .rel) e ∙ relation-is (literalAt pr z)
 
 module _ (pr : Program) (n : ℕ) (z : Spot) (waits : Bool) (t : ℕ) where
-  pub goal-stage : t < 2 → {m : ℕ} {a b : Bool} → m ≡ length (goalAt pr z) → a ≡ (eqb t 0 || waits) → b ≡ choose a (ltb (z .stage) m) (leb (z .stage) m) → b ≡ behindGoal t waits pr n z
-  unfolding behindGoal
+  pub goal-stage : t < 2 → {m : ℕ} {a b : Bool} → m ≡ length (goalBy (kindOf (z .kind)) pr (z .clause)) → a ≡ (eqb t 0 || waits) → b ≡ choose a (ltb (z .stage) m) (leb (z .stage) m) → b ≡ behindGoal t waits pr n z
+  unfolding behindGoal goalAt
   goal-stage h em ea e = rw (lt-ltb t 2 h, e, ea, em)
 
   module _ (h : 2 ≤ t) {m : ℕ} (em : m ≡ length (stageAt pr z)) where

@@ -23,7 +23,7 @@ fn clause_in(image: &[u8], rels: usize, clauses: usize, n: usize, k: u8, v: u16)
     if clauses <= number {
         return false;
     }
-    let size = program::vars_of(image, rels, clauses, number);
+    let size = program_clause::vars_of(image, rels, clauses, number);
     (v as usize) + size <= n
 }
 
@@ -33,7 +33,7 @@ fn goal_in(image: &[u8], rels: usize, clauses: usize, n: usize, z: Spot) -> bool
     ensures { λ b. ⌜ b ≡ goalIn (programOf (now (image .entry)) rels clauses) n z ⌝ }
 {
     if z.kind == 0 {
-        let size = program::goal_vars(image, rels, clauses);
+        let size = program_clause::goal_vars(image, rels, clauses);
         return row_tests::and(z.base == 0, size <= n);
     }
     clause_in(image, rels, clauses, n, z.clause, z.base)
@@ -65,14 +65,14 @@ fn behind_call(
     ensures { λ b. ⌜ b ≡ behindCall t waits (programOf (now (image .entry)) rels clauses) n z rel ⌝ }
 {
     if row_tests::or(t == 4, row_tests::and(t == 3, waits)) {
-        let count = program::block_count(image, rels, clauses, rel);
+        let count = program_block::block_count(image, rels, clauses, rel);
         return (z.block as usize) < count;
     }
     if t < 4 {
         return true;
     }
     let found = clause_in(image, rels, clauses, n, z.found, z.first);
-    let own = program::clause_relation(image, rels, clauses, z.found as usize);
+    let own = program_clause::clause_relation(image, rels, clauses, z.found as usize);
     row_tests::and(found, own == rel)
 }
 
@@ -113,7 +113,7 @@ fn behind_goal(
     ensures { λ b. ⌜ b ≡ behindGoal t waits (programOf (now (image .entry)) rels clauses) n z ⌝ }
 {
     if t < 2 {
-        let stages = program::goal_size(image, rels, clauses, z);
+        let stages = program_goal::goal_size(image, rels, clauses, z.kind, z.clause);
         let stage = z.stage as usize;
         return row_tests::choose(
             row_tests::or(t == 0, waits),
@@ -121,11 +121,11 @@ fn behind_goal(
             stage <= stages,
         );
     }
-    let size = program::stage_size(image, rels, clauses, z);
+    let size = program_goal::stage_size(image, rels, clauses, z);
     if size <= (z.literal as usize) {
         return false;
     }
-    let l = program::literal(image, rels, clauses, z);
+    let l = program_goal::literal(image, rels, clauses, z);
     let rel = l.rel;
     behind_literal(image, rels, clauses, n, t, waits, z, rel)
 }
@@ -166,7 +166,7 @@ fn kin_ok(
     ensures { λ b. ⌜ b ≡ kinOk (programOf (now (image .entry)) rels clauses) (procsOf (now (procs .entry)) count) i x ⌝ }
 {
     if i == 0 {
-        let goal = program::tag_of_goal_by(image, rels, clauses, 0, 0);
+        let goal = program_goal::tag_of_goal(image, rels, clauses, 0, 0);
         let z = x.spot;
         return row_tests::and(x.tag == goal, row_tests::and(x.parent == 0, z.kind == 0));
     }
@@ -296,7 +296,7 @@ pub fn lent_ok(
     let count = head::proc_count(head);
     let n = head::var_count(head);
     let last = head::marker_last(head);
-    let goal = program::goal_vars(image, rels, clauses);
+    let goal = program_clause::goal_vars(image, rels, clauses);
     let counts = row_tests::counts_ok(count, n, last, goal, most, cap);
     if !counts {
         return false;

@@ -6,7 +6,6 @@ use Rattle.machine.proofs.begin.Reads as reads
 use Rattle.machine.proofs.begin.Lts as lts
 use Rattle.head.proofs.put_head.Reads as put-head-reads
 use Rattle.machine.proofs.begin_procs.Reads as begin-procs-reads
-use Rattle.program.proofs.goal_vars.Reads as goal-vars-reads
 use Rattle.rows.proofs.wipe.Reads as wipe-reads
 
 pub begin-spec : {M : Type 1} → statement M
