@@ -1,6 +1,7 @@
 -- Laws of the definitions, and the theorems over them.
 pub mod Bools
 pub mod Scans
+pub mod Limits
 pub mod Along
 pub mod Walk
 pub mod Blocks

@@ -194,6 +194,10 @@ pub record Lent : Type 0 where
   pub procs : List ℕ
   pub vars : List ℕ
 
+-- these rows together
+abbrev pub lent : List ℕ → List ℕ → List ℕ → Lent
+lent h p v = record { head = h; procs = p; vars = v }
+
 -- the tables that these bytes hold
 unfoldable pub tablesIn : Lent → Tables
 tablesIn l = record {

@@ -9,7 +9,7 @@ ghost use Rattle.parlog.specs.Codes.{tagOf};
 ghost use Rattle.parlog.specs.Program.{programOf};
 ghost use Rattle.parlog.specs.Scan.{every, implies};
 ghost use Rattle.parlog.specs.TableRules.{cellKnown, clauseIn, foundIn, fullSize, goalIn, goingOk, kinOk, known, lentOk, notesOk, placesOk, resultOk, rowOk, varOk};
-ghost use Rattle.parlog.specs.Tables.{procsOf, varsIn};
+ghost use Rattle.parlog.specs.Tables.{lent, procsOf, varsIn};
 ghost use Rattle.table_rules.specs.Parts.{behindCall, behindGoal, behindLiteral, cellOk};
 
 // ---- places
@@ -269,7 +269,7 @@ fn cells_ok(vars: &[u8], n: usize) -> bool
 // Each lent row of bytes has its full size.
 pub fn full_size(head: &[u8], procs: &[u8], vars: &[u8], most: usize, cap: usize) -> bool
     requires { ⌜ (most ≤ 65535) × (cap ≤ 65535) ⌝ }
-    ensures { λ b. ⌜ b ≡ fullSize (record { procs = most; vars = cap }) (record { head = now (head .entry); procs = now (procs .entry); vars = now (vars .entry) }) ⌝ }
+    ensures { λ b. ⌜ b ≡ fullSize (record { procs = most; vars = cap }) (lent (now (head .entry)) (now (procs .entry)) (now (vars .entry))) ⌝ }
 {
     let tables = row_tests::and(procs.len() == most * 24, vars.len() == cap * 4);
     row_tests::and(head.len() == 10, tables)
@@ -287,7 +287,7 @@ pub fn lent_ok(
     cap: usize,
 ) -> bool
     requires { ⌜ (rels ≤ 32) × (clauses ≤ 64) × (most ≤ 65535) × (cap ≤ 65535) ⌝ }
-    ensures { λ b. ⌜ b ≡ lentOk (record { procs = most; vars = cap }) (programOf (now (image .entry)) rels clauses) (record { head = now (head .entry); procs = now (procs .entry); vars = now (vars .entry) }) ⌝ }
+    ensures { λ b. ⌜ b ≡ lentOk (record { procs = most; vars = cap }) (programOf (now (image .entry)) rels clauses) (lent (now (head .entry)) (now (procs .entry)) (now (vars .entry))) ⌝ }
 {
     let full = full_size(head, procs, vars, most, cap);
     if !full {

@@ -9,4 +9,4 @@ use Rattle.words.proofs.supply_word.Reads as supply-word-reads
 
 pub rissobarm-supply-spec : {M : Type 1} → statement M
 rissobarm-supply-spec =
-    tie.close (tie.spec (λ c κs. search needs) (λ c κs. supply-fit _ _ _ _ (c .before .before .supply .ensures)) (λ c. search needs) (λ c. supply-tells _ _ _ _ (c .before .before .before .supply .ensures) (c .supply-word .ensures)))
+    tie.close (tie.spec (λ c κs. search needs) (λ c κs. supply-fit _ _ _ _ _ (c .before .before .supply .ensures)) (λ c. search needs) (λ c. supply-tells _ _ _ _ _ (c .before .before .before .supply .ensures) (c .supply-word .ensures)))
