@@ -42,6 +42,7 @@ use denote.Triple.Clauses.{ensured, lasts}
 use denote.Triple.Table.{entered, cited}
 use denote.Triple.Walked.{says, Stays, stay-none-slice, stay-ref, gave-slice, walkOf, AllGo, goes-none-slice, goes-ref, goes-gave-slice, Walks, ends-at, walked, walk-meets}
 use denote.Exit.{yes}
+use Rattle.parlog.specs.Limits.{small}
 use Rattle.turn_by_value.specs.Turned.{TurnedSays}
 use Rattle.turn_by_value.specs.declared.Turned.{Turned}
 use Rattle.parlog.specs.declared.Marker.{Marker}
@@ -115,7 +116,7 @@ module _ {M : Type 1} (𝓤 : URA M) (H : Heap 𝓤) (A : Atoms 𝓤) (W : Given
 
   -- what the core says of its result and of the last lists
   abbrev Said : Turned → List ℕ → List ℕ → List ℕ → Type 0
-  Said r xs ys zs = TurnedSays im cs ps vs h r xs ys zs
+  Said r xs ys zs = TurnedSays small im cs ps vs h r xs ys zs
 
   abbrev Post : Val → SProp 𝓤
   Post = walkOf 𝓤 H A turn.ended stayed (turn.clauses 𝓤 H A at-mem run) .post (((κᵢ, (κ₀, (κ₁, (κ₂, (κ, tt))))), (qᵢ, (q₀, (q₁, (q₂, (q, tt))))), tt, a, vals), tt)
