@@ -1,4 +1,5 @@
-"""Reads antt text as far as tools/uses needs it: what a file imports, what it declares, and which names it uses that it does not bind itself.
+"""Reads antt text as far as tools/uses and tools/believed need it: what a file imports, what it declares, and which names it or a declaration
+uses that it does not bind itself.
 
 A name is used where it stands free: not behind a dot, not as a field of a record that is built or as the name of an implicit argument, and not
 where a parameter, a λ, a `let`, a clause's pattern, a field or a `where` block above binds it. In doubt it counts as used."""
@@ -237,28 +238,69 @@ def is_used(brought, free):
     return brought in free or ('_' in brought and bool(parts) and all(part in free for part in parts))
 
 
-def declared(text):
-    """What a file declares at its top and in its `module` blocks: name, whether it is `pub`, and whether it is a constructor."""
-    found = []
-    _declared([line for line in plain(text).split('\n') if not is_header(line)], found)
+class Line(str):
+    """A line of a file, with its number."""
+    def __new__(cls, text, number):
+        line = super().__new__(cls, text)
+        line.number = number
+        return line
+
+
+class Declaration:
+    """A declaration: its name, the constructors or fields that it brings, the lines of its type and of what stands below, and the heads of the
+    modules around it. `open` tells whether what stands below can be seen from outside: a theorem's proof cannot."""
+    def __init__(self, name, word, marks, around, head):
+        self.name, self.word, self.around, self.head, self.below = name, word, around, head, []
+        self.parts, self.pub = [], 'pub' in marks
+        self.open = bool(word) or 'abbrev' in marks or 'unfoldable' in marks
+
+    def lines(self):
+        """The lines that say what it is."""
+        return [line for head in self.around for line in head] + self.head + (self.below if self.open else [])
+
+
+def declarations(text):
+    """What a file declares at its top and in its `module` blocks, in order."""
+    found, lines = [], [Line(line, number) for number, line in enumerate(plain(text).split('\n'), 1)]
+    _declarations([line for line in lines if not is_header(line)], (), found)
     return found
 
 
-def _declared(lines, found):
+def _declarations(lines, around, found):
     for group in items(lines):
-        words = tokens(group[0])
-        pub = False
+        words, marks = tokens(group[0]), []
         while words and words[0].text in MARKS:
-            pub = pub or words[0].text == 'pub'
+            marks.append(words[0].text)
             words = words[1:]
         first = words[0].text if words else ''
+        top = 1 + next((k for k, line in enumerate(group) if line.split()[-1] == 'where'), 0)
+        cut = cut_at(words, ':', '=')
         if first == 'module':
-            _declared(group[1:], found)
+            _declarations(group[top:], around + (group[:top],), found)
         elif first in ('data', 'record', 'ruleset'):
-            found.append((words[1].text, pub, False))
-            for line in (items(group[1:]) if first == 'data' else ()):
-                row = tokens(line[0])
-                cut = cut_at(row, ':')
-                found += [(word.text, pub, True) for word in row[:cut] if cut is not None and word.kind == 'name']
-        elif cut_at(words, ':', '=') is not None and words[cut_at(words, ':', '=')].text == ':':
-            found.append((first, pub, False))
+            found.append(Declaration(words[1].text, first, marks, around, group[:top]))
+            found[-1].below = group[top:]
+            found[-1].parts = _parts(group[top:])
+        elif cut is not None and words[cut].text == ':':
+            found.append(Declaration(first, '', marks, around, group))
+        elif found:
+            found[-1].below += group
+
+
+def _parts(lines):
+    """The names that the block of a data type or a record declares."""
+    found = []
+    for group in items(lines):
+        row = [token for token in tokens(group[0]) if token.text not in MARKS]
+        cut = cut_at(row, ':')
+        found += [word.text for word in row[:cut] if cut is not None and word.kind == 'name']
+    return found
+
+
+def declared(text):
+    """What a file declares at its top and in its `module` blocks: name, whether it is `pub`, and whether it is a constructor."""
+    found = []
+    for one in declarations(text):
+        found.append((one.name, one.pub, False))
+        found += [(name, one.pub, True) for name in (one.parts if one.word == 'data' else ())]
+    return found
