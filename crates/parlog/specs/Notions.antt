@@ -9,7 +9,7 @@ use Rattle.parlog.specs.Codes.{dormant, guard-eval, Mode, modeCode, read
 use Rattle.parlog.specs.Delta.{literalSpot, trySpot, withMode, withResult}
 use Rattle.parlog.specs.Listed.{Listed}
 use Rattle.parlog.specs.Program.{Clause, clauseAt, Goal, Literal, modesAt, noLiteral, Program, tagOfLiteral}
-use Rattle.parlog.specs.Tables.{at, bindingOf, fresh, newProcess, noted, State}
+use Rattle.parlog.specs.Tables.{at, bindingOf, fresh, newProcess, noted, place, State}
 use Rattle.parlog.specs.Tree.{below, latest, reports}
 use Rattle.parlog.specs.Unify.{change, shift}
 use Rattle.parlog.specs.declared.Binding.{Binding}
@@ -56,7 +56,7 @@ pub record Reports (s : State) (c : ℕ) (r : Result) : Type 0 where
 -- Tags 6: a child with none higher
 pub record Latest (s : State) (p c : ℕ) : Type 0 where
   pub child : Child s p c
-  pub none-higher : (i : ℕ) → Child s p i → i ≤ c
+  pub none-higher : (i : ℕ) → Child s p i → place (s .procs) i ≤ place (s .procs) c
 
 -- Tags 6: the latest child, and what it reports
 pub record Hears (s : State) (p c : ℕ) (r : Result) : Type 0 where
@@ -77,7 +77,7 @@ pub record SomeReports (s : State) (p : ℕ) (r : Result) : Type 0 where
 pub record LowestReports (s : State) (p c : ℕ) (r : Result) : Type 0 where
   pub child : Child s p c
   pub reports : Reports s c r
-  pub none-lower : (i : ℕ) → Child s p i → Reports s i r → c ≤ i
+  pub none-lower : (i : ℕ) → Child s p i → Reports s i r → place (s .procs) c ≤ place (s .procs) i
 
 -- Tags 5: a chain of parents leads down to it
 pub data Below (s : State) (p : ℕ) : ℕ → Type 0 where

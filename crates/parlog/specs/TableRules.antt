@@ -9,7 +9,7 @@ use Rattle.parlog.specs.Image.{equality}
 use Rattle.parlog.specs.Limits.{Limits}
 use Rattle.parlog.specs.Program.{blockCount, clauseAt, goalAt, Literal, literalAt, Program, stageAt, tagOfGoal, varsOf}
 use Rattle.parlog.specs.Scan.{every, implies}
-use Rattle.parlog.specs.Tables.{at, bindingOf, cellSize, headSize, Lent, noted, numberAt, rowSize, sortAt, State, Tables, tablesIn, varCount}
+use Rattle.parlog.specs.Tables.{at, bindingOf, cellSize, headSize, Lent, noted, numberAt, rank, rowSize, sortAt, State, Tables, tablesIn, varCount}
 use Rattle.parlog.specs.declared.Binding.{Binding}
 use Rattle.parlog.specs.declared.Binding.the-variants.{Bound, Free}
 use Rattle.parlog.specs.declared.Process.{Process}
@@ -73,7 +73,7 @@ makesTag equate t = false
 -- Tables 3d, 3e: process 0 stands for the image's goal; every other has a parent before it that could have made it
 unfoldable pub kinOk : Program → List Process → ℕ → Process → Bool
 kinOk pr ps zero x = isTag (tagOfGoal (pr .goal)) (x .tag) && (eqb (x .parent) 0 && eqb (x .spot .kind) (kindCode the-goal))
-kinOk pr ps (suc i) x = ltb (x .parent) (suc i) && makesTag (tagOf (at ps (x .parent) .tag)) (tagOf (x .tag))
+kinOk pr ps (suc i) x = ltb (rank ps (x .parent)) (rank ps (suc i)) && makesTag (tagOf (at ps (x .parent) .tag)) (tagOf (x .tag))
 
 -- ---- places
 

@@ -43,6 +43,14 @@ idle = record { tag = 0; mode = 0; result = 0; count = 0; parent = 0; spot = now
 abbrev pub at : List Process → ℕ → Process
 at ps i = getD ps i idle
 
+-- Tables 3e: what a parent has less of than its children: its number; it stands behind a name, since rows may be used again
+abbrev pub rank : List Process → ℕ → ℕ
+rank ps i = i
+
+-- Tags 6, 25: what puts the children of one process in order: their numbers; a name for the same reason
+abbrev pub place : List Process → ℕ → ℕ
+place ps i = i
+
 -- variable number v
 abbrev pub bindingOf : List Binding → ℕ → Binding
 bindingOf vs v = getD vs v Free
