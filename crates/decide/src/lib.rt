@@ -4,14 +4,14 @@ use parlog::Pair;
 use parlog::Term;
 use unify::Unified;
 ghost use mathlib.Core.Path.{_≡_};
-ghost use mathlib.Core.Bool.{Bool, true, false, _&&_, _||_};
+ghost use mathlib.Core.Bool.{true, false, _&&_, _||_};
 ghost use mathlib.Core.List.{[], _∷_};
 ghost use Prim.Native.Nat.{ℕ, _+_, _*_, _≤_, _<_};
 ghost use lib.ListN.{length, getD, take};
 ghost use Rattle.parlog.specs.Program.{outCount};
 ghost use Rattle.parlog.specs.Tables.{varsIn};
 ghost use Rattle.parlog.specs.Unify.{decide, equateOf, headSide, inputValue, isVar, matchOf, outAfter, pairOf, pairsOf, shift};
-ghost use Rattle.unify.specs.Pending.{AllLower, Below, noChange, pending, top};
+ghost use Rattle.unify.specs.Pending.{Below, noChange, pending, top};
 ghost use Rattle.decide.specs.Decision.{Decides, gather, heldBy, pushOf, Shifted};
 
 // Fails, suspends, or binds.

@@ -6,7 +6,6 @@ use Rattle.parlog.specs.Body.{bodyRight}
 use Rattle.parlog.specs.Load.{blockFull, progressed, refusal, refuseIf, verdict}
 use Rattle.parlog.specs.Names.{namesRight}
 use Rattle.parlog.specs.Records.{cut}
-use Rattle.parlog.specs.Tables.{at}
 use Rattle.parlog.specs.declared.Loaded.{Loaded}
 use Rattle.parlog.specs.declared.Loaded.the-variants.{Accepted, Refused}
 use Rattle.parlog.specs.declared.Progress.{Progress}

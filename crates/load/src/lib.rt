@@ -5,7 +5,7 @@ use parlog::Refusal;
 use parlog::Verdict;
 use parlog::codes;
 ghost use mathlib.Core.Path.{_≡_};
-ghost use mathlib.Core.Bool.{false, true};
+ghost use mathlib.Core.Bool.{false};
 ghost use Prim.Native.Nat.{_+_, _≤_};
 ghost use lib.ListN.{length};
 ghost use Rattle.parlog.specs.Records.{recordEnd};

@@ -18,7 +18,7 @@ use Rattle.parlog.specs.Limits.{Limits}
 use Rattle.parlog.specs.Load.{refusal}
 use Rattle.parlog.specs.Program.{Program, programOf}
 use Rattle.parlog.specs.Run.{supplied, supplyTables, supplyValue, ungiven}
-use Rattle.parlog.specs.Tables.{at, headBytes, Lent, markerLast, markerSteps, numberCode, procCount, putTables, Tables, tablesIn, varCount, varsIn}
+use Rattle.parlog.specs.Tables.{headBytes, Lent, markerLast, markerSteps, numberCode, procCount, putTables, Tables, tablesIn, varCount, varsIn}
 use Rattle.parlog.specs.Unify.{changed, value}
 use Rattle.parlog.specs.declared.Binding.{Binding}
 use Rattle.parlog.specs.declared.Binding.the-variants.{Bound}

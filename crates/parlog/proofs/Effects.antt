@@ -15,7 +15,7 @@ use Rattle.parlog.proofs.Scans.{build-at, build-length}
 use Rattle.parlog.specs.Delta.{apply, asleep, Delta, isAt, rowAfter}
 use Rattle.parlog.specs.Notions.{After, me}
 use Rattle.parlog.specs.Scan.{build}
-use Rattle.parlog.specs.Tables.{at, idle, low, State}
+use Rattle.parlog.specs.Tables.{at, idle, State}
 use Rattle.parlog.specs.Tree.{below}
 use Rattle.parlog.specs.Unify.{changed}
 use Rattle.parlog.specs.declared.Binding.{Binding}

@@ -12,7 +12,6 @@ use Rattle.parlog.proofs.Bools.{split}
 use Rattle.parlog.proofs.Changing.{changed-is, changed-only}
 use Rattle.parlog.proofs.Values.{Falling, leads-is, leads-value}
 use Rattle.parlog.specs.Notions.{all-done, Clashes, different, Fails, fails-here, fails-later, higher-left, higher-right, Leads, Meets, one-done, same-constant, same-variable, to-left, to-right, Unifies}
-use Rattle.parlog.specs.Tables.{at}
 use Rattle.parlog.specs.Unify.{bound, change, changed, clash, joined, meet, meetVars, Outcome, unify, unifyFrom, unifyOne, value}
 use Rattle.parlog.specs.declared.Binding.{Binding}
 use Rattle.parlog.specs.declared.Binding.the-variants.{Bound, Free}

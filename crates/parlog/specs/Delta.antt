@@ -6,7 +6,7 @@ use lib.Dec.{eqb}
 use lib.ListN.{getD, length, replicate}
 use Rattle.parlog.specs.Codes.{dormant, Mode, modeCode, reporting, Result, resultCode, starting, suspended}
 use Rattle.parlog.specs.Scan.{build}
-use Rattle.parlog.specs.Tables.{at, fresh, noNotes, nowhere, State}
+use Rattle.parlog.specs.Tables.{at, noNotes, nowhere, State}
 use Rattle.parlog.specs.Tree.{below}
 use Rattle.parlog.specs.Unify.{changed}
 use Rattle.parlog.specs.declared.Binding.the-variants.{Free}

@@ -9,8 +9,7 @@ use Rattle.parlog.specs.Codes.{dormant, guard-eval, Mode, modeCode, read
 use Rattle.parlog.specs.Delta.{literalSpot, trySpot, withMode, withResult}
 use Rattle.parlog.specs.Listed.{Listed}
 use Rattle.parlog.specs.Program.{Clause, clauseAt, Goal, Literal, modesAt, noLiteral, Program, tagOfLiteral}
-use Rattle.parlog.specs.Tables.{at, bindingOf, fresh, newProcess, noted, place, State}
-use Rattle.parlog.specs.Tree.{below, latest, reports}
+use Rattle.parlog.specs.Tables.{at, bindingOf, newProcess, noted, place, State}
 use Rattle.parlog.specs.Unify.{change, shift}
 use Rattle.parlog.specs.declared.Binding.{Binding}
 use Rattle.parlog.specs.declared.Binding.the-variants.{Bound, Free}

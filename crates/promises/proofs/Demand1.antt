@@ -9,7 +9,6 @@ use borrow.Author.Tests.{ltb-false, ltb-true}
 use native.Mathlib.Omega.{arith}
 use Rattle.machine.proofs.Held.{count-procs, same-lent, tables-state}
 use Rattle.parlog.proofs.Bools.{split}
-use Rattle.parlog.proofs.Says.{says}
 use Rattle.parlog.proofs.Stable.{can-here}
 use Rattle.parlog.proofs.Steps.{turn-is}
 use Rattle.parlog.specs.Calls.{runCall, startCall, stepAnswer, stepCall, supplyAnswer, supplyCall, turnCall, valueAnswer, valueCall}

@@ -14,7 +14,7 @@ use Rattle.parlog.specs.Notions.{Leads}
 use Rattle.parlog.specs.Program.{Program}
 use Rattle.parlog.specs.Run.{given, seen, supplied, Supplying, supplyTables, supplyValue, ungiven, unseen, valueTables}
 use Rattle.parlog.specs.TableRules.{tablesOk}
-use Rattle.parlog.specs.Tables.{at, bindingOf, Tables}
+use Rattle.parlog.specs.Tables.{bindingOf, Tables}
 use Rattle.parlog.specs.Unify.{value}
 use Rattle.parlog.specs.declared.Binding.the-variants.{Free}
 use Rattle.parlog.specs.declared.Term.{Term}

@@ -10,7 +10,6 @@ use Rattle.parlog.proofs.Bools.{and-true, never, split, true-and}
 use Rattle.parlog.proofs.Exact.{exactly-makes, exactly-room, exactly-still, makes-exactly, room-exactly, still-exactly}
 use Rattle.parlog.proofs.Scans.{lowest-at, lowest-none}
 use Rattle.parlog.proofs.Stable.{can-applies, can-here}
-use Rattle.parlog.specs.Codes.{none}
 use Rattle.parlog.specs.Delta.{apply, Delta}
 use Rattle.parlog.specs.Limits.{Limits}
 use Rattle.parlog.specs.Program.{Program}

@@ -5,21 +5,15 @@ use mathlib.Core.Bool.{false}
 use mathlib.Core.List.{List}
 use Prim.Native.Nat.{_/_, _<_, suc, ℕ}
 use lib.ListN.{length}
-use Rattle.parlog.proofs.Repeated.{runs}
-use Rattle.parlog.proofs.Shape.{tells}
 use Rattle.parlog.specs.Codes.{modeCode, suspended}
-use Rattle.parlog.specs.Delta.{only}
 use Rattle.parlog.specs.Demands.{Ended-at, Runs}
 use Rattle.parlog.specs.Limits.{Limits}
-use Rattle.parlog.specs.Load.{after}
-use Rattle.parlog.specs.Notions.{Leads, unbound}
+use Rattle.parlog.specs.Notions.{Leads}
 use Rattle.parlog.specs.Numbers.{endNumber, ruleNumber, termNumbers, touched}
 use Rattle.parlog.specs.Program.{Program}
 use Rattle.parlog.specs.Relation.{Fits, Rule}
-use Rattle.parlog.specs.Rules.{fits, room, still}
 use Rattle.parlog.specs.Run.{counted, goalEnded, Running, supplied}
 use Rattle.parlog.specs.Tables.{bindingOf, Lent, processAt, putTables, rowSize, State, Tables, tablesIn}
-use Rattle.parlog.specs.Unify.{value}
 use Rattle.parlog.specs.declared.Binding.the-variants.{Free}
 use Rattle.parlog.specs.declared.Move.{Move}
 use Rattle.parlog.specs.declared.Term.{Term}

@@ -4,13 +4,11 @@ use mathlib.Core.Logic.{_≢_}
 use mathlib.Core.Bool.{false, true}
 use mathlib.Core.List.{List}
 use Prim.Native.Nat.{_<_, _≤_, ℕ}
-use Rattle.parlog.specs.Delta.{only}
 use Rattle.parlog.specs.Limits.{Limits}
-use Rattle.parlog.specs.Load.{after, loadOf}
+use Rattle.parlog.specs.Load.{loadOf}
 use Rattle.parlog.specs.Notions.{Leads}
 use Rattle.parlog.specs.Program.{Program, programOf}
 use Rattle.parlog.specs.Relation.{Fits, Rule}
-use Rattle.parlog.specs.Run.{given}
 use Rattle.parlog.specs.TableRules.{fullSize, lentOk}
 use Rattle.parlog.specs.Tables.{Lent, procCount, State, Tables, tablesIn}
 use Rattle.parlog.specs.declared.Loaded.the-variants.{Accepted, Refused}

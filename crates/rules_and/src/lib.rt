@@ -1,7 +1,7 @@
 // The rules of the conjunctions, of a tried clause and of its guard, with ready and stop: each only reads, and answers a plan.
 ghost use mathlib.Core.Path.{_≡_};
 ghost use mathlib.Core.List.{[], _∷_, List};
-ghost use Prim.Native.Nat.{_*_, _≤_, _<_};
+ghost use Prim.Native.Nat.{_≤_, _<_};
 ghost use lib.ListN.{length};
 ghost use Rattle.children.specs.Telling.{Tells};
 ghost use Rattle.parlog.specs.Codes.{and-par, and-seq, guard-eval, try-clause};

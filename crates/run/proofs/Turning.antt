@@ -10,7 +10,6 @@ use Rattle.machine.specs.Entered.{EnterSays, Inside}
 use Rattle.parlog.proofs.Repeated.{turn-can}
 use Rattle.parlog.proofs.Steps.{turn-is}
 use Rattle.parlog.specs.Calls.{entered, runCall, runEntry, stepAnswer, turnCall}
-use Rattle.parlog.specs.Cases.{turn}
 use Rattle.parlog.specs.Codes.{isLive, resultOf}
 use Rattle.parlog.specs.Limits.{Limits}
 use Rattle.parlog.specs.Load.{refusal}

@@ -12,12 +12,10 @@ ghost use Prim.Native.Nat.{_*_, _≤_, _<_};
 ghost use lib.ListN.{length};
 ghost use Rattle.children.specs.Telling.{Tells};
 ghost use Rattle.machine.specs.Entered.{Inside};
-ghost use Rattle.parlog.specs.Calls.{stepAnswer};
 ghost use Rattle.parlog.specs.Codes.{isLive, resultOf};
 ghost use Rattle.parlog.specs.Limits.{small};
-ghost use Rattle.parlog.specs.Program.{Program, programOf};
-ghost use Rattle.parlog.specs.Run.{endOf, turnFor};
-ghost use Rattle.parlog.specs.Tables.{at, lent, procCount, procsOf, tablesIn};
+ghost use Rattle.parlog.specs.Run.{endOf};
+ghost use Rattle.parlog.specs.Tables.{at, lent, procCount, procsOf};
 ghost use Rattle.run.specs.Running.{OneSays, RanSays, RunSays, StopSays, Turning, TurnedIn, TurnSays, WentSays, WhoseSays};
 
 // How one turn of a run went: a move more, or the run's end.

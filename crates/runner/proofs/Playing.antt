@@ -10,7 +10,6 @@ use Rattle.machine.proofs.Held.{fresh-good, head-sized, same-lent, started-good
 use Rattle.machine.specs.Starting.{StartSays}
 use Rattle.parlog.proofs.Assume.{assume-counts, sizes-full}
 use Rattle.parlog.proofs.Kept.{run-keeps}
-use Rattle.parlog.proofs.Steps.{few}
 use Rattle.parlog.specs.Calls.{enter, entered, runCall, startCall}
 use Rattle.parlog.specs.Limits.{Limits, Usable}
 use Rattle.parlog.specs.Load.{loadOf}

@@ -10,8 +10,7 @@ use Rattle.load.specs.Fields.{refusalOf}
 use Rattle.parlog.specs.Limits.{Limits}
 use Rattle.parlog.specs.Load.{loadOf, long}
 use Rattle.parlog.specs.Program.{Program, programOf}
-use Rattle.parlog.specs.Scan.{some}
-use Rattle.parlog.specs.Tables.{at, varCount, varsIn}
+use Rattle.parlog.specs.Tables.{varCount, varsIn}
 use Rattle.parlog.specs.Text.{refusedText, runnerText, runText, varLine, varLines}
 use Rattle.parlog.specs.Unify.{value}
 use Rattle.parlog.specs.declared.Binding.{Binding}

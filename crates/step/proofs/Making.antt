@@ -12,14 +12,13 @@ use Rattle.machine.specs.Entered.{Inside}
 use Rattle.parlog.proofs.Assume.{sizes-full}
 use Rattle.parlog.proofs.Effects.{apply-count, apply-vars}
 use Rattle.parlog.proofs.Kept.{step-keeps}
-use Rattle.parlog.proofs.Steps.{few}
 use Rattle.parlog.specs.Delta.{apply, Delta}
 use Rattle.parlog.specs.Limits.{Limits}
 use Rattle.parlog.specs.Program.{programOf}
 use Rattle.parlog.specs.Run.{counted, made, stepped}
 use Rattle.parlog.specs.Scan.{every}
 use Rattle.parlog.specs.TableRules.{cellKnown, fullSize, lentOk, tablesOk}
-use Rattle.parlog.specs.Tables.{at, headBytes, headSize, Lent, lent, markerLast, markerSteps, procCount, procsOf, putTables, Tables, tablesIn, varCount, varsIn}
+use Rattle.parlog.specs.Tables.{headBytes, headSize, Lent, lent, markerLast, markerSteps, procCount, procsOf, putTables, Tables, tablesIn, varCount, varsIn}
 use Rattle.parlog.specs.declared.Move.{Move}
 use Rattle.rows.proofs.Exact.{table-bytes}
 use Rattle.rows.proofs.Tables.{procs-length, table-rows}

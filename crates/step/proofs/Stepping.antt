@@ -16,7 +16,7 @@ use Rattle.parlog.specs.Load.{refusal}
 use Rattle.parlog.specs.Program.{programOf}
 use Rattle.parlog.specs.Rules.{ruleOf}
 use Rattle.parlog.specs.Run.{counted, procsIn, stepTables, unmade}
-use Rattle.parlog.specs.Tables.{at, headBytes, Lent, markerSteps, procCount, procsOf, tablesIn, varCount}
+use Rattle.parlog.specs.Tables.{headBytes, Lent, markerSteps, procCount, procsOf, tablesIn, varCount}
 use Rattle.parlog.specs.declared.Loaded.{Loaded}
 use Rattle.parlog.specs.declared.Loaded.the-variants.{Accepted, Refused}
 use Rattle.parlog.specs.declared.Move.{Move}

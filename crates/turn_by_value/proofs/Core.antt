@@ -12,7 +12,7 @@ use Rattle.parlog.proofs.Rows.{build-is}
 use Rattle.parlog.specs.Limits.{Limits}
 use Rattle.parlog.specs.Load.{loadOf, refusal}
 use Rattle.parlog.specs.Scan.{build}
-use Rattle.parlog.specs.Tables.{at, lent, markerLast, markerSteps}
+use Rattle.parlog.specs.Tables.{lent, markerLast, markerSteps}
 use Rattle.parlog.specs.declared.Loaded.{Loaded}
 use Rattle.parlog.specs.declared.Loaded.the-variants.{Accepted, Refused}
 use Rattle.parlog.specs.declared.Marker.{Marker}

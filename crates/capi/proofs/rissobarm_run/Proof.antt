@@ -3,10 +3,6 @@ use Rattle.capi.proofs.Laws.{run-fit, run-tells}
 use borrow.Author.Needs.{needs}
 use Rattle.capi.proofs.rissobarm_run.Statement.{statement}
 use Rattle.capi.proofs.rissobarm_run.Tie as tie
-use Rattle.capi.proofs.rissobarm_run.Reads as reads
-use Rattle.capi.proofs.rissobarm_run.Lts as lts
-use Rattle.run.proofs.run.Reads as run-reads
-use Rattle.words.proofs.run_word.Reads as run-word-reads
 
 pub rissobarm-run-spec : {M : Type 1} → statement M
 rissobarm-run-spec =

@@ -2,10 +2,6 @@ use Rattle.capi.proofs.Laws.{start-fit, start-tells}
 use borrow.Author.Needs.{needs}
 use Rattle.capi.proofs.rissobarm_start.Statement.{statement}
 use Rattle.capi.proofs.rissobarm_start.Tie as tie
-use Rattle.capi.proofs.rissobarm_start.Reads as reads
-use Rattle.capi.proofs.rissobarm_start.Lts as lts
-use Rattle.machine.proofs.start.Reads as start-reads
-use Rattle.words.proofs.start_word.Reads as start-word-reads
 
 pub rissobarm-start-spec : {M : Type 1} → statement M
 rissobarm-start-spec =

@@ -3,10 +3,6 @@ use Rattle.parlog.proofs.Limits.{small-usable}
 use borrow.Author.Needs.{needs}
 use Rattle.capi.proofs.rissobarm_step.Statement.{statement}
 use Rattle.capi.proofs.rissobarm_step.Tie as tie
-use Rattle.capi.proofs.rissobarm_step.Reads as reads
-use Rattle.capi.proofs.rissobarm_step.Lts as lts
-use Rattle.step.proofs.step.Reads as step-reads
-use Rattle.words.proofs.step_word.Reads as step-word-reads
 
 pub rissobarm-step-spec : {M : Type 1} → statement M
 rissobarm-step-spec =

@@ -2,10 +2,6 @@ use Rattle.capi.proofs.Laws.{supply-fit, supply-tells}
 use borrow.Author.Needs.{needs}
 use Rattle.capi.proofs.rissobarm_supply.Statement.{statement}
 use Rattle.capi.proofs.rissobarm_supply.Tie as tie
-use Rattle.capi.proofs.rissobarm_supply.Reads as reads
-use Rattle.capi.proofs.rissobarm_supply.Lts as lts
-use Rattle.machine.proofs.supply.Reads as supply-reads
-use Rattle.words.proofs.supply_word.Reads as supply-word-reads
 
 pub rissobarm-supply-spec : {M : Type 1} → statement M
 rissobarm-supply-spec =

@@ -3,10 +3,6 @@ use Rattle.parlog.proofs.Limits.{small-usable}
 use borrow.Author.Needs.{needs}
 use Rattle.capi.proofs.rissobarm_turn.Statement.{statement}
 use Rattle.capi.proofs.rissobarm_turn.Tie as tie
-use Rattle.capi.proofs.rissobarm_turn.Reads as reads
-use Rattle.capi.proofs.rissobarm_turn.Lts as lts
-use Rattle.run.proofs.turn.Reads as turn-reads
-use Rattle.words.proofs.step_word.Reads as step-word-reads
 
 pub rissobarm-turn-spec : {M : Type 1} → statement M
 rissobarm-turn-spec =

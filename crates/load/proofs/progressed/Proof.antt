@@ -1,6 +1,5 @@
 use Rattle.load.proofs.Room.{few-relations, few-clauses, block-room}
 use Rattle.parlog.specs.Load.{progressed}
-use mathlib.Core.Path.{refl}
 use native.Mathlib.Omega.{arith}
 use borrow.Author.Tests.{eq-eqb, ne-eqb}
 use borrow.Author.Needs.{needs}

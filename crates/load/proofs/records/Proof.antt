@@ -8,7 +8,7 @@ use Rattle.load.specs.Bounds.{Small}
 use Rattle.parlog.specs.Load.{nothingRead, records, verdict}
 use borrow.Author.Tests.{eq-eqb, ne-eqb}
 use lib.ListN.{length}
-use Prim.Native.Nat.{ℕ, _≤_, _+_, _-_}
+use Prim.Native.Nat.{_-_}
 use mathlib.Core.Path.{_≡_, refl}
 use native.Mathlib.Omega.{arith}
 use Rattle.load.proofs.records.Statement.{statement}

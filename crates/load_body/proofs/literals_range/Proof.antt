@@ -3,7 +3,7 @@ use Rattle.place.specs.Reading.{row}
 use Rattle.parlog.specs.Body.{literalRange}
 use Rattle.parlog.specs.Image.{byteAt, literalEnd}
 use borrow.Author.Tests.{le-leb, lt-leb}
-use Prim.Native.Nat.{ℕ, _≤_, _+_, _*_}
+use Prim.Native.Nat.{_≤_, _+_, _*_}
 use mathlib.Core.Path.{_≡_, refl}
 use native.Mathlib.Omega.{arith}
 use Rattle.load_body.proofs.literals_range.Statement.{statement}

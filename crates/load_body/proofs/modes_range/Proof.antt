@@ -3,7 +3,7 @@ use Rattle.parlog.specs.Body.{modeRange, modesRange}
 use Rattle.parlog.proofs.Along.{each-none, each-more, each-stop}
 use Rattle.parlog.specs.Image.{modeEnd}
 use mathlib.Core.Path.{_≡_, refl}
-use Prim.Native.Nat.{ℕ, _≤_, _+_, _*_}
+use Prim.Native.Nat.{_≤_, _+_}
 use native.Mathlib.Omega.{arith}
 use borrow.Author.Tests.{le-leb, lt-leb}
 use borrow.Author.Needs.{needs}

@@ -4,7 +4,7 @@ use Rattle.place.proofs.Grows.{stage-grows}
 use Rattle.parlog.specs.Body.{stageRange}
 use Rattle.parlog.specs.Image.{stageEnd}
 use Rattle.load_body.specs.Reading.{stagesRow}
-use Prim.Native.Nat.{ℕ, _≤_, _+_, _*_}
+use Prim.Native.Nat.{_≤_, _+_, _*_}
 use mathlib.Core.Path.{_≡_, refl}
 use native.Mathlib.Omega.{arith}
 use Rattle.load_body.proofs.stages_range.Statement.{statement}

@@ -1,6 +1,5 @@
 use Rattle.load_names.proofs.Named.{literal-fault, literal-right}
 use borrow.Author.Tests.{not-true, not-false}
-use mathlib.Core.Path.{sym, _∙_}
 use borrow.Author.Needs.{needs}
 use Rattle.load_names.proofs.literal_named.Statement.{statement}
 use Rattle.load_names.proofs.literal_named.Tie as tie

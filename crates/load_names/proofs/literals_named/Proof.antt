@@ -4,8 +4,8 @@ use Rattle.place.specs.Reading.{row}
 use Rattle.parlog.specs.Names.{literalNamed}
 use Rattle.parlog.specs.Image.{literalEnd, literalsEnd}
 use borrow.Author.Tests.{not-true, not-false}
-use Prim.Native.Nat.{ℕ, _≤_, _+_, _*_}
-use mathlib.Core.Path.{_≡_, refl, sym, _∙_}
+use Prim.Native.Nat.{_≤_, _+_, _*_}
+use mathlib.Core.Path.{_≡_, refl}
 use lib.ListN.{length}
 use native.Mathlib.Omega.{arith}
 use Rattle.load_names.proofs.literals_named.Statement.{statement}

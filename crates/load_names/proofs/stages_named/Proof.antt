@@ -4,8 +4,8 @@ use Rattle.place.proofs.Grows.{first-in, rest-in, stage-grows, stage-in, stage-
 use Rattle.place.specs.Reading.{row}
 use Rattle.parlog.specs.Names.{stageNamed}
 use Rattle.parlog.specs.Image.{stageEnd, stagesEnd}
-use Prim.Native.Nat.{ℕ, _≤_, _+_, _*_}
-use mathlib.Core.Path.{_≡_, refl, sym, _∙_}
+use Prim.Native.Nat.{_≤_, _+_, _*_}
+use mathlib.Core.Path.{_≡_, refl}
 use lib.ListN.{length}
 use native.Mathlib.Omega.{arith}
 use Rattle.load_names.proofs.stages_named.Statement.{statement}

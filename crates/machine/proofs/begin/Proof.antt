@@ -4,11 +4,6 @@ use Rattle.parlog.specs.Limits.{small}
 use borrow.Author.Needs.{needs}
 use Rattle.machine.proofs.begin.Statement.{statement}
 use Rattle.machine.proofs.begin.Tie as tie
-use Rattle.machine.proofs.begin.Reads as reads
-use Rattle.machine.proofs.begin.Lts as lts
-use Rattle.head.proofs.put_head.Reads as put-head-reads
-use Rattle.machine.proofs.begin_procs.Reads as begin-procs-reads
-use Rattle.rows.proofs.wipe.Reads as wipe-reads
 
 pub begin-spec : {M : Type 1} → statement M
 unfolding small

@@ -5,11 +5,6 @@ use Rattle.parlog.specs.Limits.{small}
 use borrow.Author.Needs.{needs}
 use Rattle.machine.proofs.begin_procs.Statement.{statement}
 use Rattle.machine.proofs.begin_procs.Tie as tie
-use Rattle.machine.proofs.begin_procs.Reads as reads
-use Rattle.machine.proofs.begin_procs.Lts as lts
-use Rattle.machine.proofs.goal_process.Reads as goal-process-reads
-use Rattle.rows.proofs.append.Reads as append-reads
-use Rattle.rows.proofs.wipe.Reads as wipe-reads
 
 pub begin-procs-spec : {M : Type 1} → statement M
 unfolding small

@@ -4,11 +4,6 @@ use native.Mathlib.Omega.{arith}
 use borrow.Author.Needs.{needs}
 use Rattle.machine.proofs.decided.Statement.{statement}
 use Rattle.machine.proofs.decided.Tie as tie
-use Rattle.machine.proofs.decided.Reads as reads
-use Rattle.machine.proofs.decided.Lts as lts
-use Rattle.load.proofs.refusal.Reads as refusal-reads
-use Rattle.machine.proofs.asked.Reads as asked-reads
-use Rattle.machine.proofs.enter.Reads as enter-reads
 
 pub decided-spec : {M : Type 1} → statement M
 decided-spec =

@@ -5,11 +5,6 @@ use Rattle.parlog.specs.Limits.{small}
 use borrow.Author.Needs.{needs}
 use Rattle.machine.proofs.enter.Statement.{statement}
 use Rattle.machine.proofs.enter.Tie as tie
-use Rattle.machine.proofs.enter.Reads as reads
-use Rattle.machine.proofs.enter.Lts as lts
-use Rattle.load.proofs.load.Reads as load-reads
-use Rattle.machine.proofs.refusal.Reads as refusal-reads
-use Rattle.table_rules.proofs.lent_ok.Reads as lent-ok-reads
 
 pub enter-spec : {M : Type 1} → statement M
 unfolding small

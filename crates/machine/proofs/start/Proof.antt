@@ -3,11 +3,6 @@ use Rattle.parlog.specs.Limits.{small}
 use borrow.Author.Needs.{needs}
 use Rattle.machine.proofs.start.Statement.{statement}
 use Rattle.machine.proofs.start.Tie as tie
-use Rattle.machine.proofs.start.Reads as reads
-use Rattle.machine.proofs.start.Lts as lts
-use Rattle.load.proofs.refusal.Reads as refusal-reads
-use Rattle.machine.proofs.begin.Reads as begin-reads
-use Rattle.machine.proofs.startable.Reads as startable-reads
 
 pub start-spec : {M : Type 1} → statement M
 start-spec =

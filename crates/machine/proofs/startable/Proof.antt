@@ -4,11 +4,6 @@ use Rattle.parlog.specs.Limits.{small}
 use borrow.Author.Needs.{needs}
 use Rattle.machine.proofs.startable.Statement.{statement}
 use Rattle.machine.proofs.startable.Tie as tie
-use Rattle.machine.proofs.startable.Reads as reads
-use Rattle.machine.proofs.startable.Lts as lts
-use Rattle.load.proofs.load.Reads as load-reads
-use Rattle.machine.proofs.refusal.Reads as refusal-reads
-use Rattle.table_rules.proofs.full_size.Reads as full-size-reads
 
 pub startable-spec : {M : Type 1} → statement M
 unfolding small

@@ -3,11 +3,6 @@ use native.Mathlib.Omega.{arith}
 use borrow.Author.Needs.{needs}
 use Rattle.machine.proofs.supply.Statement.{statement}
 use Rattle.machine.proofs.supply.Tie as tie
-use Rattle.machine.proofs.supply.Reads as reads
-use Rattle.machine.proofs.supply.Lts as lts
-use Rattle.head.proofs.var_count.Reads as var-count-reads
-use Rattle.machine.proofs.decided.Reads as decided-reads
-use Rattle.vars.proofs.bind.Reads as bind-reads
 
 pub supply-spec : {M : Type 1} → statement M
 supply-spec =

@@ -4,11 +4,6 @@ use native.Mathlib.Omega.{arith}
 use borrow.Author.Needs.{needs}
 use Rattle.machine.proofs.value.Statement.{statement}
 use Rattle.machine.proofs.value.Tie as tie
-use Rattle.machine.proofs.value.Reads as reads
-use Rattle.machine.proofs.value.Lts as lts
-use Rattle.load.proofs.refusal.Reads as refusal-reads
-use Rattle.machine.proofs.enter.Reads as enter-reads
-use Rattle.machine.proofs.look.Reads as look-reads
 
 pub value-spec : {M : Type 1} → statement M
 value-spec =

@@ -4,7 +4,6 @@ use Rattle.parlog.specs.Image.{recordEnd, recordAt}
 use mathlib.Core.Path.{_≡_, refl}
 use Prim.Native.Nat.{_≤_, _+_, _*_}
 use native.Mathlib.Omega.{arith}
-use borrow.Author.Needs.{needs}
 use Rattle.place.proofs.record_at.Statement.{statement}
 use Rattle.place.proofs.record_at.Tie as tie
 

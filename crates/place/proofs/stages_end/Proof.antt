@@ -4,7 +4,6 @@ use Rattle.parlog.specs.Image.{stageEnd, stagesEnd}
 use mathlib.Core.Path.{_≡_, refl}
 use Prim.Native.Nat.{_≤_, _+_, _*_}
 use native.Mathlib.Omega.{arith}
-use borrow.Author.Needs.{needs}
 use Rattle.place.proofs.stages_end.Statement.{statement}
 use Rattle.place.proofs.stages_end.Tie as tie
 

@@ -1,6 +1,5 @@
 use mathlib.Core.Path.{_∙_}
 use borrow.Author.Needs.{needs}
-use Rattle.parlog.specs.Program.{equation}
 use Rattle.program_goal.proofs.Goals.{lit-first, lit-second}
 use Rattle.program_goal.proofs.literal_at.Statement.{statement}
 use Rattle.program_goal.proofs.literal_at.Tie as tie

@@ -2,13 +2,6 @@ use Rattle.run.proofs.Turning.{turn-below, turning, went-ended, went-on
 use borrow.Author.Needs.{needs}
 use Rattle.run.proofs.go.Statement.{statement}
 use Rattle.run.proofs.go.Tie as tie
-use Rattle.run.proofs.go.Reads as reads
-use Rattle.run.proofs.go.Lts as lts
-use Rattle.head.proofs.proc_count.Reads as proc-count-reads
-use Rattle.run.proofs.ended.Reads as ended-reads
-use Rattle.run.proofs.goal_end.Reads as goal-end-reads
-use Rattle.run.proofs.one.Reads as one-reads
-use Rattle.run.proofs.whose.Reads as whose-reads
 
 pub go-spec : {M : Type 1} → statement M
 go-spec =

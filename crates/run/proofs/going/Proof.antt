@@ -1,5 +1,4 @@
 use borrow.Author.Needs.{needs}
-use mathlib.Core.Path.{_≡_, sym}
 use Prim.Native.Nat.{_-_}
 use native.Mathlib.Omega.{arith}
 use Rattle.run.proofs.Turning.{turning}
@@ -9,10 +8,6 @@ use Rattle.parlog.specs.Tables.{lent}
 use Rattle.run.specs.Running.{Going}
 use Rattle.run.proofs.going.Statement.{statement}
 use Rattle.run.proofs.going.Tie as tie
-use Rattle.run.proofs.going.Reads as reads
-use Rattle.run.proofs.going.Lts as lts
-use Rattle.run.proofs.go.Reads as go-reads
-use Rattle.run.proofs.stop.Reads as stop-reads
 
 abbrev Inv-loop : tie.InvT-loop
 Inv-loop image rels clauses head₀ procs₀ vars₀ limit k₀ head procs vars k = Going small image rels clauses (lent head₀ procs₀ vars₀) (lent head procs vars) limit k

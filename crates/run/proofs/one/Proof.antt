@@ -2,9 +2,6 @@ use Rattle.run.proofs.Turning.{one-moved, one-unmoved}
 use borrow.Author.Needs.{needs}
 use Rattle.run.proofs.one.Statement.{statement}
 use Rattle.run.proofs.one.Tie as tie
-use Rattle.run.proofs.one.Reads as reads
-use Rattle.run.proofs.one.Lts as lts
-use Rattle.step.proofs.stepped.Reads as stepped-reads
 
 pub one-spec : {M : Type 1} → statement M
 one-spec =

@@ -4,11 +4,6 @@ use Rattle.machine.proofs.Entering.{inside-of}
 use borrow.Author.Needs.{needs}
 use Rattle.run.proofs.run.Statement.{statement}
 use Rattle.run.proofs.run.Tie as tie
-use Rattle.run.proofs.run.Reads as reads
-use Rattle.run.proofs.run.Lts as lts
-use Rattle.load.proofs.refusal.Reads as refusal-reads
-use Rattle.machine.proofs.enter.Reads as enter-reads
-use Rattle.run.proofs.going.Reads as going-reads
 
 pub run-spec : {M : Type 1} → statement M
 run-spec =

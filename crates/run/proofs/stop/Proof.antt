@@ -2,12 +2,6 @@ use Rattle.run.proofs.Turning.{stop-ended, stop-spent, stop-waits}
 use borrow.Author.Needs.{needs}
 use Rattle.run.proofs.stop.Statement.{statement}
 use Rattle.run.proofs.stop.Tie as tie
-use Rattle.run.proofs.stop.Reads as reads
-use Rattle.run.proofs.stop.Lts as lts
-use Rattle.head.proofs.proc_count.Reads as proc-count-reads
-use Rattle.run.proofs.ended.Reads as ended-reads
-use Rattle.run.proofs.goal_end.Reads as goal-end-reads
-use Rattle.run.proofs.whose.Reads as whose-reads
 
 pub stop-spec : {M : Type 1} → statement M
 stop-spec =

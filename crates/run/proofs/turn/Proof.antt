@@ -3,11 +3,6 @@ use Rattle.machine.proofs.Entering.{inside-of}
 use borrow.Author.Needs.{needs}
 use Rattle.run.proofs.turn.Statement.{statement}
 use Rattle.run.proofs.turn.Tie as tie
-use Rattle.run.proofs.turn.Reads as reads
-use Rattle.run.proofs.turn.Lts as lts
-use Rattle.load.proofs.refusal.Reads as refusal-reads
-use Rattle.machine.proofs.enter.Reads as enter-reads
-use Rattle.run.proofs.turn_in.Reads as turn-in-reads
 
 pub turn-spec : {M : Type 1} → statement M
 turn-spec =

@@ -2,11 +2,6 @@ use Rattle.run.proofs.Turning.{turn-below, turn-none, turn-some, turnin
 use borrow.Author.Needs.{needs}
 use Rattle.run.proofs.turn_in.Statement.{statement}
 use Rattle.run.proofs.turn_in.Tie as tie
-use Rattle.run.proofs.turn_in.Reads as reads
-use Rattle.run.proofs.turn_in.Lts as lts
-use Rattle.machine.proofs.refusal.Reads as refusal-reads
-use Rattle.run.proofs.whose.Reads as whose-reads
-use Rattle.step.proofs.stepped.Reads as stepped-reads
 
 pub turn-in-spec : {M : Type 1} → statement M
 turn-in-spec =

@@ -4,12 +4,6 @@ use Rattle.parlog.specs.Limits.{small}
 use borrow.Author.Needs.{needs}
 use Rattle.run.proofs.whose.Statement.{statement}
 use Rattle.run.proofs.whose.Tie as tie
-use Rattle.run.proofs.whose.Reads as reads
-use Rattle.run.proofs.whose.Lts as lts
-use Rattle.head.proofs.marker_last.Reads as marker-last-reads
-use Rattle.head.proofs.proc_count.Reads as proc-count-reads
-use Rattle.head.proofs.var_count.Reads as var-count-reads
-use Rattle.turn_search.proofs.next.Reads as next-reads
 
 pub whose-spec : {M : Type 1} → statement M
 unfolding small

@@ -1,4 +1,3 @@
-use mathlib.Core.Path.{_∙_}
 use native.Mathlib.Omega.{arith}
 use Rattle.runner.proofs.Telling.{lines-fit, never-unrun, told-run}
 use Rattle.runner.proofs.Playing.{plays}

@@ -4,13 +4,6 @@ use borrow.Author.Needs.{needs}
 use borrow.Author.Tests.{ne-eqb}
 use Rattle.turn_by_value.proofs.turn_core.Statement.{statement}
 use Rattle.turn_by_value.proofs.turn_core.Tie as tie
-use Rattle.turn_by_value.proofs.turn_core.Reads as reads
-use Rattle.turn_by_value.proofs.turn_core.Lts as lts
-use Rattle.turn_by_value.proofs.hand_back.Reads as hand-back-reads
-use Rattle.turn_by_value.proofs.join_head.Reads as join-head-reads
-use Rattle.turn_by_value.proofs.put_counts.Reads as put-counts-reads
-use Rattle.run.proofs.turn.Reads as turn-reads
-use Rattle.turn_by_value.proofs.turned_away.Reads as turned-away-reads
 
 -- counts of another size
 returns : tie.Need-returns
