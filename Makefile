@@ -1,35 +1,44 @@
-# `make run` does the main job; `make test` runs everything that the gate runs; `make install PREFIX=..` installs the library.
-# `make soak MINUTES=20` drives archive and reference side by side; `make faults` shows that the driver finds planted faults.
-.PHONY: run test install uninstall soak faults
+# `make` alone tells the targets: those with a text behind two # signs, in this order.
+.PHONY: help run test archive install uninstall bench soak faults clean
 
 VERSION = 0.1
 PREFIX = /usr/local
 DESTDIR =
 into = $(DESTDIR)$(PREFIX)
 MINUTES = 20
+RUNS = 5
 
-# The first time this proves the runner and all that it stands on, which takes some minutes.
-run:
-	@tests/hex <tests/runner/cases/s-five.hex | tests/runner/run
+help:
+	@sed -n 's/^\([a-z]*\):.*## /\1:/p' Makefile | awk -F: '{ printf "make %-10s %s\n", $$1, substr($$0, length($$1) + 2) }'
 
-test:
+run: ## the main job: builds the runner, minutes the first time, and runs the plan s(^)
+	@tools/hex <tests/runner/cases/s-five.hex | tools/run-image
+
+test: ## the gate: every check and every proof; its last line is `N passed, 0 failed`
 	@bash .ci/run
 
-# The archive is proved before it is installed, unless it stands there for these sources.
-install:
-	@tests/archive
+archive: ## proves and builds build/librissobarm.a, unless it stands there for these sources
+	@tools/archive
+
+install: archive ## installs the archive, its header and rissobarm.pc below PREFIX (/usr/local)
 	@sed -e 's|@PREFIX@|$(PREFIX)|' -e 's|@VERSION@|$(VERSION)|' rissobarm.pc.in >build/rissobarm.pc
 	install -d '$(into)/lib/pkgconfig' '$(into)/include'
 	install -m 644 build/librissobarm.a '$(into)/lib/librissobarm.a'
 	install -m 644 include/rissobarm.h '$(into)/include/rissobarm.h'
 	install -m 644 build/rissobarm.pc '$(into)/lib/pkgconfig/rissobarm.pc'
 
-uninstall:
+uninstall: ## takes these three files out again
 	rm -f '$(into)/lib/librissobarm.a' '$(into)/include/rissobarm.h' '$(into)/lib/pkgconfig/rissobarm.pc'
 
-soak:
-	@tests/soak $(MINUTES) $(SEED)
+bench: ## measures the archive beside plain C, RUNS times (5); on x86-64 alone
+	@bench/run $(RUNS)
 
-faults:
-	@tests/install
+soak: ## drives archive and reference side by side for MINUTES (20), from SEED where one is given
+	@tools/soak $(MINUTES) $(SEED)
+
+faults: ## plants faults in a stand-in for the archive: the driver must find each
+	@tools/install
 	@tests/faults
+
+clean: ## removes build/ and target/, and with them all that was proved
+	rm -rf build target

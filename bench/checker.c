@@ -1,7 +1,7 @@
 /* Tests an image in one pass: each byte is read once, and a refusal ends the pass. */
 #include "checker.h"
 
-enum { LONG = 1, CUT, KIND, BODY, NAME, MANY, NOGOAL, EQUALITY = 255 };
+#include "rissobarm.h"
 
 /* What is known between two records, and whether the record in hand names all things rightly. */
 struct checker {
@@ -10,7 +10,7 @@ struct checker {
     unsigned relations, clauses, kind, relation, block;
     unsigned variables;
     int named;
-    uint8_t arity[32];
+    uint8_t arity[RISSOBARM_RELATION_LIMIT];
 };
 
 static unsigned word(const uint8_t *at)
@@ -29,7 +29,7 @@ static int check_terms(struct checker *c, unsigned arity)
     for (; arity > 0; arity--, at += 2) {
         unsigned term = word(at);
 
-        if (term >= 32768 + c->variables)
+        if (term >= RISSOBARM_TERM_VARIABLE + c->variables)
             c->named = 0;
     }
     return 1;
@@ -44,18 +44,18 @@ static int check_literal(struct checker *c)
     relation = c->at[0];
     arity = c->at[1];
     c->at += 2;
-    if (arity > 4)
+    if (arity > RISSOBARM_ARITY_LIMIT)
         return 0;
-    if (relation == EQUALITY ? arity != 2 : relation >= c->relations || arity != c->arity[relation])
+    if (relation == RISSOBARM_EQUALITY ? arity != 2 : relation >= c->relations || arity != c->arity[relation])
         c->named = 0;
     return check_terms(c, arity);
 }
 
 static int check_goal(struct checker *c)
 {
-    unsigned stages, count, left = 8;
+    unsigned stages, count, left = RISSOBARM_LITERAL_LIMIT;
 
-    if (c->at == c->end || *c->at > 8)
+    if (c->at == c->end || *c->at > RISSOBARM_STAGE_LIMIT)
         return 0;
     for (stages = *c->at++; stages > 0; stages--) {
         if (c->at == c->end)
@@ -75,16 +75,16 @@ static unsigned check_relation(struct checker *c)
 {
     unsigned arity, k;
 
-    if (c->relations == 32)
-        return MANY;
-    if (c->at == c->end || *c->at > 4 || c->end - c->at != 1 + *c->at)
-        return BODY;
+    if (c->relations == RISSOBARM_RELATION_LIMIT)
+        return RISSOBARM_MANY;
+    if (c->at == c->end || *c->at > RISSOBARM_ARITY_LIMIT || c->end - c->at != 1 + *c->at)
+        return RISSOBARM_BODY;
     arity = *c->at++;
     for (k = 0; k < arity; k++)
         if (c->at[k] > 1)
-            return BODY;
+            return RISSOBARM_BODY;
     c->arity[c->relations++] = (uint8_t)arity;
-    return 0;
+    return RISSOBARM_ACCEPTED;
 }
 
 static unsigned check_clause(struct checker *c)
@@ -92,47 +92,50 @@ static unsigned check_clause(struct checker *c)
     const uint8_t *at = c->at;
     int follows;
 
-    if (c->clauses == 64)
-        return MANY;
-    if (c->end - at < 4 || at[1] > 4 || at[2] > 1 || at[3] > 16)
-        return BODY;
+    if (c->clauses == RISSOBARM_CLAUSE_LIMIT)
+        return RISSOBARM_MANY;
+    if (c->end - at < 4 || at[1] > RISSOBARM_ARITY_LIMIT || at[2] > 1 || at[3] > RISSOBARM_OWN_LIMIT)
+        return RISSOBARM_BODY;
     follows = c->clauses > 0 && at[0] == c->relation;
     c->variables = at[3];
     c->named = at[0] < c->relations && at[1] == c->arity[at[0]] && at[0] >= c->relation && (follows || at[2] == 0);
     c->at = at + 4;
     if (!check_terms(c, at[1]) || !check_goal(c) || !check_goal(c) || c->at != c->end)
-        return BODY;
+        return RISSOBARM_BODY;
     if (!c->named)
-        return NAME;
+        return RISSOBARM_NAME;
     c->block = follows && at[2] == 0 ? c->block + 1 : 1;
     c->relation = at[0];
     c->clauses++;
-    return c->block > 8 ? MANY : 0;
+    return c->block > RISSOBARM_BLOCK_LIMIT ? RISSOBARM_MANY : RISSOBARM_ACCEPTED;
 }
 
 static unsigned check_ask(struct checker *c)
 {
-    if (c->at == c->end || *c->at > 16)
-        return BODY;
+    if (c->at == c->end || *c->at > RISSOBARM_OWN_LIMIT)
+        return RISSOBARM_BODY;
     c->variables = *c->at++;
     c->named = 1;
     if (!check_goal(c) || c->at != c->end)
-        return BODY;
-    return c->named ? 0 : NAME;
+        return RISSOBARM_BODY;
+    return c->named ? RISSOBARM_ACCEPTED : RISSOBARM_NAME;
 }
 
 static unsigned check_record(struct checker *c, const uint8_t *record, size_t left)
 {
     unsigned before = c->kind;
 
-    if (left < 4 || word(record) < 4 || word(record) > left)
-        return CUT;
+    if (left < RISSOBARM_RECORD_HEAD || word(record) < RISSOBARM_RECORD_HEAD || word(record) > left)
+        return RISSOBARM_CUT;
     c->kind = word(record + 2);
-    if (c->kind < 1 || c->kind > 3 || c->kind < before || before == 3)
-        return KIND;
-    c->at = record + 4;
+    if (c->kind < RISSOBARM_RECORD_RELATION || c->kind > RISSOBARM_RECORD_GOAL || c->kind < before ||
+        before == RISSOBARM_RECORD_GOAL)
+        return RISSOBARM_KIND;
+    c->at = record + RISSOBARM_RECORD_HEAD;
     c->end = record + word(record);
-    return c->kind == 1 ? check_relation(c) : c->kind == 2 ? check_clause(c) : check_ask(c);
+    return c->kind == RISSOBARM_RECORD_RELATION ? check_relation(c)
+           : c->kind == RISSOBARM_RECORD_CLAUSE ? check_clause(c)
+                                                : check_ask(c);
 }
 
 static uint64_t refused(unsigned number, size_t offset)
@@ -146,15 +149,15 @@ uint64_t checker_load(const uint8_t *image, size_t image_len)
     size_t at = 0;
     unsigned number;
 
-    if (image_len > 32768)
-        return refused(LONG, 0);
+    if (image_len > RISSOBARM_IMAGE_LIMIT)
+        return refused(RISSOBARM_LONG, 0);
     while (at < image_len) {
         number = check_record(&c, image + at, image_len - at);
-        if (number != 0)
+        if (number != RISSOBARM_ACCEPTED)
             return refused(number, at);
         at += word(image + at);
     }
-    if (c.kind != 3)
-        return refused(NOGOAL, image_len);
+    if (c.kind != RISSOBARM_RECORD_GOAL)
+        return refused(RISSOBARM_NOGOAL, image_len);
     return c.relations << 8 | c.clauses << 16;
 }

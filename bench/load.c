@@ -4,8 +4,6 @@
 #include "rissobarm.h"
 #include "times.h"
 
-enum { FULL = 32768 };
-
 static struct image image;
 static volatile uint64_t sink;
 
@@ -75,7 +73,7 @@ static void reach(size_t length)
 static void make_late(unsigned part)
 {
     make_mixed(part);
-    reach(FULL / part);
+    reach(RISSOBARM_IMAGE_LIMIT / part);
 }
 
 /* From here on 255 stages of 255 literals without terms, as far as the length lets them stand. */
@@ -97,17 +95,17 @@ static void make_wild(unsigned part)
 {
     image.length = 0;
     image.records = 0;
-    record_begin(&image, 3);
+    record_begin(&image, RISSOBARM_RECORD_GOAL);
     put_byte(&image, 0);
-    put_wild(FULL / part);
+    put_wild(RISSOBARM_IMAGE_LIMIT / part);
 }
 
 /* Right clauses before such a goal. */
 static void make_wild_late(unsigned part)
 {
     make_equal(part);
-    image.length = image.starts[image.records - 1] + 5;
-    put_wild(FULL / part);
+    image.length = image.starts[image.records - 1] + RISSOBARM_RECORD_HEAD + 1;
+    put_wild(RISSOBARM_IMAGE_LIMIT / part);
 }
 
 /* The sorts of image that are measured. */

@@ -5,20 +5,9 @@
  */
 #include "machine.h"
 #include "checker.h"
+#include "rissobarm.h"
 
 #include <string.h>
-
-enum { ROW = 24, PROCESSES = 512, VARIABLES = 1024, HEAD = 10, GOALS = 8, EQUALITY = 255 };
-enum { AND_PAR, AND_SEQ, OR_PAR, SEQ_SEARCH, OR_SEARCH, TRY_CLAUSE, INPUT_MATCH, GUARD_EVAL, EQUATE, TAGS };
-enum { DORMANT, READY, STARTING, WAITING, REPORTING, SUSPENDED, MODES };
-enum { NONE, SUCCESS, FAILURE, RESULTS };
-enum { THE_GOAL, GUARD, BODY, KINDS };
-enum { UNBOUND, CONSTANT, VARIABLE };
-enum { END_SUCCESS = 1, END_FAILURE, END_WAITING, END_ROOM, END_BUDGET };
-enum { STATE = 8, NOVAR = 12, BOUND, CONST };
-
-/* Bytes of a process row. */
-enum { TAG, MODE, RESULT, COUNT, PARENT, KIND = 6, CLAUSE, BASE, STAGE = 10, LITERAL, BLOCK, FOUND, FIRST, NOTES = 16 };
 
 /* What the children of a process say, a bit each; the latest child is the one of the highest number. */
 enum { SILENT = 1, SOME_SUCCESS = 2, SOME_FAILURE = 4, LATEST_REPORTS = 8 };
@@ -29,8 +18,8 @@ enum { SILENT = 1, SOME_SUCCESS = 2, SOME_FAILURE = 4, LATEST_REPORTS = 8 };
 /* A goal of the image: where its literals stand, and which of them begins each stage. */
 struct goal {
     uint8_t stages;
-    uint8_t start[GOALS + 1];
-    uint16_t literal[GOALS];
+    uint8_t start[RISSOBARM_STAGE_LIMIT + 1];
+    uint16_t literal[RISSOBARM_LITERAL_LIMIT];
 };
 
 struct clause {
@@ -41,8 +30,8 @@ struct clause {
 
 struct relation {
     uint8_t arity, blocks;
-    uint8_t output[4];
-    uint8_t first[65]; /* the first clause of each block, and the end */
+    uint8_t output[RISSOBARM_ARITY_LIMIT];
+    uint8_t first[RISSOBARM_CLAUSE_LIMIT + 1]; /* the first clause of each block, and the end */
 };
 
 /* What the children of a process say in a turn. A silent one has its own byte, so that a store alone notes it. */
@@ -57,25 +46,25 @@ struct run {
     uint32_t steps;
     unsigned relations, clauses, goal_variables;
     struct goal goal;
-    struct relation relation[32];
-    struct clause clause[64];
-    uint16_t parent[PROCESSES]; /* a copy of those in the rows, to climb by */
-    struct note note[PROCESSES];
-    uint16_t latest[PROCESSES]; /* the latest child, where it reports */
-    uint16_t lowest[PROCESSES]; /* the lowest child that reports success, where one does */
+    struct relation relation[RISSOBARM_RELATION_LIMIT];
+    struct clause clause[RISSOBARM_CLAUSE_LIMIT];
+    uint16_t parent[RISSOBARM_PROCESS_LIMIT]; /* a copy of those in the rows, to climb by */
+    struct note note[RISSOBARM_PROCESS_LIMIT];
+    uint16_t latest[RISSOBARM_PROCESS_LIMIT]; /* the latest child, where it reports */
+    uint16_t lowest[RISSOBARM_PROCESS_LIMIT]; /* the lowest child that reports success, where one does */
 };
 
 /* The bindings that one unification makes, in order. */
 struct changes {
     unsigned count;
-    uint16_t variable[4];
-    uint32_t term[4];
+    uint16_t variable[RISSOBARM_ARITY_LIMIT];
+    uint32_t term[RISSOBARM_ARITY_LIMIT];
 };
 
 /* A literal found: an equation of outputs has its terms here, any other in the image. */
 struct literal {
     unsigned relation, arity;
-    uint32_t term[4];
+    uint32_t term[RISSOBARM_ARITY_LIMIT];
 };
 
 static inline unsigned word(const uint8_t *at)
@@ -91,7 +80,7 @@ static inline void put_word(uint8_t *at, unsigned word)
 
 static inline uint8_t *row(const struct run *r, size_t process)
 {
-    return r->procs + process * ROW;
+    return r->procs + process * RISSOBARM_PROCESS_ROW;
 }
 
 /* ---- the image, which was accepted ---- */
@@ -151,13 +140,13 @@ static void index_image(struct run *r, const uint8_t *image, size_t length)
     r->image = image;
     r->relations = r->clauses = 0;
     for (at = 0; at < length; at += word(image + at)) {
-        if (image[at + 2] == 1)
-            index_relation(r, image + at + 4);
-        else if (image[at + 2] == 2)
-            index_clause(r, image + at + 4);
+        if (image[at + 2] == RISSOBARM_RECORD_RELATION)
+            index_relation(r, image + at + RISSOBARM_RECORD_HEAD);
+        else if (image[at + 2] == RISSOBARM_RECORD_CLAUSE)
+            index_clause(r, image + at + RISSOBARM_RECORD_HEAD);
         else {
-            r->goal_variables = image[at + 4];
-            index_goal(r, image + at + 5, &r->goal);
+            r->goal_variables = image[at + RISSOBARM_RECORD_HEAD];
+            index_goal(r, image + at + RISSOBARM_RECORD_HEAD + 1, &r->goal);
         }
     }
 }
@@ -166,13 +155,13 @@ static void index_image(struct run *r, const uint8_t *image, size_t length)
 
 static inline const struct goal *goal_of(const struct run *r, unsigned kind, unsigned clause)
 {
-    return kind == THE_GOAL ? &r->goal : &r->clause[clause].sides[kind - 1];
+    return kind == RISSOBARM_GOAL_IMAGE ? &r->goal : &r->clause[clause].sides[kind - 1];
 }
 
 /* Equations that a goal has before the literals of its first stage. */
 static inline unsigned outputs_of(const struct run *r, unsigned kind, unsigned clause)
 {
-    return kind == BODY ? r->clause[clause].outputs : 0;
+    return kind == RISSOBARM_GOAL_BODY ? r->clause[clause].outputs : 0;
 }
 
 static unsigned stage_count(const struct run *r, unsigned kind, unsigned clause)
@@ -197,7 +186,7 @@ static inline uint32_t term_at(const struct run *r, unsigned at, unsigned first)
 {
     unsigned term = word(r->image + at);
 
-    return term < 32768 ? term : (term - 32768 + first) | IS_VARIABLE;
+    return term < RISSOBARM_TERM_VARIABLE ? term : (term - RISSOBARM_TERM_VARIABLE + first) | IS_VARIABLE;
 }
 
 /* The relation of a literal alone. */
@@ -206,19 +195,20 @@ static unsigned relation_at(const struct run *r, unsigned kind, unsigned clause,
     const struct goal *goal = goal_of(r, kind, clause);
     unsigned outputs = stage == 0 ? outputs_of(r, kind, clause) : 0;
 
-    return literal < outputs ? EQUALITY : r->image[goal->literal[goal->start[stage] + literal - outputs]];
+    return literal < outputs ? RISSOBARM_EQUALITY : r->image[goal->literal[goal->start[stage] + literal - outputs]];
 }
 
 static inline unsigned relation_of(const struct run *r, const uint8_t *me)
 {
-    return relation_at(r, me[KIND], me[CLAUSE], me[STAGE], me[LITERAL]);
+    return relation_at(r, me[RISSOBARM_ROW_KIND], me[RISSOBARM_ROW_CLAUSE], me[RISSOBARM_ROW_STAGE],
+                       me[RISSOBARM_ROW_LITERAL]);
 }
 
 /* The equation for an output argument: its head term, and its new variable. */
 static struct literal output_equation(const struct run *r, const struct clause *clause, unsigned first, unsigned number)
 {
     const uint8_t *output = r->relation[clause->relation].output;
-    struct literal found = { EQUALITY, 2, { 0, 0, 0, 0 } };
+    struct literal found = { RISSOBARM_EQUALITY, 2, { 0, 0, 0, 0 } };
     unsigned k = 0, left = number;
 
     while (!output[k] || left-- > 0)
@@ -230,31 +220,33 @@ static struct literal output_equation(const struct run *r, const struct clause *
 
 static struct literal literal_of(const struct run *r, const uint8_t *me)
 {
-    const struct goal *goal = goal_of(r, me[KIND], me[CLAUSE]);
-    unsigned outputs = me[STAGE] == 0 ? outputs_of(r, me[KIND], me[CLAUSE]) : 0;
+    const struct goal *goal = goal_of(r, me[RISSOBARM_ROW_KIND], me[RISSOBARM_ROW_CLAUSE]);
+    unsigned outputs =
+        me[RISSOBARM_ROW_STAGE] == 0 ? outputs_of(r, me[RISSOBARM_ROW_KIND], me[RISSOBARM_ROW_CLAUSE]) : 0;
     struct literal found;
     unsigned at, k;
 
-    if (me[LITERAL] < outputs)
-        return output_equation(r, &r->clause[me[CLAUSE]], word(me + BASE), me[LITERAL]);
-    at = goal->literal[goal->start[me[STAGE]] + me[LITERAL] - outputs];
+    if (me[RISSOBARM_ROW_LITERAL] < outputs)
+        return output_equation(r, &r->clause[me[RISSOBARM_ROW_CLAUSE]], word(me + RISSOBARM_ROW_BASE),
+                               me[RISSOBARM_ROW_LITERAL]);
+    at = goal->literal[goal->start[me[RISSOBARM_ROW_STAGE]] + me[RISSOBARM_ROW_LITERAL] - outputs];
     found.relation = r->image[at];
     found.arity = r->image[at + 1];
     for (k = 0; k < found.arity; k++)
-        found.term[k] = term_at(r, at + 2 + 2 * k, word(me + BASE));
+        found.term[k] = term_at(r, at + 2 + 2 * k, word(me + RISSOBARM_ROW_BASE));
     return found;
 }
 
 static unsigned stage_tag(const struct run *r, unsigned kind, unsigned clause, unsigned stage)
 {
     if (stage_size(r, kind, clause, stage) > 1)
-        return AND_PAR;
-    return relation_at(r, kind, clause, stage, 0) == EQUALITY ? EQUATE : OR_PAR;
+        return RISSOBARM_TAG_AND_PAR;
+    return relation_at(r, kind, clause, stage, 0) == RISSOBARM_EQUALITY ? RISSOBARM_TAG_EQUATE : RISSOBARM_TAG_OR_PAR;
 }
 
 static unsigned goal_tag(const struct run *r, unsigned kind, unsigned clause)
 {
-    return stage_count(r, kind, clause) == 1 ? stage_tag(r, kind, clause, 0) : AND_SEQ;
+    return stage_count(r, kind, clause) == 1 ? stage_tag(r, kind, clause, 0) : RISSOBARM_TAG_AND_SEQ;
 }
 
 /* ---- the table rules ---- */
@@ -264,27 +256,34 @@ static int variables_good(const struct run *r)
     unsigned k;
 
     for (k = 0; k < r->variables; k++) {
-        const uint8_t *at = r->vars + 4 * k;
-        unsigned number = word(at + 1) | (unsigned)at[3] << 16;
+        const uint8_t *at = r->vars + RISSOBARM_VARIABLE_ROW * k;
+        unsigned number = word(at + RISSOBARM_CELL_NUMBER) | (unsigned)at[RISSOBARM_CELL_NUMBER + 2] << 16;
 
-        if (at[0] > VARIABLE || (at[0] == UNBOUND && number != 0) || (at[0] == CONSTANT && number > 32767) ||
-            (at[0] == VARIABLE && number >= k))
+        if (at[RISSOBARM_CELL_SORT] >= RISSOBARM_SORT_COUNT ||
+            (at[RISSOBARM_CELL_SORT] == RISSOBARM_SORT_UNBOUND && number != 0) ||
+            (at[RISSOBARM_CELL_SORT] == RISSOBARM_SORT_CONSTANT && number > RISSOBARM_CONSTANT_LIMIT) ||
+            (at[RISSOBARM_CELL_SORT] == RISSOBARM_SORT_VARIABLE && number >= k))
             return 0;
     }
     return 1;
 }
 
-/* For each tag the tags that its rules make, a bit each. */
-static const uint16_t makes[TAGS] = {
-    1 << OR_PAR | 1 << EQUATE,
-    1 << OR_PAR | 1 << EQUATE | 1 << AND_PAR,
-    1 << OR_PAR | 1 << EQUATE | 1 << AND_PAR | 1 << AND_SEQ | 1 << SEQ_SEARCH,
-    1 << OR_SEARCH,
-    1 << TRY_CLAUSE,
-    1 << INPUT_MATCH | 1 << GUARD_EVAL,
-    0,
-    1 << OR_PAR | 1 << EQUATE | 1 << AND_PAR | 1 << AND_SEQ,
-    0
+/* The tags of a literal, of a stage and of a goal, a bit each. */
+enum {
+    LITERALS = 1 << RISSOBARM_TAG_OR_PAR | 1 << RISSOBARM_TAG_EQUATE,
+    STAGES = LITERALS | 1 << RISSOBARM_TAG_AND_PAR,
+    GOALS = STAGES | 1 << RISSOBARM_TAG_AND_SEQ
+};
+
+/* For each tag the tags that its rules make. */
+static const uint16_t makes[RISSOBARM_TAG_COUNT] = {
+    [RISSOBARM_TAG_AND_PAR] = LITERALS,
+    [RISSOBARM_TAG_AND_SEQ] = STAGES,
+    [RISSOBARM_TAG_OR_PAR] = GOALS | 1 << RISSOBARM_TAG_SEQ_SEARCH,
+    [RISSOBARM_TAG_SEQ_SEARCH] = 1 << RISSOBARM_TAG_OR_SEARCH,
+    [RISSOBARM_TAG_OR_SEARCH] = 1 << RISSOBARM_TAG_TRY_CLAUSE,
+    [RISSOBARM_TAG_TRY_CLAUSE] = 1 << RISSOBARM_TAG_INPUT_MATCH | 1 << RISSOBARM_TAG_GUARD_EVAL,
+    [RISSOBARM_TAG_GUARD_EVAL] = GOALS
 };
 
 static inline int clause_good(const struct run *r, unsigned clause, unsigned first)
@@ -294,47 +293,58 @@ static inline int clause_good(const struct run *r, unsigned clause, unsigned fir
 
 static inline int goal_good(const struct run *r, const uint8_t *me)
 {
-    return me[KIND] == THE_GOAL ? word(me + BASE) == 0 : clause_good(r, me[CLAUSE], word(me + BASE));
+    return me[RISSOBARM_ROW_KIND] == RISSOBARM_GOAL_IMAGE
+               ? word(me + RISSOBARM_ROW_BASE) == 0
+               : clause_good(r, me[RISSOBARM_ROW_CLAUSE], word(me + RISSOBARM_ROW_BASE));
 }
 
 static int literal_good(const struct run *r, const uint8_t *me, int equality)
 {
-    return goal_good(r, me) && me[STAGE] < stage_count(r, me[KIND], me[CLAUSE]) &&
-           me[LITERAL] < stage_size(r, me[KIND], me[CLAUSE], me[STAGE]) && (relation_of(r, me) == EQUALITY) == equality;
+    return goal_good(r, me) &&
+           me[RISSOBARM_ROW_STAGE] < stage_count(r, me[RISSOBARM_ROW_KIND], me[RISSOBARM_ROW_CLAUSE]) &&
+           me[RISSOBARM_ROW_LITERAL] <
+               stage_size(r, me[RISSOBARM_ROW_KIND], me[RISSOBARM_ROW_CLAUSE], me[RISSOBARM_ROW_STAGE]) &&
+           (relation_of(r, me) == RISSOBARM_EQUALITY) == equality;
 }
 
 static int found_good(const struct run *r, const uint8_t *me)
 {
-    return clause_good(r, me[FOUND], word(me + FIRST));
+    return clause_good(r, me[RISSOBARM_ROW_FOUND], word(me + RISSOBARM_ROW_FIRST));
 }
 
 static int searcher_good(const struct run *r, const uint8_t *me)
 {
     if (!literal_good(r, me, 0))
         return 0;
-    if ((me[TAG] == OR_SEARCH || me[MODE] == WAITING) && me[BLOCK] >= r->relation[relation_of(r, me)].blocks)
+    if ((me[RISSOBARM_ROW_TAG] == RISSOBARM_TAG_OR_SEARCH || me[RISSOBARM_ROW_MODE] == RISSOBARM_MODE_WAITING) &&
+        me[RISSOBARM_ROW_BLOCK] >= r->relation[relation_of(r, me)].blocks)
         return 0;
-    return me[MODE] != REPORTING || me[RESULT] != SUCCESS || found_good(r, me);
+    return me[RISSOBARM_ROW_MODE] != RISSOBARM_MODE_REPORTING ||
+           me[RISSOBARM_ROW_RESULT] != RISSOBARM_RESULT_SUCCESS || found_good(r, me);
 }
 
 static int places_good(const struct run *r, const uint8_t *me)
 {
-    switch (me[TAG]) {
-    case AND_PAR:
-        return goal_good(r, me) && me[STAGE] < stage_count(r, me[KIND], me[CLAUSE]);
-    case AND_SEQ:
-        return goal_good(r, me) && me[STAGE] + (me[MODE] == WAITING) <= (int)stage_count(r, me[KIND], me[CLAUSE]);
-    case OR_PAR:
+    switch (me[RISSOBARM_ROW_TAG]) {
+    case RISSOBARM_TAG_AND_PAR:
+        return goal_good(r, me) &&
+               me[RISSOBARM_ROW_STAGE] < stage_count(r, me[RISSOBARM_ROW_KIND], me[RISSOBARM_ROW_CLAUSE]);
+    case RISSOBARM_TAG_AND_SEQ:
+        return goal_good(r, me) &&
+               me[RISSOBARM_ROW_STAGE] + (me[RISSOBARM_ROW_MODE] == RISSOBARM_MODE_WAITING) <=
+                   (int)stage_count(r, me[RISSOBARM_ROW_KIND], me[RISSOBARM_ROW_CLAUSE]);
+    case RISSOBARM_TAG_OR_PAR:
         return literal_good(r, me, 0);
-    case SEQ_SEARCH:
-    case OR_SEARCH:
+    case RISSOBARM_TAG_SEQ_SEARCH:
+    case RISSOBARM_TAG_OR_SEARCH:
         return searcher_good(r, me);
-    case TRY_CLAUSE:
-    case INPUT_MATCH:
-        return literal_good(r, me, 0) && found_good(r, me) && r->clause[me[FOUND]].relation == relation_of(r, me);
-    case GUARD_EVAL:
+    case RISSOBARM_TAG_TRY_CLAUSE:
+    case RISSOBARM_TAG_INPUT_MATCH:
+        return literal_good(r, me, 0) && found_good(r, me) &&
+               r->clause[me[RISSOBARM_ROW_FOUND]].relation == relation_of(r, me);
+    case RISSOBARM_TAG_GUARD_EVAL:
         return found_good(r, me);
-    default: /* EQUATE */
+    default: /* equate */
         return literal_good(r, me, 1);
     }
 }
@@ -343,10 +353,10 @@ static int notes_good(const struct run *r, const uint8_t *me)
 {
     unsigned k;
 
-    if (me[MODE] != SUSPENDED)
+    if (me[RISSOBARM_ROW_MODE] != RISSOBARM_MODE_SUSPENDED)
         return 1;
-    for (k = 0; k < me[COUNT]; k++)
-        if (k == 4 || word(me + NOTES + 2 * k) >= r->variables)
+    for (k = 0; k < me[RISSOBARM_ROW_NOTE_COUNT]; k++)
+        if (k == RISSOBARM_NOTE_LIMIT || word(me + RISSOBARM_ROW_NOTES + 2 * k) >= r->variables)
             return 0;
     return 1;
 }
@@ -355,18 +365,20 @@ static int notes_good(const struct run *r, const uint8_t *me)
 static int process_good(struct run *r, unsigned process)
 {
     const uint8_t *me = row(r, process);
-    unsigned parent = word(me + PARENT);
+    unsigned parent = word(me + RISSOBARM_ROW_PARENT);
 
     r->parent[process] = (uint16_t)parent;
-    if (me[TAG] >= TAGS || me[MODE] >= MODES || me[RESULT] >= RESULTS || me[KIND] >= KINDS)
+    if (me[RISSOBARM_ROW_TAG] >= RISSOBARM_TAG_COUNT || me[RISSOBARM_ROW_MODE] >= RISSOBARM_MODE_COUNT ||
+        me[RISSOBARM_ROW_RESULT] >= RISSOBARM_RESULT_COUNT || me[RISSOBARM_ROW_KIND] >= RISSOBARM_GOAL_COUNT)
         return 0;
-    if (me[MODE] == REPORTING && me[RESULT] == NONE)
+    if (me[RISSOBARM_ROW_MODE] == RISSOBARM_MODE_REPORTING && me[RISSOBARM_ROW_RESULT] == RISSOBARM_RESULT_NONE)
         return 0;
     if (process == 0) {
-        if (parent != 0 || me[KIND] != THE_GOAL || me[TAG] != goal_tag(r, THE_GOAL, 0) ||
-            (me[MODE] == DORMANT && me[RESULT] == NONE))
+        if (parent != 0 || me[RISSOBARM_ROW_KIND] != RISSOBARM_GOAL_IMAGE ||
+            me[RISSOBARM_ROW_TAG] != goal_tag(r, RISSOBARM_GOAL_IMAGE, 0) ||
+            (me[RISSOBARM_ROW_MODE] == RISSOBARM_MODE_DORMANT && me[RISSOBARM_ROW_RESULT] == RISSOBARM_RESULT_NONE))
             return 0;
-    } else if (parent >= process || !(makes[row(r, parent)[TAG]] >> me[TAG] & 1)) {
+    } else if (parent >= process || !(makes[row(r, parent)[RISSOBARM_ROW_TAG]] >> me[RISSOBARM_ROW_TAG] & 1)) {
         return 0;
     }
     return notes_good(r, me) && places_good(r, me);
@@ -376,8 +388,8 @@ static int tables_good(struct run *r)
 {
     unsigned k;
 
-    if (r->count < 1 || r->count > PROCESSES || r->variables < r->goal_variables || r->variables > VARIABLES ||
-        r->last >= r->count || !variables_good(r))
+    if (r->count < 1 || r->count > RISSOBARM_PROCESS_LIMIT || r->variables < r->goal_variables ||
+        r->variables > RISSOBARM_VARIABLE_LIMIT || r->last >= r->count || !variables_good(r))
         return 0;
     for (k = 0; k < r->count; k++)
         if (!process_good(r, k))
@@ -396,26 +408,26 @@ enum { NONE_SILENT = 0x5555, SUCCESS_SAID = 0xcccc, FAILURE_SAID = 0xf0f0, LATES
  * By tag and mode, as the two bytes stand in a row: at which of the sixteen a process can move. One that is suspended or reports
  * is looked at further: it can where a variable that it noted is bound, or where it is process 0.
  */
-static const uint16_t moves[MODES << 8] = {
-    [READY << 8] = EVERY_TAG,
-    [STARTING << 8] = EVERY_TAG,
-    [WAITING << 8 | AND_PAR] = FAILURE_SAID | NONE_SILENT,
-    [WAITING << 8 | AND_SEQ] = LATEST_SAID,
-    [WAITING << 8 | OR_PAR] = LATEST_SAID,
-    [WAITING << 8 | SEQ_SEARCH] = LATEST_SAID,
-    [WAITING << 8 | OR_SEARCH] = SUCCESS_SAID | NONE_SILENT,
-    [WAITING << 8 | TRY_CLAUSE] = FAILURE_SAID | NONE_SILENT,
-    [WAITING << 8 | GUARD_EVAL] = LATEST_SAID,
-    [REPORTING << 8] = EVERY_TAG,
-    [SUSPENDED << 8] = EVERY_TAG
+static const uint16_t moves[RISSOBARM_MODE_COUNT << 8] = {
+    [RISSOBARM_MODE_READY << 8] = EVERY_TAG,
+    [RISSOBARM_MODE_STARTING << 8] = EVERY_TAG,
+    [RISSOBARM_MODE_WAITING << 8 | RISSOBARM_TAG_AND_PAR] = FAILURE_SAID | NONE_SILENT,
+    [RISSOBARM_MODE_WAITING << 8 | RISSOBARM_TAG_AND_SEQ] = LATEST_SAID,
+    [RISSOBARM_MODE_WAITING << 8 | RISSOBARM_TAG_OR_PAR] = LATEST_SAID,
+    [RISSOBARM_MODE_WAITING << 8 | RISSOBARM_TAG_SEQ_SEARCH] = LATEST_SAID,
+    [RISSOBARM_MODE_WAITING << 8 | RISSOBARM_TAG_OR_SEARCH] = SUCCESS_SAID | NONE_SILENT,
+    [RISSOBARM_MODE_WAITING << 8 | RISSOBARM_TAG_TRY_CLAUSE] = FAILURE_SAID | NONE_SILENT,
+    [RISSOBARM_MODE_WAITING << 8 | RISSOBARM_TAG_GUARD_EVAL] = LATEST_SAID,
+    [RISSOBARM_MODE_REPORTING << 8] = EVERY_TAG,
+    [RISSOBARM_MODE_SUSPENDED << 8] = EVERY_TAG
 };
 
 static inline int some_note_bound(const struct run *r, const uint8_t *me)
 {
     unsigned k;
 
-    for (k = 0; k < me[COUNT]; k++)
-        if (r->vars[4 * word(me + NOTES + 2 * k)] != UNBOUND)
+    for (k = 0; k < me[RISSOBARM_ROW_NOTE_COUNT]; k++)
+        if (r->vars[RISSOBARM_VARIABLE_ROW * word(me + RISSOBARM_ROW_NOTES + 2 * k)] != RISSOBARM_SORT_UNBOUND)
             return 1;
     return 0;
 }
@@ -423,13 +435,13 @@ static inline int some_note_bound(const struct run *r, const uint8_t *me)
 /* A child that reports is heard: the first heard is the latest, and the last one that says success the lowest. */
 static inline void hear_report(struct run *r, const uint8_t *child, unsigned number)
 {
-    unsigned parent = word(child + PARENT), said = r->note[parent].said;
+    unsigned parent = word(child + RISSOBARM_ROW_PARENT), said = r->note[parent].said;
 
     if (said == 0 && !r->note[parent].silent) {
         said = LATEST_REPORTS;
         r->latest[parent] = (uint16_t)number;
     }
-    if (child[RESULT] == SUCCESS) {
+    if (child[RISSOBARM_ROW_RESULT] == RISSOBARM_RESULT_SUCCESS) {
         said |= SOME_SUCCESS;
         r->lowest[parent] = (uint16_t)number;
     } else {
@@ -449,21 +461,21 @@ static inline unsigned pass_down(struct run *r, unsigned top, unsigned end)
     unsigned found = r->count;
 
     while (me != stop) {
-        me -= ROW;
+        me -= RISSOBARM_PROCESS_ROW;
         note--;
         if (moves[word(me)] >> (note->said | note->silent) & 1) {
             unsigned number = (unsigned)(note - r->note);
 
-            if (me[MODE] == REPORTING) {
+            if (me[RISSOBARM_ROW_MODE] == RISSOBARM_MODE_REPORTING) {
                 hear_report(r, me, number);
                 if (number == 0)
                     found = 0;
                 continue;
             }
-            if (me[MODE] != SUSPENDED || some_note_bound(r, me))
+            if (me[RISSOBARM_ROW_MODE] != RISSOBARM_MODE_SUSPENDED || some_note_bound(r, me))
                 found = number;
         }
-        r->note[word(me + PARENT)].silent = SILENT;
+        r->note[word(me + RISSOBARM_ROW_PARENT)].silent = SILENT;
     }
     return found;
 }
@@ -486,16 +498,17 @@ static uint32_t value(const struct run *r, const struct changes *c, uint32_t ter
 {
     while (term & IS_VARIABLE) {
         unsigned variable = term & ~IS_VARIABLE, k = 0;
-        const uint8_t *at = r->vars + 4 * variable;
+        const uint8_t *at = r->vars + RISSOBARM_VARIABLE_ROW * variable;
 
         while (k < c->count && c->variable[k] != variable)
             k++;
         if (k < c->count)
             term = c->term[k];
-        else if (at[0] == UNBOUND)
+        else if (at[RISSOBARM_CELL_SORT] == RISSOBARM_SORT_UNBOUND)
             return term;
         else
-            term = word(at + 1) | (at[0] == VARIABLE ? IS_VARIABLE : 0);
+            term = word(at + RISSOBARM_CELL_NUMBER) |
+                   (at[RISSOBARM_CELL_SORT] == RISSOBARM_SORT_VARIABLE ? IS_VARIABLE : 0);
     }
     return term;
 }
@@ -520,11 +533,11 @@ static void bind(struct run *r, const struct changes *c)
     unsigned k;
 
     for (k = 0; k < c->count; k++) {
-        uint8_t *at = r->vars + 4 * c->variable[k];
+        uint8_t *at = r->vars + RISSOBARM_VARIABLE_ROW * c->variable[k];
 
-        at[0] = c->term[k] & IS_VARIABLE ? VARIABLE : CONSTANT;
-        put_word(at + 1, c->term[k] & 65535);
-        at[3] = 0;
+        at[RISSOBARM_CELL_SORT] = c->term[k] & IS_VARIABLE ? RISSOBARM_SORT_VARIABLE : RISSOBARM_SORT_CONSTANT;
+        put_word(at + RISSOBARM_CELL_NUMBER, c->term[k] & 65535);
+        at[RISSOBARM_CELL_NUMBER + 2] = 0;
     }
 }
 
@@ -532,7 +545,7 @@ static void bind(struct run *r, const struct changes *c)
 
 static int room(const struct run *r, unsigned processes, unsigned variables)
 {
-    return r->count + processes <= PROCESSES && r->variables + variables <= VARIABLES;
+    return r->count + processes <= RISSOBARM_PROCESS_LIMIT && r->variables + variables <= RISSOBARM_VARIABLE_LIMIT;
 }
 
 static uint8_t *add(struct run *r, unsigned parent, unsigned tag, unsigned mode)
@@ -540,22 +553,22 @@ static uint8_t *add(struct run *r, unsigned parent, unsigned tag, unsigned mode)
     uint8_t *child = row(r, r->count);
 
     r->parent[r->count++] = (uint16_t)parent;
-    memset(child, 0, ROW);
-    child[TAG] = (uint8_t)tag;
-    child[MODE] = (uint8_t)mode;
-    put_word(child + PARENT, parent);
+    memset(child, 0, RISSOBARM_PROCESS_ROW);
+    child[RISSOBARM_ROW_TAG] = (uint8_t)tag;
+    child[RISSOBARM_ROW_MODE] = (uint8_t)mode;
+    put_word(child + RISSOBARM_ROW_PARENT, parent);
     return child;
 }
 
 /* The goal, stage and literal that a row names, for a row that names the same. */
 static void copy_call(uint8_t *to, const uint8_t *from)
 {
-    memcpy(to + KIND, from + KIND, LITERAL + 1 - KIND);
+    memcpy(to + RISSOBARM_ROW_KIND, from + RISSOBARM_ROW_KIND, RISSOBARM_ROW_LITERAL + 1 - RISSOBARM_ROW_KIND);
 }
 
 static void copy_found(uint8_t *to, const uint8_t *from)
 {
-    memcpy(to + FOUND, from + FOUND, 3);
+    memcpy(to + RISSOBARM_ROW_FOUND, from + RISSOBARM_ROW_FOUND, RISSOBARM_ROW_NOTES - RISSOBARM_ROW_FOUND);
 }
 
 /* All that is below becomes dormant: the parents of each row behind are climbed, to the process or past it. */
@@ -564,19 +577,19 @@ static int report(struct run *r, unsigned process, unsigned result)
     uint8_t *me = row(r, process);
     size_t k, above;
 
-    me[MODE] = REPORTING;
-    me[RESULT] = (uint8_t)result;
-    if (makes[me[TAG]] == 0)
+    me[RISSOBARM_ROW_MODE] = RISSOBARM_MODE_REPORTING;
+    me[RISSOBARM_ROW_RESULT] = (uint8_t)result;
+    if (makes[me[RISSOBARM_ROW_TAG]] == 0)
         return 1;
     for (k = process + 1; k < r->count; k++) {
-        if (row(r, k)[MODE] == DORMANT)
+        if (row(r, k)[RISSOBARM_ROW_MODE] == RISSOBARM_MODE_DORMANT)
             continue;
         above = k;
         do
             above = r->parent[above];
         while (above > process);
         if (above == process)
-            row(r, k)[MODE] = DORMANT;
+            row(r, k)[RISSOBARM_ROW_MODE] = RISSOBARM_MODE_DORMANT;
     }
     return 1;
 }
@@ -584,18 +597,20 @@ static int report(struct run *r, unsigned process, unsigned result)
 static int start_and_par(struct run *r, unsigned process)
 {
     uint8_t *me = row(r, process);
-    unsigned size = stage_size(r, me[KIND], me[CLAUSE], me[STAGE]), k;
+    unsigned size = stage_size(r, me[RISSOBARM_ROW_KIND], me[RISSOBARM_ROW_CLAUSE], me[RISSOBARM_ROW_STAGE]), k;
 
     if (!room(r, size, 0))
         return 0;
     for (k = 0; k < size; k++) {
-        unsigned relation = relation_at(r, me[KIND], me[CLAUSE], me[STAGE], k);
-        uint8_t *child = add(r, process, relation == EQUALITY ? EQUATE : OR_PAR, READY);
+        unsigned relation =
+            relation_at(r, me[RISSOBARM_ROW_KIND], me[RISSOBARM_ROW_CLAUSE], me[RISSOBARM_ROW_STAGE], k);
+        uint8_t *child = add(r, process, relation == RISSOBARM_EQUALITY ? RISSOBARM_TAG_EQUATE : RISSOBARM_TAG_OR_PAR,
+                             RISSOBARM_MODE_READY);
 
         copy_call(child, me);
-        child[LITERAL] = (uint8_t)k;
+        child[RISSOBARM_ROW_LITERAL] = (uint8_t)k;
     }
-    me[MODE] = WAITING;
+    me[RISSOBARM_ROW_MODE] = RISSOBARM_MODE_WAITING;
     return 1;
 }
 
@@ -603,14 +618,16 @@ static int start_and_seq(struct run *r, unsigned process)
 {
     uint8_t *me = row(r, process), *child;
 
-    if (me[STAGE] == stage_count(r, me[KIND], me[CLAUSE]))
-        return report(r, process, SUCCESS);
+    if (me[RISSOBARM_ROW_STAGE] == stage_count(r, me[RISSOBARM_ROW_KIND], me[RISSOBARM_ROW_CLAUSE]))
+        return report(r, process, RISSOBARM_RESULT_SUCCESS);
     if (!room(r, 1, 0))
         return 0;
-    child = add(r, process, stage_tag(r, me[KIND], me[CLAUSE], me[STAGE]), STARTING);
+    child = add(r, process,
+                stage_tag(r, me[RISSOBARM_ROW_KIND], me[RISSOBARM_ROW_CLAUSE], me[RISSOBARM_ROW_STAGE]),
+                RISSOBARM_MODE_STARTING);
     copy_call(child, me);
-    child[LITERAL] = 0;
-    me[MODE] = WAITING;
+    child[RISSOBARM_ROW_LITERAL] = 0;
+    me[RISSOBARM_ROW_MODE] = RISSOBARM_MODE_WAITING;
     return 1;
 }
 
@@ -620,8 +637,8 @@ static int start_or_par(struct run *r, unsigned process)
 
     if (!room(r, 1, 0))
         return 0;
-    copy_call(add(r, process, SEQ_SEARCH, STARTING), me);
-    me[MODE] = WAITING;
+    copy_call(add(r, process, RISSOBARM_TAG_SEQ_SEARCH, RISSOBARM_MODE_STARTING), me);
+    me[RISSOBARM_ROW_MODE] = RISSOBARM_MODE_WAITING;
     return 1;
 }
 
@@ -632,10 +649,10 @@ static int open_block(struct run *r, unsigned process, unsigned block)
 
     if (!room(r, 1, 0))
         return 0;
-    child = add(r, process, OR_SEARCH, STARTING);
+    child = add(r, process, RISSOBARM_TAG_OR_SEARCH, RISSOBARM_MODE_STARTING);
     copy_call(child, me);
-    child[BLOCK] = me[BLOCK] = (uint8_t)block;
-    me[MODE] = WAITING;
+    child[RISSOBARM_ROW_BLOCK] = me[RISSOBARM_ROW_BLOCK] = (uint8_t)block;
+    me[RISSOBARM_ROW_MODE] = RISSOBARM_MODE_WAITING;
     return 1;
 }
 
@@ -643,22 +660,24 @@ static int start_or_search(struct run *r, unsigned process)
 {
     uint8_t *me = row(r, process);
     const struct relation *relation = &r->relation[relation_of(r, me)];
-    unsigned from = relation->first[me[BLOCK]], to = relation->first[me[BLOCK] + 1], variables = 0, c;
+    unsigned from = relation->first[me[RISSOBARM_ROW_BLOCK]], to = relation->first[me[RISSOBARM_ROW_BLOCK] + 1];
+    unsigned variables = 0, c;
 
     for (c = from; c < to; c++)
         variables += r->clause[c].size;
     if (!room(r, to - from, variables))
         return 0;
     for (c = from; c < to; c++) {
-        uint8_t *child = add(r, process, TRY_CLAUSE, READY);
+        uint8_t *child = add(r, process, RISSOBARM_TAG_TRY_CLAUSE, RISSOBARM_MODE_READY);
 
         copy_call(child, me);
-        child[FOUND] = (uint8_t)c;
-        put_word(child + FIRST, r->variables);
-        memset(r->vars + 4 * r->variables, 0, 4u * r->clause[c].size);
+        child[RISSOBARM_ROW_FOUND] = (uint8_t)c;
+        put_word(child + RISSOBARM_ROW_FIRST, r->variables);
+        memset(r->vars + RISSOBARM_VARIABLE_ROW * r->variables, 0,
+               (unsigned)RISSOBARM_VARIABLE_ROW * r->clause[c].size);
         r->variables += r->clause[c].size;
     }
-    me[MODE] = WAITING;
+    me[RISSOBARM_ROW_MODE] = RISSOBARM_MODE_WAITING;
     return 1;
 }
 
@@ -668,34 +687,34 @@ static int start_try_clause(struct run *r, unsigned process)
 
     if (!room(r, 2, 0))
         return 0;
-    child = add(r, process, INPUT_MATCH, READY);
+    child = add(r, process, RISSOBARM_TAG_INPUT_MATCH, RISSOBARM_MODE_READY);
     copy_call(child, me);
     copy_found(child, me);
-    copy_found(add(r, process, GUARD_EVAL, READY), me);
-    me[MODE] = WAITING;
+    copy_found(add(r, process, RISSOBARM_TAG_GUARD_EVAL, RISSOBARM_MODE_READY), me);
+    me[RISSOBARM_ROW_MODE] = RISSOBARM_MODE_WAITING;
     return 1;
 }
 
 /* A starting child for a guard or a committed body. */
 static void add_goal(struct run *r, unsigned parent, unsigned kind, unsigned clause, unsigned first)
 {
-    uint8_t *child = add(r, parent, goal_tag(r, kind, clause), STARTING);
+    uint8_t *child = add(r, parent, goal_tag(r, kind, clause), RISSOBARM_MODE_STARTING);
 
-    child[KIND] = (uint8_t)kind;
-    child[CLAUSE] = (uint8_t)clause;
-    put_word(child + BASE, first);
+    child[RISSOBARM_ROW_KIND] = (uint8_t)kind;
+    child[RISSOBARM_ROW_CLAUSE] = (uint8_t)clause;
+    put_word(child + RISSOBARM_ROW_BASE, first);
 }
 
 static int start_guard_eval(struct run *r, unsigned process)
 {
     uint8_t *me = row(r, process);
 
-    if (r->clause[me[FOUND]].sides[0].stages == 0)
-        return report(r, process, SUCCESS);
+    if (r->clause[me[RISSOBARM_ROW_FOUND]].sides[0].stages == 0)
+        return report(r, process, RISSOBARM_RESULT_SUCCESS);
     if (!room(r, 1, 0))
         return 0;
-    add_goal(r, process, GUARD, me[FOUND], word(me + FIRST));
-    me[MODE] = WAITING;
+    add_goal(r, process, RISSOBARM_GOAL_GUARD, me[RISSOBARM_ROW_FOUND], word(me + RISSOBARM_ROW_FIRST));
+    me[RISSOBARM_ROW_MODE] = RISSOBARM_MODE_WAITING;
     return 1;
 }
 
@@ -707,32 +726,32 @@ static int conclude(struct run *r, unsigned process, const struct changes *c, un
 
     if (count == 0) {
         bind(r, c);
-        return report(r, process, SUCCESS);
+        return report(r, process, RISSOBARM_RESULT_SUCCESS);
     }
-    me[MODE] = SUSPENDED;
-    me[COUNT] = (uint8_t)count;
-    memset(me + NOTES, 0, 8);
+    me[RISSOBARM_ROW_MODE] = RISSOBARM_MODE_SUSPENDED;
+    me[RISSOBARM_ROW_NOTE_COUNT] = (uint8_t)count;
+    memset(me + RISSOBARM_ROW_NOTES, 0, 2 * RISSOBARM_NOTE_LIMIT);
     for (k = 0; k < count; k++)
-        put_word(me + NOTES + 2 * k, notes[k]);
+        put_word(me + RISSOBARM_ROW_NOTES + 2 * k, notes[k]);
     return 1;
 }
 
 static int start_input_match(struct run *r, unsigned process)
 {
     const uint8_t *me = row(r, process);
-    const struct clause *clause = &r->clause[me[FOUND]];
+    const struct clause *clause = &r->clause[me[RISSOBARM_ROW_FOUND]];
     const uint8_t *output = r->relation[clause->relation].output;
     const struct changes none = { 0, { 0 }, { 0 } };
     struct changes c = { 0, { 0 }, { 0 } };
     struct literal call = literal_of(r, me);
-    unsigned first = word(me + FIRST), fresh = first + clause->own, count = 0, k, i;
-    uint16_t notes[4];
+    unsigned first = word(me + RISSOBARM_ROW_FIRST), fresh = first + clause->own, count = 0, k, i;
+    uint16_t notes[RISSOBARM_NOTE_LIMIT];
 
     for (k = 0; k < call.arity; k++) {
         uint32_t head = output[k] ? fresh++ | IS_VARIABLE : term_at(r, clause->head + 2 * k, first);
 
         if (!unify(r, &c, call.term[k], head))
-            return report(r, process, FAILURE);
+            return report(r, process, RISSOBARM_RESULT_FAILURE);
     }
     for (i = 0; i < c.count; i++)
         for (k = 0; k < call.arity; k++)
@@ -750,11 +769,11 @@ static int start_equate(struct run *r, unsigned process)
     unsigned above = process;
 
     if (!unify(r, &c, equation.term[0], equation.term[1]))
-        return report(r, process, FAILURE);
+        return report(r, process, RISSOBARM_RESULT_FAILURE);
     while (c.count > 0 && above != 0) {
-        above = word(row(r, above) + PARENT);
-        if (row(r, above)[TAG] == TRY_CLAUSE) {
-            if (c.variable[0] < word(row(r, above) + FIRST))
+        above = word(row(r, above) + RISSOBARM_ROW_PARENT);
+        if (row(r, above)[RISSOBARM_ROW_TAG] == RISSOBARM_TAG_TRY_CLAUSE) {
+            if (c.variable[0] < word(row(r, above) + RISSOBARM_ROW_FIRST))
                 return conclude(r, process, &c, 1, c.variable);
             break;
         }
@@ -764,24 +783,24 @@ static int start_equate(struct run *r, unsigned process)
 
 static int start(struct run *r, unsigned process)
 {
-    switch (row(r, process)[TAG]) {
-    case AND_PAR:
+    switch (row(r, process)[RISSOBARM_ROW_TAG]) {
+    case RISSOBARM_TAG_AND_PAR:
         return start_and_par(r, process);
-    case AND_SEQ:
+    case RISSOBARM_TAG_AND_SEQ:
         return start_and_seq(r, process);
-    case OR_PAR:
+    case RISSOBARM_TAG_OR_PAR:
         return start_or_par(r, process);
-    case SEQ_SEARCH:
+    case RISSOBARM_TAG_SEQ_SEARCH:
         if (r->relation[relation_of(r, row(r, process))].blocks == 0)
-            return report(r, process, FAILURE);
+            return report(r, process, RISSOBARM_RESULT_FAILURE);
         return open_block(r, process, 0);
-    case OR_SEARCH:
+    case RISSOBARM_TAG_OR_SEARCH:
         return start_or_search(r, process);
-    case TRY_CLAUSE:
+    case RISSOBARM_TAG_TRY_CLAUSE:
         return start_try_clause(r, process);
-    case INPUT_MATCH:
+    case RISSOBARM_TAG_INPUT_MATCH:
         return start_input_match(r, process);
-    case GUARD_EVAL:
+    case RISSOBARM_TAG_GUARD_EVAL:
         return start_guard_eval(r, process);
     default:
         return start_equate(r, process);
@@ -792,19 +811,19 @@ static int start(struct run *r, unsigned process)
 static int commit(struct run *r, unsigned process)
 {
     if (!(r->note[process].said & SOME_SUCCESS))
-        return report(r, process, FAILURE);
+        return report(r, process, RISSOBARM_RESULT_FAILURE);
     copy_found(row(r, process), row(r, r->lowest[process]));
-    return report(r, process, SUCCESS);
+    return report(r, process, RISSOBARM_RESULT_SUCCESS);
 }
 
 static int spawn(struct run *r, unsigned process, uint8_t *child)
 {
-    if (child[TAG] != SEQ_SEARCH)
-        return report(r, process, SUCCESS);
+    if (child[RISSOBARM_ROW_TAG] != RISSOBARM_TAG_SEQ_SEARCH)
+        return report(r, process, RISSOBARM_RESULT_SUCCESS);
     if (!room(r, 1, 0))
         return 0;
-    child[MODE] = DORMANT;
-    add_goal(r, process, BODY, child[FOUND], word(child + FIRST));
+    child[RISSOBARM_ROW_MODE] = RISSOBARM_MODE_DORMANT;
+    add_goal(r, process, RISSOBARM_GOAL_BODY, child[RISSOBARM_ROW_FOUND], word(child + RISSOBARM_ROW_FIRST));
     return 1;
 }
 
@@ -812,12 +831,12 @@ static int next_block(struct run *r, unsigned process, uint8_t *child)
 {
     uint8_t *me = row(r, process);
 
-    if (me[BLOCK] + 1u >= r->relation[relation_of(r, me)].blocks)
-        return report(r, process, FAILURE);
+    if (me[RISSOBARM_ROW_BLOCK] + 1u >= r->relation[relation_of(r, me)].blocks)
+        return report(r, process, RISSOBARM_RESULT_FAILURE);
     if (!room(r, 1, 0))
         return 0;
-    child[MODE] = DORMANT;
-    return open_block(r, process, me[BLOCK] + 1u);
+    child[RISSOBARM_ROW_MODE] = RISSOBARM_MODE_DORMANT;
+    return open_block(r, process, me[RISSOBARM_ROW_BLOCK] + 1u);
 }
 
 /* The tags that hear their latest child alone. */
@@ -825,32 +844,34 @@ static int hear_latest(struct run *r, unsigned process)
 {
     uint8_t *me = row(r, process), *child = row(r, r->latest[process]);
 
-    if (child[RESULT] == FAILURE)
-        return me[TAG] == SEQ_SEARCH ? next_block(r, process, child) : report(r, process, FAILURE);
-    switch (me[TAG]) {
-    case AND_SEQ:
-        me[STAGE]++;
-        child[MODE] = DORMANT;
-        me[MODE] = STARTING;
+    if (child[RISSOBARM_ROW_RESULT] == RISSOBARM_RESULT_FAILURE)
+        return me[RISSOBARM_ROW_TAG] == RISSOBARM_TAG_SEQ_SEARCH ? next_block(r, process, child)
+                                                                 : report(r, process, RISSOBARM_RESULT_FAILURE);
+    switch (me[RISSOBARM_ROW_TAG]) {
+    case RISSOBARM_TAG_AND_SEQ:
+        me[RISSOBARM_ROW_STAGE]++;
+        child[RISSOBARM_ROW_MODE] = RISSOBARM_MODE_DORMANT;
+        me[RISSOBARM_ROW_MODE] = RISSOBARM_MODE_STARTING;
         return 1;
-    case OR_PAR:
+    case RISSOBARM_TAG_OR_PAR:
         return spawn(r, process, child);
-    case SEQ_SEARCH:
+    case RISSOBARM_TAG_SEQ_SEARCH:
         copy_found(me, child);
         break;
     default:
         break;
     }
-    return report(r, process, SUCCESS);
+    return report(r, process, RISSOBARM_RESULT_SUCCESS);
 }
 
 static int hear(struct run *r, unsigned process)
 {
-    switch (row(r, process)[TAG]) {
-    case AND_PAR:
-    case TRY_CLAUSE:
-        return report(r, process, r->note[process].said & SOME_FAILURE ? FAILURE : SUCCESS);
-    case OR_SEARCH:
+    switch (row(r, process)[RISSOBARM_ROW_TAG]) {
+    case RISSOBARM_TAG_AND_PAR:
+    case RISSOBARM_TAG_TRY_CLAUSE:
+        return report(r, process,
+                      r->note[process].said & SOME_FAILURE ? RISSOBARM_RESULT_FAILURE : RISSOBARM_RESULT_SUCCESS);
+    case RISSOBARM_TAG_OR_SEARCH:
         return commit(r, process);
     default:
         return hear_latest(r, process);
@@ -862,21 +883,21 @@ static int move(struct run *r, unsigned process)
 {
     uint8_t *me = row(r, process);
 
-    switch (me[MODE]) {
-    case READY:
-        me[MODE] = STARTING;
+    switch (me[RISSOBARM_ROW_MODE]) {
+    case RISSOBARM_MODE_READY:
+        me[RISSOBARM_ROW_MODE] = RISSOBARM_MODE_STARTING;
         return 1;
-    case STARTING:
+    case RISSOBARM_MODE_STARTING:
         return start(r, process);
-    case WAITING:
+    case RISSOBARM_MODE_WAITING:
         return hear(r, process);
-    case SUSPENDED:
-        me[MODE] = STARTING;
-        me[COUNT] = 0;
-        memset(me + NOTES, 0, 8);
+    case RISSOBARM_MODE_SUSPENDED:
+        me[RISSOBARM_ROW_MODE] = RISSOBARM_MODE_STARTING;
+        me[RISSOBARM_ROW_NOTE_COUNT] = 0;
+        memset(me + RISSOBARM_ROW_NOTES, 0, 2 * RISSOBARM_NOTE_LIMIT);
         return 1;
     default:
-        me[MODE] = DORMANT;
+        me[RISSOBARM_ROW_MODE] = RISSOBARM_MODE_DORMANT;
         return 1;
     }
 }
@@ -888,36 +909,37 @@ static unsigned go(struct run *r, unsigned limit, unsigned *made)
     unsigned process;
 
     for (*made = 0;; ++*made) {
-        if (r->procs[MODE] == DORMANT)
-            return r->procs[RESULT] == SUCCESS ? END_SUCCESS : END_FAILURE;
+        if (r->procs[RISSOBARM_ROW_MODE] == RISSOBARM_MODE_DORMANT)
+            return r->procs[RISSOBARM_ROW_RESULT] == RISSOBARM_RESULT_SUCCESS ? RISSOBARM_END_SUCCESS
+                                                                              : RISSOBARM_END_FAILURE;
         process = next_in_turn(r);
         if (process == r->count)
-            return END_WAITING;
+            return RISSOBARM_END_WAITING;
         if (*made == limit)
-            return END_BUDGET;
+            return RISSOBARM_END_BUDGET;
         if (!move(r, process))
-            return END_ROOM;
+            return RISSOBARM_END_ROOM;
         r->last = process;
         r->steps += r->steps != UINT32_MAX;
     }
 }
 
-/* The tests of every call: the image, the sizes, the table rules. 0, or the refusal. */
+/* The tests of every call: the image, the sizes, the table rules. Accepted, or the refusal. */
 static uint64_t enter(struct run *r, const uint8_t *image, size_t image_len, const uint8_t *head, size_t head_len,
                       size_t procs_len, size_t vars_len)
 {
     uint64_t loaded = checker_load(image, image_len);
 
-    if ((loaded & 255) != 0)
+    if ((loaded & 255) != RISSOBARM_ACCEPTED)
         return loaded;
-    if (head_len != HEAD || procs_len != PROCESSES * ROW || vars_len != VARIABLES * 4)
-        return STATE;
+    if (head_len != RISSOBARM_HEAD_SIZE || procs_len != RISSOBARM_PROCS_SIZE || vars_len != RISSOBARM_VARS_SIZE)
+        return RISSOBARM_STATE;
     index_image(r, image, image_len);
-    r->count = word(head);
-    r->variables = word(head + 2);
-    r->last = word(head + 4);
-    r->steps = word(head + 6) | (uint32_t)word(head + 8) << 16;
-    return tables_good(r) ? 0 : STATE;
+    r->count = word(head + RISSOBARM_HEAD_PROCS);
+    r->variables = word(head + RISSOBARM_HEAD_VARS);
+    r->last = word(head + RISSOBARM_HEAD_LAST);
+    r->steps = word(head + RISSOBARM_HEAD_STEPS) | (uint32_t)word(head + RISSOBARM_HEAD_STEPS + 2) << 16;
+    return tables_good(r) ? RISSOBARM_ACCEPTED : RISSOBARM_STATE;
 }
 
 uint64_t machine_run(const uint8_t *image, size_t image_len, uint8_t *head, size_t head_len,
@@ -931,14 +953,14 @@ uint64_t machine_run(const uint8_t *image, size_t image_len, uint8_t *head, size
     r.procs = procs;
     r.vars = vars;
     refusal = enter(&r, image, image_len, head, head_len, procs_len, vars_len);
-    if (refusal != 0)
+    if (refusal != RISSOBARM_ACCEPTED)
         return refusal;
     end = go(&r, limit, &made);
-    put_word(head, r.count);
-    put_word(head + 2, r.variables);
-    put_word(head + 4, r.last);
-    put_word(head + 6, r.steps & 65535);
-    put_word(head + 8, r.steps >> 16);
+    put_word(head + RISSOBARM_HEAD_PROCS, r.count);
+    put_word(head + RISSOBARM_HEAD_VARS, r.variables);
+    put_word(head + RISSOBARM_HEAD_LAST, r.last);
+    put_word(head + RISSOBARM_HEAD_STEPS, r.steps & 65535);
+    put_word(head + RISSOBARM_HEAD_STEPS + 2, r.steps >> 16);
     return (uint64_t)end << 8 | (uint64_t)made << 32;
 }
 
@@ -956,16 +978,16 @@ uint64_t machine_supply(const uint8_t *image, size_t image_len, const uint8_t *h
     r.procs = (uint8_t *)procs; /* no process is written */
     r.vars = vars;
     refusal = enter(&r, image, image_len, head, head_len, procs_len, vars_len);
-    if (refusal != 0)
+    if (refusal != RISSOBARM_ACCEPTED)
         return refusal;
     if (variable >= r.goal_variables)
-        return NOVAR;
-    if (constant > 32767)
-        return CONST;
+        return RISSOBARM_NOVAR;
+    if (constant > RISSOBARM_CONSTANT_LIMIT)
+        return RISSOBARM_CONST;
     found = value(&r, &c, variable | IS_VARIABLE);
     if (!(found & IS_VARIABLE))
-        return BOUND;
+        return RISSOBARM_BOUND;
     unify(&r, &c, found, constant);
     bind(&r, &c);
-    return 0;
+    return RISSOBARM_ACCEPTED;
 }

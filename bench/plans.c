@@ -31,7 +31,8 @@ void make_calls(struct image *image, unsigned part)
 {
     struct random random = { 7 };
     struct recipe recipe = full_recipe;
-    uint8_t relation[] = { 5, 0, 1, 0, 0 }, clause[] = { 0, 0, 0, 0, 0, 1, 1, 0, 0 }, goal[] = { 1, 1, 1, 0, 0 };
+    uint8_t relation[] = { 5, 0, RISSOBARM_RECORD_RELATION, 0, 0 };
+    uint8_t clause[] = { 0, 0, 0, 0, 0, 1, 1, 0, 0 }, goal[] = { 1, 1, 1, 0, 0 };
     size_t at;
 
     recipe.relations = recipe.relations / part - (part < ALONE);
@@ -42,6 +43,6 @@ void make_calls(struct image *image, unsigned part)
     memcpy(image->bytes + at, relation, sizeof relation);
     image->length = image->starts[--image->records] + sizeof relation;
     clause[0] = clause[7] = goal[3] = (uint8_t)recipe.relations;
-    put_record(image, 2, clause, sizeof clause);
-    put_record(image, 3, goal, sizeof goal);
+    put_record(image, RISSOBARM_RECORD_CLAUSE, clause, sizeof clause);
+    put_record(image, RISSOBARM_RECORD_GOAL, goal, sizeof goal);
 }

@@ -54,7 +54,7 @@ static void supply_any(struct random *random)
     uint32_t variable = random_below(random, 5), value = random_below(random, 3);
 
     if (random_once(random, 16))
-        value += 32767;
+        value += RISSOBARM_CONSTANT_LIMIT;
     both_supply(variable, value);
 }
 
@@ -69,12 +69,12 @@ static void damage(struct random *random, uint8_t *bytes, unsigned first, unsign
 /* Damages a byte of the first rows, every other time a mode, so that many tables stay within the rules. */
 static void damage_row(struct random *random, unsigned rows)
 {
-    uint8_t mode = (uint8_t)random_below(random, 6);
+    uint8_t mode = (uint8_t)random_below(random, RISSOBARM_MODE_COUNT);
 
     if (random_once(random, 2))
-        damage(random, ours.procs, RISSOBARM_PROCESS_ROW * rows, 9);
+        damage(random, ours.procs, RISSOBARM_PROCESS_ROW * rows, RISSOBARM_TAG_COUNT);
     else
-        ours.procs[RISSOBARM_PROCESS_ROW * random_below(random, rows) + 1] = mode;
+        ours.procs[RISSOBARM_PROCESS_ROW * random_below(random, rows) + RISSOBARM_ROW_MODE] = mode;
 }
 
 /* A run in random slices, with supplies when it waits and sometimes before, and at its end or before it with a byte damaged. */
@@ -108,7 +108,7 @@ static void put_small_term(struct random *random, unsigned variables)
     unsigned term = random_below(random, 3);
 
     if (variables > 0 && random_below(random, 3) > 0)
-        term = 32768 + random_below(random, variables);
+        term = RISSOBARM_TERM_VARIABLE + random_below(random, variables);
     put_byte(&image, term % 256);
     put_byte(&image, term / 256);
 }
@@ -125,7 +125,7 @@ static void put_small_goal(struct random *random, const unsigned *arity, unsigne
             unsigned relation = random_below(random, relations + 1);
             unsigned terms = relation < relations ? arity[relation] : 2;
 
-            put_byte(&image, relation < relations ? relation : 255);
+            put_byte(&image, relation < relations ? relation : RISSOBARM_EQUALITY);
             put_byte(&image, terms);
             for (k = 0; k < terms; k++)
                 put_small_term(random, variables);
@@ -140,7 +140,7 @@ static void make_small(struct random *random)
 
     image.length = image.records = 0;
     for (k = 0; k < relations; k++) {
-        record_begin(&image, 1);
+        record_begin(&image, RISSOBARM_RECORD_RELATION);
         put_byte(&image, arity[k] = random_below(random, 4));
         for (c = 0; c < arity[k]; c++)
             put_byte(&image, random_below(random, 2));
@@ -148,10 +148,10 @@ static void make_small(struct random *random)
     }
     for (k = 0; k < relations; k++)
         for (c = random_below(random, 4); c > 0; c--) {
-            int first = image.bytes[image.starts[image.records - 1] + 2] == 1 ||
-                        image.bytes[image.starts[image.records - 1] + 4] != k;
+            const uint8_t *before = image.bytes + image.starts[image.records - 1];
+            int first = before[2] == RISSOBARM_RECORD_RELATION || before[RISSOBARM_RECORD_HEAD] != k;
 
-            record_begin(&image, 2);
+            record_begin(&image, RISSOBARM_RECORD_CLAUSE);
             put_byte(&image, k);
             put_byte(&image, arity[k]);
             put_byte(&image, first ? 0 : random_below(random, 2));
@@ -162,7 +162,7 @@ static void make_small(struct random *random)
             put_small_goal(random, arity, relations, v);
             record_end(&image);
         }
-    record_begin(&image, 3);
+    record_begin(&image, RISSOBARM_RECORD_GOAL);
     put_byte(&image, v = random_below(random, 5));
     put_small_goal(random, arity, relations, v);
     record_end(&image);
@@ -216,7 +216,14 @@ static unsigned play(void)
 /* The plan at hand, under a name; 0 where both sides do the same and it ends as it should. */
 static int plan_bad(const char *name, unsigned expected)
 {
-    static const char *const ends[] = { "a refusal", "success", "failure", "waiting", "no room", "the budget used up" };
+    static const char *const ends[RISSOBARM_END_COUNT + 1] = {
+        "a refusal",
+        [RISSOBARM_END_SUCCESS] = "success",
+        [RISSOBARM_END_FAILURE] = "failure",
+        [RISSOBARM_END_WAITING] = "waiting",
+        [RISSOBARM_END_ROOM] = "no room",
+        [RISSOBARM_END_BUDGET] = "the budget used up",
+    };
     unsigned before = differences, end = play();
 
     printf("%s: ends in %s, %u rows, %u differences\n", name, ends[end], processes(&ours), differences - before);

@@ -17,7 +17,7 @@ struct tables {
 
 static inline unsigned processes(const struct tables *t)
 {
-    return t->head[0] + 256u * t->head[1];
+    return t->head[RISSOBARM_HEAD_PROCS] + 256u * t->head[RISSOBARM_HEAD_PROCS + 1];
 }
 
 #endif

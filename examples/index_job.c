@@ -25,10 +25,6 @@ enum { SUCCEEDED = 0, FAILED = 1, WAITS = 2, NO_ROOM = 3, REFUSED = 4, NO_GOOD =
 enum { FREE = 0, KEY = 1, PLACE = 2, FIELDS = 3 };
 enum { MOST_RECORDS = 5, LAST_RECORD = 9999, LINE_ROOM = 200, SLICE = 50, SLICE_LIMIT = 65535 };
 
-/* Bytes of the tables, as docs/LAYOUT.md has them. */
-enum { HEAD_PROCESSES = 0, HEAD_VARIABLES = 2, HEAD_STEPS = 6 };
-enum { ROW_TAG = 0, ROW_NOTE_COUNT = 3, ROW_PARENT = 4, ROW_LITERAL = 11, ROW_FOUND = 13, ROW_NOTES = 16 };
-
 static const char *const field_names[FIELDS] = { "free", "key", "place" };
 
 /* A plan, the tables of its run, and what is known of it. */
@@ -53,29 +49,58 @@ struct arrival {
 #define IMAGE(job) (job)->image, (job)->length
 #define TABLES(job) (job)->head, sizeof (job)->head, (job)->procs, sizeof (job)->procs, (job)->vars, sizeof (job)->vars
 
-/* ---- refusals in words ---- */
+/* ---- numbers in words ---- */
+
+struct name {
+    unsigned number;
+    const char *words;
+};
+
+/* The words of a number, or those for one that is not there. */
+static const char *words_of(const struct name *names, size_t count, unsigned number, const char *unknown)
+{
+    size_t k;
+
+    for (k = 0; k < count; k++)
+        if (names[k].number == number)
+            return names[k].words;
+    return unknown;
+}
 
 static const char *refusal_words(unsigned refusal)
 {
-    static const char *const words[] = {
-        "accepted",
-        "LONG, the image is over 32,768 bytes",
-        "CUT, a record does not end where the image says",
-        "KIND, a record is of no known kind or out of order",
-        "BODY, a number in a record is out of range, or its fields do not fill it",
-        "NAME, a record names what is not there, or a clause is out of place",
-        "MANY, one relation or clause too many",
-        "NOGOAL, the image has no goal",
-        "STATE, the tables are not those of a run of this image",
-        "NODE, there is no such process",
-        "STILL, no rule applies",
-        "ROOM, the move needs more rows than are left",
-        "NOVAR, the goal has no such variable",
-        "BOUND, that variable has its value already",
-        "CONST, the value is over 32,767"
+    static const struct name names[] = {
+        { RISSOBARM_ACCEPTED, "accepted" },
+        { RISSOBARM_LONG, "LONG, the image is over 32,768 bytes" },
+        { RISSOBARM_CUT, "CUT, a record does not end where the image says" },
+        { RISSOBARM_KIND, "KIND, a record is of no known kind or out of order" },
+        { RISSOBARM_BODY, "BODY, a number in a record is out of range, or its fields do not fill it" },
+        { RISSOBARM_NAME, "NAME, a record names what is not there, or a clause is out of place" },
+        { RISSOBARM_MANY, "MANY, one relation or clause too many" },
+        { RISSOBARM_NOGOAL, "NOGOAL, the image has no goal" },
+        { RISSOBARM_STATE, "STATE, the tables are not those of a run of this image" },
+        { RISSOBARM_NODE, "NODE, there is no such process" },
+        { RISSOBARM_STILL, "STILL, no rule applies" },
+        { RISSOBARM_ROOM, "ROOM, the move needs more rows than are left" },
+        { RISSOBARM_NOVAR, "NOVAR, the goal has no such variable" },
+        { RISSOBARM_BOUND, "BOUND, that variable has its value already" },
+        { RISSOBARM_CONST, "CONST, the value is over 32,767" }
     };
 
-    return refusal < sizeof words / sizeof words[0] ? words[refusal] : "a refusal that this job does not know";
+    return words_of(names, sizeof names / sizeof names[0], refusal, "a refusal that this job does not know");
+}
+
+static const char *tag_name(unsigned tag)
+{
+    static const struct name names[] = {
+        { RISSOBARM_TAG_AND_PAR, "and-par" },         { RISSOBARM_TAG_AND_SEQ, "and-seq" },
+        { RISSOBARM_TAG_OR_PAR, "or-par" },           { RISSOBARM_TAG_SEQ_SEARCH, "seq-search" },
+        { RISSOBARM_TAG_OR_SEARCH, "or-search" },     { RISSOBARM_TAG_TRY_CLAUSE, "try-clause" },
+        { RISSOBARM_TAG_INPUT_MATCH, "input-match" }, { RISSOBARM_TAG_GUARD_EVAL, "guard-eval" },
+        { RISSOBARM_TAG_EQUATE, "equate" }
+    };
+
+    return words_of(names, sizeof names / sizeof names[0], tag, "unknown");
 }
 
 /* Where the image is refused, the offset tells the record. */
@@ -98,7 +123,7 @@ static unsigned word_at(const uint8_t *bytes)
 
 static unsigned steps_made(const struct job *job)
 {
-    return word_at(job->head + HEAD_STEPS) + 65536u * word_at(job->head + HEAD_STEPS + 2);
+    return word_at(job->head + RISSOBARM_HEAD_STEPS) + 65536u * word_at(job->head + RISSOBARM_HEAD_STEPS + 2);
 }
 
 static const uint8_t *row_of(const struct job *job, unsigned process)
@@ -106,20 +131,12 @@ static const uint8_t *row_of(const struct job *job, unsigned process)
     return job->procs + process * RISSOBARM_PROCESS_ROW;
 }
 
-static const char *tag_name(unsigned tag)
-{
-    static const char *const names[] = { "and-par",    "and-seq",     "or-par",     "seq-search", "or-search",
-                                         "try-clause", "input-match", "guard-eval", "equate" };
-
-    return tag < sizeof names / sizeof names[0] ? names[tag] : "unknown";
-}
-
 /* The record that a process works for: the literal of the goal that the topmost process above it has. */
 static unsigned record_of(const struct job *job, unsigned process)
 {
-    while (word_at(row_of(job, process) + ROW_PARENT) != 0)
-        process = word_at(row_of(job, process) + ROW_PARENT);
-    return row_of(job, process)[ROW_LITERAL] + 1u;
+    while (word_at(row_of(job, process) + RISSOBARM_ROW_PARENT) != 0)
+        process = word_at(row_of(job, process) + RISSOBARM_ROW_PARENT);
+    return row_of(job, process)[RISSOBARM_ROW_LITERAL] + 1u;
 }
 
 /* ---- what is told ---- */
@@ -152,14 +169,14 @@ static int tell_suspended(const struct job *job, unsigned process)
     const uint8_t *row = row_of(job, process);
     unsigned k, told = 0;
 
-    for (k = 0; k < row[ROW_NOTE_COUNT]; k++) {
-        unsigned variable = word_at(row + ROW_NOTES + 2 * k);
+    for (k = 0; k < row[RISSOBARM_ROW_NOTE_COUNT]; k++) {
+        unsigned variable = word_at(row + RISSOBARM_ROW_NOTES + 2 * k);
 
         if (!is_goal_variable(job, variable))
             continue;
         if (told++ == 0)
-            printf("  process %u (%s, clause %u, record %u) waits for", process, tag_name(row[ROW_TAG]), row[ROW_FOUND],
-                   record_of(job, process));
+            printf("  process %u (%s, clause %u, record %u) waits for", process, tag_name(row[RISSOBARM_ROW_TAG]),
+                   row[RISSOBARM_ROW_FOUND], record_of(job, process));
         printf(" %s of record %u", field_names[variable % FIELDS], variable / FIELDS + 1);
     }
     if (told > 0)
@@ -170,7 +187,7 @@ static int tell_suspended(const struct job *job, unsigned process)
 /* Every suspended process, found by watching the rows behind the one found last; then one step, which has to be refused. */
 static void tell_waiting(struct job *job)
 {
-    unsigned used = word_at(job->head + HEAD_PROCESSES), from = 0, first = 0, all = 0, told = 0;
+    unsigned used = word_at(job->head + RISSOBARM_HEAD_PROCS), from = 0, first = 0, all = 0, told = 0;
 
     printf("step %u: waiting\n", steps_made(job));
     while (from < used) {
@@ -195,7 +212,7 @@ static void tell_waiting(struct job *job)
 static void tell_room(struct job *job)
 {
     printf("step %u: no room, with %u processes and %u variables\n  ", steps_made(job),
-           word_at(job->head + HEAD_PROCESSES), word_at(job->head + HEAD_VARIABLES));
+           word_at(job->head + RISSOBARM_HEAD_PROCS), word_at(job->head + RISSOBARM_HEAD_VARS));
     say_refusal("the next turn", rissobarm_turn(IMAGE(job), TABLES(job)));
 }
 
@@ -262,8 +279,8 @@ static int after_slice(struct job *job, struct arrival *next, unsigned end)
     case RISSOBARM_END_SUCCESS:
     case RISSOBARM_END_FAILURE:
         printf("step %u: the goal has %s, with %u processes and %u variables\n", steps_made(job),
-               end == RISSOBARM_END_SUCCESS ? "succeeded" : "failed", word_at(job->head + HEAD_PROCESSES),
-               word_at(job->head + HEAD_VARIABLES));
+               end == RISSOBARM_END_SUCCESS ? "succeeded" : "failed", word_at(job->head + RISSOBARM_HEAD_PROCS),
+               word_at(job->head + RISSOBARM_HEAD_VARS));
         return end == RISSOBARM_END_SUCCESS ? SUCCEEDED : FAILED;
     case RISSOBARM_END_WAITING:
         tell_waiting(job);

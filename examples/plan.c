@@ -11,6 +11,8 @@
  * stand, the variables of a clause or goal as they first appear. Only the text's form is tested here: whether a plan
  * keeps the machine's limits is for rissobarm_load to say. Ends with 0, or with 1 and a line that says what is wrong.
  */
+#include "rissobarm.h"
+
 #include <ctype.h>
 #include <stdint.h>
 #include <stdio.h>
@@ -18,7 +20,6 @@
 #include <string.h>
 
 enum { TEXT_ROOM = 262144, IMAGE_ROOM = 65536, NAME_ROOM = 32, RELATIONS = 255, VARIABLES = 255, ARGUMENTS = 255 };
-enum { KIND_RELATION = 1, KIND_CLAUSE = 2, KIND_GOAL = 3, EQUALITY = 255, CONSTANTS = 32768 };
 
 /* Names in the order of their numbers. */
 struct names {
@@ -156,7 +157,7 @@ static void read_term(void)
     take_name(name);
     if (isdigit((unsigned char)name[0])) {
         number = (unsigned)strtoul(name, NULL, 10);
-        if (number >= CONSTANTS)
+        if (number > RISSOBARM_CONSTANT_LIMIT)
             wrong("a constant is at most 32767");
         put_word(number);
         return;
@@ -166,7 +167,7 @@ static void read_term(void)
     number = find(&variables, name);
     if (number == variables.count)
         add(&variables, name);
-    put_word(CONSTANTS + number);
+    put_word(RISSOBARM_TERM_VARIABLE + number);
 }
 
 /* The arguments in brackets, behind their number; without brackets there is none. */
@@ -193,7 +194,7 @@ static void read_literal(void)
     unsigned number;
 
     if (!islower((unsigned char)next())) {
-        put(EQUALITY);
+        put(RISSOBARM_EQUALITY);
         put(2);
         read_term();
         need("=");
@@ -230,7 +231,7 @@ static void read_goal(void)
 static void read_mode(void)
 {
     char name[NAME_ROOM];
-    size_t start = record_begin(KIND_RELATION), count = length;
+    size_t start = record_begin(RISSOBARM_RECORD_RELATION), count = length;
 
     take_name(name);
     if (find(&relations, name) < relations.count)
@@ -282,7 +283,7 @@ static void read_clause(void)
     static unsigned before = RELATIONS, closed = 0;
     char name[NAME_ROOM];
     unsigned number, k;
-    size_t start = record_begin(KIND_CLAUSE), fields;
+    size_t start = record_begin(RISSOBARM_RECORD_CLAUSE), fields;
 
     take_name(name);
     number = find(&relations, name);
@@ -309,7 +310,7 @@ static void read_clause(void)
 
 static void read_query(void)
 {
-    size_t start = record_begin(KIND_GOAL), count = length;
+    size_t start = record_begin(RISSOBARM_RECORD_GOAL), count = length;
 
     variables.count = 0;
     put(0);

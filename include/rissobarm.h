@@ -24,20 +24,129 @@ extern "C" {
 
 enum {
     RISSOBARM_IMAGE_LIMIT = 32768,   /* bytes of an image */
+    RISSOBARM_RECORD_HEAD = 4,       /* bytes of a record before its body: two of length, two of kind */
     RISSOBARM_RELATION_LIMIT = 32,   /* relations of an image */
     RISSOBARM_CLAUSE_LIMIT = 64,     /* clauses of an image */
+    RISSOBARM_BLOCK_LIMIT = 8,       /* clauses of a parallel block */
+    RISSOBARM_ARITY_LIMIT = 4,       /* arguments of a relation */
+    RISSOBARM_OWN_LIMIT = 16,        /* variables of a clause, or of the goal */
+    RISSOBARM_STAGE_LIMIT = 8,       /* stages of a goal */
+    RISSOBARM_LITERAL_LIMIT = 8,     /* literals of a goal, over all its stages */
     RISSOBARM_CONSTANT_LIMIT = 32767 /* the highest constant */
 };
 
-/* The three rows of a run; a row that is lent with another length is refused 8. */
+/* The three rows of a run; a row that is lent with another length is refused 8. Only the watch takes any length. */
 enum {
     RISSOBARM_PROCESS_LIMIT = 512,   /* rows of the process table */
     RISSOBARM_VARIABLE_LIMIT = 1024, /* rows of the variable table */
+    RISSOBARM_NOTE_LIMIT = 4,        /* variables that a suspended process notes */
     RISSOBARM_PROCESS_ROW = 24,      /* bytes of a process row */
     RISSOBARM_VARIABLE_ROW = 4,      /* bytes of a variable row */
     RISSOBARM_HEAD_SIZE = 10,        /* bytes of the head */
     RISSOBARM_PROCS_SIZE = RISSOBARM_PROCESS_LIMIT * RISSOBARM_PROCESS_ROW,
     RISSOBARM_VARS_SIZE = RISSOBARM_VARIABLE_LIMIT * RISSOBARM_VARIABLE_ROW
+};
+
+/* ---- images ---- */
+
+/* Kinds of records. */
+enum {
+    RISSOBARM_RECORD_RELATION = 1,
+    RISSOBARM_RECORD_CLAUSE = 2,
+    RISSOBARM_RECORD_GOAL = 3
+};
+
+/* What literals and terms hold. */
+enum {
+    RISSOBARM_EQUALITY = 255,       /* the relation number of equality, which has two arguments */
+    RISSOBARM_TERM_VARIABLE = 32768 /* a term below is a constant, one from here on a variable, counted from 0 */
+};
+
+/* ---- the head ---- */
+
+/* Where its fields stand. All numbers of the lent rows are little-endian. */
+enum {
+    RISSOBARM_HEAD_PROCS = 0, /* process count, 2 bytes */
+    RISSOBARM_HEAD_VARS = 2,  /* variable count, 2 bytes */
+    RISSOBARM_HEAD_LAST = 4,  /* turn marker: the process last stepped, 2 bytes */
+    RISSOBARM_HEAD_STEPS = 6  /* turn marker: steps taken so far, 4 bytes */
+};
+
+/* ---- process rows ---- */
+
+/* Where the fields of a process row stand: a byte each where nothing else is said. */
+enum {
+    RISSOBARM_ROW_TAG = 0,
+    RISSOBARM_ROW_MODE = 1,
+    RISSOBARM_ROW_RESULT = 2,
+    RISSOBARM_ROW_NOTE_COUNT = 3,
+    RISSOBARM_ROW_PARENT = 4,   /* 2 bytes */
+    RISSOBARM_ROW_KIND = 6,     /* goal kind */
+    RISSOBARM_ROW_CLAUSE = 7,   /* clause of that goal */
+    RISSOBARM_ROW_BASE = 8,     /* first variable of that goal, 2 bytes */
+    RISSOBARM_ROW_STAGE = 10,   /* stage of that goal */
+    RISSOBARM_ROW_LITERAL = 11, /* literal of the stage */
+    RISSOBARM_ROW_BLOCK = 12,   /* block of the relation called, from 0 */
+    RISSOBARM_ROW_FOUND = 13,   /* clause found or tried */
+    RISSOBARM_ROW_FIRST = 14,   /* first variable of that clause, 2 bytes */
+    RISSOBARM_ROW_NOTES = 16    /* the variables noted, RISSOBARM_NOTE_LIMIT of 2 bytes */
+};
+
+/* Tags. */
+enum {
+    RISSOBARM_TAG_AND_PAR = 0,
+    RISSOBARM_TAG_AND_SEQ = 1,
+    RISSOBARM_TAG_OR_PAR = 2,
+    RISSOBARM_TAG_SEQ_SEARCH = 3,
+    RISSOBARM_TAG_OR_SEARCH = 4,
+    RISSOBARM_TAG_TRY_CLAUSE = 5,
+    RISSOBARM_TAG_INPUT_MATCH = 6,
+    RISSOBARM_TAG_GUARD_EVAL = 7,
+    RISSOBARM_TAG_EQUATE = 8,
+    RISSOBARM_TAG_COUNT = 9
+};
+
+/* Modes; a process is live in every mode but the first. */
+enum {
+    RISSOBARM_MODE_DORMANT = 0,
+    RISSOBARM_MODE_READY = 1,
+    RISSOBARM_MODE_STARTING = 2,
+    RISSOBARM_MODE_WAITING = 3,
+    RISSOBARM_MODE_REPORTING = 4,
+    RISSOBARM_MODE_SUSPENDED = 5,
+    RISSOBARM_MODE_COUNT = 6
+};
+
+/* Results. */
+enum {
+    RISSOBARM_RESULT_NONE = 0,
+    RISSOBARM_RESULT_SUCCESS = 1,
+    RISSOBARM_RESULT_FAILURE = 2,
+    RISSOBARM_RESULT_COUNT = 3
+};
+
+/* Goal kinds. */
+enum {
+    RISSOBARM_GOAL_IMAGE = 0, /* the image's goal */
+    RISSOBARM_GOAL_GUARD = 1, /* the guard of the clause */
+    RISSOBARM_GOAL_BODY = 2,  /* the committed body of the clause */
+    RISSOBARM_GOAL_COUNT = 3
+};
+
+/* ---- variable rows ---- */
+
+/* Where the fields of a variable row stand. */
+enum {
+    RISSOBARM_CELL_SORT = 0,  /* 1 byte */
+    RISSOBARM_CELL_NUMBER = 1 /* of the constant or variable, 3 bytes; 0 when unbound */
+};
+
+/* Sorts: what a variable row holds, and what the value of a variable is. */
+enum {
+    RISSOBARM_SORT_UNBOUND = 0,  /* of a row alone */
+    RISSOBARM_SORT_CONSTANT = 1, /* a constant */
+    RISSOBARM_SORT_VARIABLE = 2, /* of a row: a lower variable; of a value: an unbound one */
+    RISSOBARM_SORT_COUNT = 3
 };
 
 /* ---- refusal numbers ---- */
@@ -51,13 +160,14 @@ enum {
     RISSOBARM_NAME = 5,     /* something is named that is not there, or a clause is out of place */
     RISSOBARM_MANY = 6,     /* one relation, clause or clause of a block too many */
     RISSOBARM_NOGOAL = 7,   /* there is no goal */
-    RISSOBARM_STATE = 8,    /* the lent rows are no tables of a run of this image */
+    RISSOBARM_STATE = 8,    /* the tables break a table rule, or a lent row has another length */
     RISSOBARM_NODE = 9,     /* there is no such process */
     RISSOBARM_STILL = 10,   /* it has nothing to do */
     RISSOBARM_ROOM = 11,    /* its move does not fit into the tables any more */
     RISSOBARM_NOVAR = 12,   /* the goal has no such variable */
     RISSOBARM_BOUND = 13,   /* that variable has its value */
-    RISSOBARM_CONST = 14    /* the value is no constant of an image */
+    RISSOBARM_CONST = 14,   /* the value is no constant of an image */
+    RISSOBARM_REFUSAL_COUNT = 14
 };
 
 /* ---- rules: what a step did ---- */
@@ -112,16 +222,10 @@ enum {
 enum {
     RISSOBARM_END_SUCCESS = 1, /* the goal has ended in success */
     RISSOBARM_END_FAILURE = 2, /* the goal has ended in failure */
-    RISSOBARM_END_WAITING = 3, /* nothing can move before a value is supplied */
+    RISSOBARM_END_WAITING = 3, /* nothing can move, until a supply binds a variable that is noted, or for ever */
     RISSOBARM_END_ROOM = 4,    /* the next step does not fit into the tables */
-    RISSOBARM_END_BUDGET = 5   /* the limit is used up */
-};
-
-/* ---- sorts: what a variable's value is ---- */
-
-enum {
-    RISSOBARM_SORT_CONSTANT = 1, /* a constant */
-    RISSOBARM_SORT_VARIABLE = 2  /* an unbound variable */
+    RISSOBARM_END_BUDGET = 5,  /* the limit is used up */
+    RISSOBARM_END_COUNT = 5
 };
 
 /* ---- answers ---- */
@@ -132,7 +236,8 @@ enum {
  * call answers stands at the call. Every bit that is not named is 0.
  *
  * Every call that takes an image tests it first, as the load does, and may refuse with 1 to 7. Then come the lent rows:
- * 8 when one is not of its full length or, in every call but the start, when they are no tables of a run of that image.
+ * 8 when one is not of its full length or, in every call but the start, when the tables break a table rule. Tables that
+ * keep the rules are taken, whether a run makes them or not.
  */
 
 /* The refusal number of any answer; RISSOBARM_ACCEPTED for none. */
@@ -184,8 +289,9 @@ uint64_t rissobarm_step(const uint8_t *image, size_t image_len, uint8_t *head, s
                         uint32_t process);
 
 /*
- * Makes the move of the process whose turn it is: the first that can move after the one last stepped. Answers as a step
- * does. Refused: 1 to 8; 10 when nothing can move; 11 when there is no room for that process's move.
+ * Makes the move of the process whose turn it is: the first that can move after the one last stepped, by number, round
+ * from the last process to process 0 and on to the one last stepped itself. Answers as a step does. Refused: 1 to 8; 10
+ * when nothing can move; 11 when there is no room for that process's move.
  */
 uint64_t rissobarm_turn(const uint8_t *image, size_t image_len, uint8_t *head, size_t head_len,
                         uint8_t *procs, size_t procs_len, uint8_t *vars, size_t vars_len);

@@ -59,7 +59,7 @@ void bed_begin(struct bed *bed, const struct story *story)
     unsigned k;
 
     bed->source = &story->image;
-    bed->loaded = verdict.refusal != ACCEPTED
+    bed->loaded = verdict.refusal != RISSOBARM_ACCEPTED
                       ? ref_refused(verdict.refusal, verdict.offset)
                       : ref_accepted(bed->program.relation_count, bed->program.clause_count, 0);
     row_place(&bed->image, story->image.length, standing);
@@ -172,7 +172,7 @@ bool bed_play(struct bed *bed, const struct event *event)
     full_sizes(bed);
     if (!same_answer(bed) || !same_guards(bed))
         return false;
-    if (!same_bytes(bed, rissobarm_refusal(bed->answer) != 0 || reads_only(event->kind)))
+    if (!same_bytes(bed, rissobarm_refusal(bed->answer) != RISSOBARM_ACCEPTED || reads_only(event->kind)))
         return false;
     if (!entry_right(bed, event, &entry) || !properties_hold(bed, event))
         return false;

@@ -42,7 +42,7 @@ bool bed_play(struct bed *bed, const struct event *event);
 /* Whether the image is accepted. */
 static inline bool bed_accepts(const struct bed *bed)
 {
-    return rissobarm_refusal(bed->loaded) == 0;
+    return rissobarm_refusal(bed->loaded) == RISSOBARM_ACCEPTED;
 }
 
 /* Which table rules the tables break now. */

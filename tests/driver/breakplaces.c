@@ -30,14 +30,14 @@ static unsigned high_first(struct breaking *b, unsigned size)
 static const struct goal *goal_of(struct breaking *b, unsigned process)
 {
     const uint8_t *row = process_row(&b->rows, process);
-    struct place place = { row[AT_KIND], row[AT_CLAUSE], 0, 0, 0 };
+    struct place place = { row[RISSOBARM_ROW_KIND], row[RISSOBARM_ROW_CLAUSE], 0, 0, 0 };
 
     return ref_goal_at(b->draw.program, &place);
 }
 
 static bool in_clause(struct breaking *b, unsigned process)
 {
-    return process_row(&b->rows, process)[AT_KIND] != THE_GOAL;
+    return process_row(&b->rows, process)[RISSOBARM_ROW_KIND] != RISSOBARM_GOAL_IMAGE;
 }
 
 /* ---- the goal */
@@ -46,7 +46,8 @@ static bool goal_first(struct breaking *b, unsigned process)
 {
     if (in_clause(b, process))
         return false;
-    poke_word(b, THE_PROCS, field(process, AT_FIRST), below(b, 2) == 0 ? 1u << below(b, 16) : 1 + below(b, 65535));
+    poke_word(b, THE_PROCS, field(process, RISSOBARM_ROW_BASE),
+              below(b, 2) == 0 ? 1u << below(b, 16) : 1 + below(b, 65535));
     return true;
 }
 
@@ -54,17 +55,17 @@ static bool goal_clause(struct breaking *b, unsigned process)
 {
     if (!in_clause(b, process))
         return false;
-    poke_byte(b, THE_PROCS, field(process, AT_CLAUSE), high_byte(b, b->draw.program->clause_count));
+    poke_byte(b, THE_PROCS, field(process, RISSOBARM_ROW_CLAUSE), high_byte(b, b->draw.program->clause_count));
     return true;
 }
 
 static bool goal_block(struct breaking *b, unsigned process)
 {
-    unsigned clause = process_row(&b->rows, process)[AT_CLAUSE];
+    unsigned clause = process_row(&b->rows, process)[RISSOBARM_ROW_CLAUSE];
 
     if (!in_clause(b, process))
         return false;
-    poke_word(b, THE_PROCS, field(process, AT_FIRST), high_first(b, b->draw.program->clauses[clause].size));
+    poke_word(b, THE_PROCS, field(process, RISSOBARM_ROW_BASE), high_first(b, b->draw.program->clauses[clause].size));
     return true;
 }
 
@@ -72,32 +73,34 @@ static bool goal_block(struct breaking *b, unsigned process)
 
 static bool no_stage(struct breaking *b, unsigned process)
 {
-    unsigned behind = process_row(&b->rows, process)[AT_TAG] == AND_SEQ;
+    unsigned behind = process_row(&b->rows, process)[RISSOBARM_ROW_TAG] == RISSOBARM_TAG_AND_SEQ;
 
-    poke_byte(b, THE_PROCS, field(process, AT_STAGE), high_byte(b, goal_of(b, process)->stage_count + behind));
+    poke_byte(b, THE_PROCS, field(process, RISSOBARM_ROW_STAGE),
+              high_byte(b, goal_of(b, process)->stage_count + behind));
     return true;
 }
 
 static bool no_literal(struct breaking *b, unsigned process)
 {
-    unsigned stage = process_row(&b->rows, process)[AT_STAGE];
+    unsigned stage = process_row(&b->rows, process)[RISSOBARM_ROW_STAGE];
 
-    poke_byte(b, THE_PROCS, field(process, AT_LITERAL), high_byte(b, goal_of(b, process)->stages[stage].count));
+    poke_byte(b, THE_PROCS, field(process, RISSOBARM_ROW_LITERAL),
+              high_byte(b, goal_of(b, process)->stages[stage].count));
     return true;
 }
 
 static bool wrong_literal(struct breaking *b, unsigned process)
 {
-    bool equality = process_row(&b->rows, process)[AT_TAG] != EQUATE;
+    bool equality = process_row(&b->rows, process)[RISSOBARM_ROW_TAG] != RISSOBARM_TAG_EQUATE;
     struct place place;
 
     if (!draw_literal(&b->draw, equality, &place))
         return false;
-    poke_byte(b, THE_PROCS, field(process, AT_KIND), place.kind);
-    poke_byte(b, THE_PROCS, field(process, AT_CLAUSE), place.clause);
-    poke_word(b, THE_PROCS, field(process, AT_FIRST), place.first);
-    poke_byte(b, THE_PROCS, field(process, AT_STAGE), place.stage);
-    poke_byte(b, THE_PROCS, field(process, AT_LITERAL), place.literal);
+    poke_byte(b, THE_PROCS, field(process, RISSOBARM_ROW_KIND), place.kind);
+    poke_byte(b, THE_PROCS, field(process, RISSOBARM_ROW_CLAUSE), place.clause);
+    poke_word(b, THE_PROCS, field(process, RISSOBARM_ROW_BASE), place.first);
+    poke_byte(b, THE_PROCS, field(process, RISSOBARM_ROW_STAGE), place.stage);
+    poke_byte(b, THE_PROCS, field(process, RISSOBARM_ROW_LITERAL), place.literal);
     return true;
 }
 
@@ -106,45 +109,51 @@ static bool wrong_literal(struct breaking *b, unsigned process)
 static bool no_block(struct breaking *b, unsigned process)
 {
     const uint8_t *row = process_row(&b->rows, process);
-    struct place place = { row[AT_KIND], row[AT_CLAUSE], 0, row[AT_STAGE], row[AT_LITERAL] };
+    struct place place = { row[RISSOBARM_ROW_KIND], row[RISSOBARM_ROW_CLAUSE], 0, row[RISSOBARM_ROW_STAGE],
+                           row[RISSOBARM_ROW_LITERAL] };
     unsigned blocks = ref_block_count(b->draw.program, called_at(b->draw.program, &place));
 
-    if (row[AT_TAG] == SEQ_SEARCH)
-        poke_byte(b, THE_PROCS, field(process, AT_MODE), WAITING);
-    poke_byte(b, THE_PROCS, field(process, AT_BLOCK), high_byte(b, blocks));
+    if (row[RISSOBARM_ROW_TAG] == RISSOBARM_TAG_SEQ_SEARCH)
+        poke_byte(b, THE_PROCS, field(process, RISSOBARM_ROW_MODE), RISSOBARM_MODE_WAITING);
+    poke_byte(b, THE_PROCS, field(process, RISSOBARM_ROW_BLOCK), high_byte(b, blocks));
     return true;
+}
+
+static bool is_search(struct breaking *b, unsigned process)
+{
+    unsigned tag = process_row(&b->rows, process)[RISSOBARM_ROW_TAG];
+
+    return tag == RISSOBARM_TAG_SEQ_SEARCH || tag == RISSOBARM_TAG_OR_SEARCH;
 }
 
 /* A search names a clause when it reports success. */
 static void tell_success(struct breaking *b, unsigned process)
 {
-    unsigned tag = process_row(&b->rows, process)[AT_TAG];
-
-    if (tag != SEQ_SEARCH && tag != OR_SEARCH)
+    if (!is_search(b, process))
         return;
-    poke_byte(b, THE_PROCS, field(process, AT_MODE), REPORTING);
-    poke_byte(b, THE_PROCS, field(process, AT_RESULT), SUCCESS);
+    poke_byte(b, THE_PROCS, field(process, RISSOBARM_ROW_MODE), RISSOBARM_MODE_REPORTING);
+    poke_byte(b, THE_PROCS, field(process, RISSOBARM_ROW_RESULT), RISSOBARM_RESULT_SUCCESS);
 }
 
 static bool no_clause(struct breaking *b, unsigned process)
 {
     tell_success(b, process);
-    poke_byte(b, THE_PROCS, field(process, AT_FOUND), high_byte(b, b->draw.program->clause_count));
+    poke_byte(b, THE_PROCS, field(process, RISSOBARM_ROW_FOUND), high_byte(b, b->draw.program->clause_count));
     if (below(b, 2) == 0)
-        poke_word(b, THE_PROCS, field(process, AT_FOUND_FIRST), 0);
+        poke_word(b, THE_PROCS, field(process, RISSOBARM_ROW_FIRST), 0);
     return true;
 }
 
 static bool clause_block(struct breaking *b, unsigned process)
 {
-    const uint8_t *row = process_row(&b->rows, process);
-    struct found found = { row[AT_FOUND], 0 };
+    struct found found = { process_row(&b->rows, process)[RISSOBARM_ROW_FOUND], 0 };
 
-    if ((row[AT_TAG] == SEQ_SEARCH || row[AT_TAG] == OR_SEARCH) && !draw_clause(&b->draw, ANY_RELATION, &found))
+    if (is_search(b, process) && !draw_clause(&b->draw, ANY_RELATION, &found))
         return false;
     tell_success(b, process);
-    poke_byte(b, THE_PROCS, field(process, AT_FOUND), found.clause);
-    poke_word(b, THE_PROCS, field(process, AT_FOUND_FIRST), high_first(b, b->draw.program->clauses[found.clause].size));
+    poke_byte(b, THE_PROCS, field(process, RISSOBARM_ROW_FOUND), found.clause);
+    poke_word(b, THE_PROCS, field(process, RISSOBARM_ROW_FIRST),
+              high_first(b, b->draw.program->clauses[found.clause].size));
     return true;
 }
 
@@ -154,8 +163,8 @@ static bool clause_of_other(struct breaking *b, unsigned process)
 
     if (!draw_clause(&b->draw, ANY_RELATION, &found))
         return false;
-    poke_byte(b, THE_PROCS, field(process, AT_FOUND), found.clause);
-    poke_word(b, THE_PROCS, field(process, AT_FOUND_FIRST), found.first);
+    poke_byte(b, THE_PROCS, field(process, RISSOBARM_ROW_FOUND), found.clause);
+    poke_word(b, THE_PROCS, field(process, RISSOBARM_ROW_FIRST), found.first);
     return true;
 }
 

@@ -49,19 +49,19 @@ static unsigned some_process(struct breaking *b)
 
 static bool no_process(struct breaking *b)
 {
-    poke_word(b, THE_HEAD, HEAD_PROCESSES, 0);
+    poke_word(b, THE_HEAD, RISSOBARM_HEAD_PROCS, 0);
     return true;
 }
 
 static bool many_processes(struct breaking *b)
 {
-    poke_word(b, THE_HEAD, HEAD_PROCESSES, at_least(b, RISSOBARM_PROCESS_LIMIT + 1, 65535));
+    poke_word(b, THE_HEAD, RISSOBARM_HEAD_PROCS, at_least(b, RISSOBARM_PROCESS_LIMIT + 1, 65535));
     return process_count(&b->rows) > RISSOBARM_PROCESS_LIMIT;
 }
 
 static bool many_variables(struct breaking *b)
 {
-    poke_word(b, THE_HEAD, HEAD_VARIABLES, at_least(b, RISSOBARM_VARIABLE_LIMIT + 1, 65535));
+    poke_word(b, THE_HEAD, RISSOBARM_HEAD_VARS, at_least(b, RISSOBARM_VARIABLE_LIMIT + 1, 65535));
     return true;
 }
 
@@ -71,13 +71,13 @@ static bool few_variables(struct breaking *b)
 
     if (goal == 0)
         return false;
-    poke_word(b, THE_HEAD, HEAD_VARIABLES, below(b, 2) == 0 ? goal - 1 : below(b, goal));
+    poke_word(b, THE_HEAD, RISSOBARM_HEAD_VARS, below(b, 2) == 0 ? goal - 1 : below(b, goal));
     return true;
 }
 
 static bool marker_out(struct breaking *b)
 {
-    poke_word(b, THE_HEAD, HEAD_LAST, at_least(b, process_count(&b->rows), 65535));
+    poke_word(b, THE_HEAD, RISSOBARM_HEAD_LAST, at_least(b, process_count(&b->rows), 65535));
     return true;
 }
 
@@ -88,27 +88,27 @@ static bool unknown_tag(struct breaking *b)
 {
     unsigned process;
 
-    if (below(b, 4) == 0 || !row_with_tag(b, EQUATE, &process))
+    if (below(b, 4) == 0 || !row_with_tag(b, RISSOBARM_TAG_EQUATE, &process))
         process = some_process(b);
-    poke_byte(b, THE_PROCS, field(process, AT_TAG), at_least(b, TAG_COUNT, 255));
+    poke_byte(b, THE_PROCS, field(process, RISSOBARM_ROW_TAG), at_least(b, RISSOBARM_TAG_COUNT, 255));
     return true;
 }
 
 static bool unknown_mode(struct breaking *b)
 {
-    poke_byte(b, THE_PROCS, field(some_process(b), AT_MODE), at_least(b, MODE_COUNT, 255));
+    poke_byte(b, THE_PROCS, field(some_process(b), RISSOBARM_ROW_MODE), at_least(b, RISSOBARM_MODE_COUNT, 255));
     return true;
 }
 
 static bool unknown_result(struct breaking *b)
 {
-    poke_byte(b, THE_PROCS, field(some_process(b), AT_RESULT), at_least(b, RESULT_COUNT, 255));
+    poke_byte(b, THE_PROCS, field(some_process(b), RISSOBARM_ROW_RESULT), at_least(b, RISSOBARM_RESULT_COUNT, 255));
     return true;
 }
 
 static bool unknown_kind(struct breaking *b)
 {
-    poke_byte(b, THE_PROCS, field(some_process(b), AT_KIND), at_least(b, GOAL_KIND_COUNT, 255));
+    poke_byte(b, THE_PROCS, field(some_process(b), RISSOBARM_ROW_KIND), at_least(b, RISSOBARM_GOAL_COUNT, 255));
     return true;
 }
 
@@ -118,15 +118,15 @@ static bool reports_nothing(struct breaking *b)
 {
     unsigned process = some_process(b);
 
-    poke_byte(b, THE_PROCS, field(process, AT_MODE), REPORTING);
-    poke_byte(b, THE_PROCS, field(process, AT_RESULT), NONE);
+    poke_byte(b, THE_PROCS, field(process, RISSOBARM_ROW_MODE), RISSOBARM_MODE_REPORTING);
+    poke_byte(b, THE_PROCS, field(process, RISSOBARM_ROW_RESULT), RISSOBARM_RESULT_NONE);
     return true;
 }
 
 static bool root_without_result(struct breaking *b)
 {
-    poke_byte(b, THE_PROCS, AT_MODE, DORMANT);
-    poke_byte(b, THE_PROCS, AT_RESULT, NONE);
+    poke_byte(b, THE_PROCS, RISSOBARM_ROW_MODE, RISSOBARM_MODE_DORMANT);
+    poke_byte(b, THE_PROCS, RISSOBARM_ROW_RESULT, RISSOBARM_RESULT_NONE);
     return true;
 }
 
@@ -134,49 +134,49 @@ static bool root_without_result(struct breaking *b)
 
 static void poke_place(struct breaking *b, unsigned process, const struct place *place)
 {
-    poke_byte(b, THE_PROCS, field(process, AT_KIND), place->kind);
-    poke_byte(b, THE_PROCS, field(process, AT_CLAUSE), place->clause);
-    poke_word(b, THE_PROCS, field(process, AT_FIRST), place->first);
-    poke_byte(b, THE_PROCS, field(process, AT_STAGE), place->stage);
-    poke_byte(b, THE_PROCS, field(process, AT_LITERAL), place->literal);
+    poke_byte(b, THE_PROCS, field(process, RISSOBARM_ROW_KIND), place->kind);
+    poke_byte(b, THE_PROCS, field(process, RISSOBARM_ROW_CLAUSE), place->clause);
+    poke_word(b, THE_PROCS, field(process, RISSOBARM_ROW_BASE), place->first);
+    poke_byte(b, THE_PROCS, field(process, RISSOBARM_ROW_STAGE), place->stage);
+    poke_byte(b, THE_PROCS, field(process, RISSOBARM_ROW_LITERAL), place->literal);
 }
 
 /* A place that would do for another tag, in the image's goal or not. */
 static bool place_for_tag(struct breaking *b, unsigned tag, struct place *place)
 {
     switch (tag) {
-    case AND_PAR:
-    case AND_SEQ:
+    case RISSOBARM_TAG_AND_PAR:
+    case RISSOBARM_TAG_AND_SEQ:
         return draw_stage(&b->draw, 0, place);
     default:
-        return draw_literal(&b->draw, tag == EQUATE, place);
+        return draw_literal(&b->draw, tag == RISSOBARM_TAG_EQUATE, place);
     }
 }
 
 static bool root_tag(struct breaking *b)
 {
-    unsigned tag = below(b, TAG_COUNT), relation = ANY_RELATION;
+    unsigned tag = below(b, RISSOBARM_TAG_COUNT), relation = ANY_RELATION;
     struct place place;
     struct found found;
 
     b->draw.goal_only = true;
-    if (!place_for_tag(b, tag == GUARD_EVAL ? AND_SEQ : tag, &place))
+    if (!place_for_tag(b, tag == RISSOBARM_TAG_GUARD_EVAL ? RISSOBARM_TAG_AND_SEQ : tag, &place))
         return false;
     poke_place(b, 0, &place);
-    poke_byte(b, THE_PROCS, AT_TAG, tag);
-    if (tag == TRY_CLAUSE || tag == INPUT_MATCH)
+    poke_byte(b, THE_PROCS, RISSOBARM_ROW_TAG, tag);
+    if (tag == RISSOBARM_TAG_TRY_CLAUSE || tag == RISSOBARM_TAG_INPUT_MATCH)
         relation = called_at(b->draw.program, &place);
     if (draw_clause(&b->draw, relation, &found)) {
-        poke_byte(b, THE_PROCS, AT_FOUND, found.clause);
-        poke_word(b, THE_PROCS, AT_FOUND_FIRST, found.first);
+        poke_byte(b, THE_PROCS, RISSOBARM_ROW_FOUND, found.clause);
+        poke_word(b, THE_PROCS, RISSOBARM_ROW_FIRST, found.first);
     }
-    poke_byte(b, THE_PROCS, AT_BLOCK, 0);
+    poke_byte(b, THE_PROCS, RISSOBARM_ROW_BLOCK, 0);
     return true;
 }
 
 static bool root_parent(struct breaking *b)
 {
-    poke_word(b, THE_PROCS, AT_PARENT, at_least(b, 1, 65535));
+    poke_word(b, THE_PROCS, RISSOBARM_ROW_PARENT, at_least(b, 1, 65535));
     return true;
 }
 
@@ -184,7 +184,7 @@ static bool root_goal(struct breaking *b)
 {
     struct place place;
 
-    if (!place_for_tag(b, b->rows.procs[AT_TAG], &place))
+    if (!place_for_tag(b, b->rows.procs[RISSOBARM_ROW_TAG], &place))
         return false;
     poke_place(b, 0, &place);
     return true;
@@ -195,18 +195,19 @@ static bool root_goal(struct breaking *b)
 /* Itself or a later row, one that would make the tag where there is one. */
 static bool parent_not_lower(struct breaking *b)
 {
-    unsigned count = process_count(&b->rows), process = some_process(b), parent, tries;
+    unsigned count = process_count(&b->rows), process = some_process(b), parent, tag, tries;
 
     if (process == 0)
         return false;
+    tag = process_row(&b->rows, process)[RISSOBARM_ROW_TAG];
     for (tries = 0; tries < 20; tries++) {
         parent = process + below(b, count - process);
-        if (tag_makes(process_row(&b->rows, parent)[AT_TAG], process_row(&b->rows, process)[AT_TAG]))
+        if (tag_makes(process_row(&b->rows, parent)[RISSOBARM_ROW_TAG], tag))
             break;
     }
     if (tries == 20)
         parent = at_least(b, process, 65535);
-    poke_word(b, THE_PROCS, field(process, AT_PARENT), parent);
+    poke_word(b, THE_PROCS, field(process, RISSOBARM_ROW_PARENT), parent);
     return true;
 }
 
@@ -217,7 +218,7 @@ static bool parent_of_other_tag(struct breaking *b)
     if (process == 0)
         return false;
     parent = below(b, process);
-    poke_word(b, THE_PROCS, field(process, AT_PARENT), parent);
+    poke_word(b, THE_PROCS, field(process, RISSOBARM_ROW_PARENT), parent);
     return true;
 }
 
@@ -229,13 +230,13 @@ static bool no_stage_left(struct breaking *b)
     struct place place;
     const uint8_t *row;
 
-    if (!row_with_tag(b, AND_SEQ, &process))
+    if (!row_with_tag(b, RISSOBARM_TAG_AND_SEQ, &process))
         return false;
     row = process_row(&b->rows, process);
-    place.kind = row[AT_KIND];
-    place.clause = row[AT_CLAUSE];
-    poke_byte(b, THE_PROCS, field(process, AT_MODE), WAITING);
-    poke_byte(b, THE_PROCS, field(process, AT_STAGE), ref_goal_at(b->draw.program, &place)->stage_count);
+    place.kind = row[RISSOBARM_ROW_KIND];
+    place.clause = row[RISSOBARM_ROW_CLAUSE];
+    poke_byte(b, THE_PROCS, field(process, RISSOBARM_ROW_MODE), RISSOBARM_MODE_WAITING);
+    poke_byte(b, THE_PROCS, field(process, RISSOBARM_ROW_STAGE), ref_goal_at(b->draw.program, &place)->stage_count);
     return true;
 }
 
@@ -245,9 +246,9 @@ static bool poke_variable(struct breaking *b, unsigned variable, unsigned sort, 
 {
     unsigned at = variable * RISSOBARM_VARIABLE_ROW;
 
-    poke_byte(b, THE_VARS, at + AT_SORT, sort);
-    poke_word(b, THE_VARS, at + AT_NUMBER, number % 65536);
-    poke_byte(b, THE_VARS, at + AT_NUMBER + 2, number / 65536);
+    poke_byte(b, THE_VARS, at + RISSOBARM_CELL_SORT, sort);
+    poke_word(b, THE_VARS, at + RISSOBARM_CELL_NUMBER, number % 65536);
+    poke_byte(b, THE_VARS, at + RISSOBARM_CELL_NUMBER + 2, number / 65536);
     return true;
 }
 
@@ -257,7 +258,8 @@ static bool unknown_sort(struct breaking *b)
 
     if (count == 0)
         return false;
-    poke_byte(b, THE_VARS, below(b, count) * RISSOBARM_VARIABLE_ROW + AT_SORT, at_least(b, SORT_COUNT, 255));
+    poke_byte(b, THE_VARS, below(b, count) * RISSOBARM_VARIABLE_ROW + RISSOBARM_CELL_SORT,
+              at_least(b, RISSOBARM_SORT_COUNT, 255));
     return true;
 }
 
@@ -266,16 +268,16 @@ static bool number_of_unbound(struct breaking *b)
     unsigned count = variable_count(&b->rows);
     uint32_t number = below(b, 2) == 0 ? 1u << below(b, 24) : 1 + below(b, 0xFFFFFF);
 
-    return count > 0 && poke_variable(b, below(b, count), UNBOUND, number);
+    return count > 0 && poke_variable(b, below(b, count), RISSOBARM_SORT_UNBOUND, number);
 }
 
 /* The third byte of a number counts too. */
 static bool constant_too_high(struct breaking *b)
 {
-    unsigned count = variable_count(&b->rows);
-    uint32_t number = below(b, 2) == 0 ? at_least(b, 32768, 0xFFFFFF) : 65536 * (1 + below(b, 255)) + below(b, 32768);
+    unsigned count = variable_count(&b->rows), over = RISSOBARM_CONSTANT_LIMIT + 1;
+    uint32_t number = below(b, 2) == 0 ? at_least(b, over, 0xFFFFFF) : 65536 * (1 + below(b, 255)) + below(b, over);
 
-    return count > 0 && poke_variable(b, below(b, count), CONSTANT, number);
+    return count > 0 && poke_variable(b, below(b, count), RISSOBARM_SORT_CONSTANT, number);
 }
 
 static bool variable_not_lower(struct breaking *b)
@@ -287,7 +289,7 @@ static bool variable_not_lower(struct breaking *b)
         return false;
     variable = below(b, count);
     number = below(b, 4) == 0 ? 65536 * (1 + below(b, 255)) + below(b, variable + 1) : at_least(b, variable, count);
-    return poke_variable(b, variable, VARIABLE, number);
+    return poke_variable(b, variable, RISSOBARM_SORT_VARIABLE, number);
 }
 
 /* ---- notes */
@@ -298,25 +300,26 @@ static bool poke_notes(struct breaking *b, unsigned process, unsigned count)
 
     if (variables == 0)
         return false;
-    poke_byte(b, THE_PROCS, field(process, AT_MODE), SUSPENDED);
-    poke_byte(b, THE_PROCS, field(process, AT_COUNT), count);
-    for (k = 0; k < NOTE_LIMIT; k++)
-        poke_word(b, THE_PROCS, field(process, AT_NOTES + 2 * k), below(b, variables));
+    poke_byte(b, THE_PROCS, field(process, RISSOBARM_ROW_MODE), RISSOBARM_MODE_SUSPENDED);
+    poke_byte(b, THE_PROCS, field(process, RISSOBARM_ROW_NOTE_COUNT), count);
+    for (k = 0; k < RISSOBARM_NOTE_LIMIT; k++)
+        poke_word(b, THE_PROCS, field(process, RISSOBARM_ROW_NOTES + 2 * k), below(b, variables));
     return true;
 }
 
 static bool many_notes(struct breaking *b)
 {
-    return poke_notes(b, some_process(b), at_least(b, NOTE_LIMIT + 1, 255));
+    return poke_notes(b, some_process(b), at_least(b, RISSOBARM_NOTE_LIMIT + 1, 255));
 }
 
 static bool note_not_below(struct breaking *b)
 {
-    unsigned process = some_process(b), count = 1 + below(b, NOTE_LIMIT), which = below(b, count);
+    unsigned process = some_process(b), count = 1 + below(b, RISSOBARM_NOTE_LIMIT), which = below(b, count);
 
     if (!poke_notes(b, process, count))
         return false;
-    poke_word(b, THE_PROCS, field(process, AT_NOTES + 2 * which), at_least(b, variable_count(&b->rows), 65535));
+    poke_word(b, THE_PROCS, field(process, RISSOBARM_ROW_NOTES + 2 * which),
+              at_least(b, variable_count(&b->rows), 65535));
     return true;
 }
 
@@ -339,7 +342,7 @@ bool row_with_tag(struct breaking *b, unsigned tag, unsigned *process)
 
     for (k = 0; k < count; k++) {
         *process = (from + k) % count;
-        if (process_row(&b->rows, *process)[AT_TAG] == tag)
+        if (process_row(&b->rows, *process)[RISSOBARM_ROW_TAG] == tag)
             return true;
     }
     return false;
@@ -349,7 +352,8 @@ static bool break_once(struct breaking *b, unsigned rule)
 {
     unsigned place = rule - PLAIN_RULES;
 
-    return rule < PLAIN_RULES ? plain[rule](b) : break_place(b, place / TAG_COUNT, place % TAG_COUNT);
+    return rule < PLAIN_RULES ? plain[rule](b)
+                              : break_place(b, place / RISSOBARM_TAG_COUNT, place % RISSOBARM_TAG_COUNT);
 }
 
 bool break_alone(struct breaking *b, const struct program *program, struct random *random, const struct rows *rows,

@@ -27,7 +27,7 @@ static bool go_table_call(struct journey *journey)
 
 static bool break_size(struct journey *journey, unsigned row)
 {
-    static const int away[] = { -1, 1, -10, 4, 24, 200 };
+    static const int away[] = { -1, 1, -RISSOBARM_HEAD_SIZE, RISSOBARM_VARIABLE_ROW, RISSOBARM_PROCESS_ROW, 200 };
     uint32_t size = (uint32_t)((int)row_sizes[row] + away[random_below(journey->random, 6)]);
 
     if (!go_row(journey, SIZES, row, size, 0))
@@ -43,10 +43,10 @@ static void seen_pair(const struct rows *rows)
     unsigned count = process_count(rows), k;
 
     for (k = 1; k < count; k++) {
-        const uint8_t *row = process_row(rows, k), *parent = process_row(rows, word_at(row + AT_PARENT));
+        const uint8_t *row = process_row(rows, k), *parent = process_row(rows, word_at(row + RISSOBARM_ROW_PARENT));
 
-        if (!tag_makes(parent[AT_TAG], row[AT_TAG]))
-            counts.unmade[parent[AT_TAG]][row[AT_TAG]]++;
+        if (!tag_makes(parent[RISSOBARM_ROW_TAG], row[RISSOBARM_ROW_TAG]))
+            counts.unmade[parent[RISSOBARM_ROW_TAG]][row[RISSOBARM_ROW_TAG]]++;
     }
 }
 

@@ -25,9 +25,9 @@ static const uint8_t *wide_rows(const struct event *event)
 
     for (k = 0; k < event->a; k++)
         rows[k] = (uint8_t)random_bits(&random);
-    for (k = AT_MODE; k < event->a; k += RISSOBARM_PROCESS_ROW)
-        if (rows[k] < 64 || rows[k] == SUSPENDED)
-            rows[k] = random_below(&random, seldom + 1) == 0 ? SUSPENDED : SUSPENDED + 1;
+    for (k = RISSOBARM_ROW_MODE; k < event->a; k += RISSOBARM_PROCESS_ROW)
+        if (rows[k] < 64 || rows[k] == RISSOBARM_MODE_SUSPENDED)
+            rows[k] = random_below(&random, seldom + 1) == 0 ? RISSOBARM_MODE_SUSPENDED : RISSOBARM_MODE_SUSPENDED + 1;
     return rows;
 }
 

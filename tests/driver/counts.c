@@ -7,20 +7,55 @@
 struct counts counts;
 bool counting = true;
 
-static const char *const rules[RULE_COUNT] = {
-    "", "ready", "wake", "stop", "and-par start", "and-par success", "and-par failure", "and-seq start",
-    "and-seq next stage", "and-seq success", "and-seq failure", "or-par start", "or-par spawn", "or-par success",
-    "or-par failure", "seq-search, no clause", "seq-search start", "seq-search next block", "seq-search success",
-    "seq-search failure", "or-search start", "or-search commits", "or-search failure", "try-clause start",
-    "try-clause success", "try-clause failure", "input-match success", "input-match failure", "input-match suspends",
-    "guard-eval, empty", "guard-eval start", "guard-eval success", "guard-eval failure", "equate success",
-    "equate failure", "equate suspends",
+static const char *const rules[RISSOBARM_RULE_COUNT + 1] = {
+    [RISSOBARM_RULE_READY] = "ready",
+    [RISSOBARM_RULE_WAKE] = "wake",
+    [RISSOBARM_RULE_STOP] = "stop",
+    [RISSOBARM_RULE_AND_PAR_START] = "and-par start",
+    [RISSOBARM_RULE_AND_PAR_SUCCESS] = "and-par success",
+    [RISSOBARM_RULE_AND_PAR_FAILURE] = "and-par failure",
+    [RISSOBARM_RULE_AND_SEQ_START] = "and-seq start",
+    [RISSOBARM_RULE_AND_SEQ_NEXT] = "and-seq next stage",
+    [RISSOBARM_RULE_AND_SEQ_SUCCESS] = "and-seq success",
+    [RISSOBARM_RULE_AND_SEQ_FAILURE] = "and-seq failure",
+    [RISSOBARM_RULE_OR_PAR_START] = "or-par start",
+    [RISSOBARM_RULE_OR_PAR_SPAWN] = "or-par spawn",
+    [RISSOBARM_RULE_OR_PAR_SUCCESS] = "or-par success",
+    [RISSOBARM_RULE_OR_PAR_FAILURE] = "or-par failure",
+    [RISSOBARM_RULE_SEQ_SEARCH_NO_CLAUSE] = "seq-search, no clause",
+    [RISSOBARM_RULE_SEQ_SEARCH_START] = "seq-search start",
+    [RISSOBARM_RULE_SEQ_SEARCH_NEXT] = "seq-search next block",
+    [RISSOBARM_RULE_SEQ_SEARCH_SUCCESS] = "seq-search success",
+    [RISSOBARM_RULE_SEQ_SEARCH_FAILURE] = "seq-search failure",
+    [RISSOBARM_RULE_OR_SEARCH_START] = "or-search start",
+    [RISSOBARM_RULE_OR_SEARCH_COMMIT] = "or-search commits",
+    [RISSOBARM_RULE_OR_SEARCH_FAILURE] = "or-search failure",
+    [RISSOBARM_RULE_TRY_CLAUSE_START] = "try-clause start",
+    [RISSOBARM_RULE_TRY_CLAUSE_SUCCESS] = "try-clause success",
+    [RISSOBARM_RULE_TRY_CLAUSE_FAILURE] = "try-clause failure",
+    [RISSOBARM_RULE_INPUT_MATCH_SUCCESS] = "input-match success",
+    [RISSOBARM_RULE_INPUT_MATCH_FAILURE] = "input-match failure",
+    [RISSOBARM_RULE_INPUT_MATCH_SUSPEND] = "input-match suspends",
+    [RISSOBARM_RULE_GUARD_EVAL_EMPTY] = "guard-eval, empty",
+    [RISSOBARM_RULE_GUARD_EVAL_START] = "guard-eval start",
+    [RISSOBARM_RULE_GUARD_EVAL_SUCCESS] = "guard-eval success",
+    [RISSOBARM_RULE_GUARD_EVAL_FAILURE] = "guard-eval failure",
+    [RISSOBARM_RULE_EQUATE_SUCCESS] = "equate success",
+    [RISSOBARM_RULE_EQUATE_FAILURE] = "equate failure",
+    [RISSOBARM_RULE_EQUATE_SUSPEND] = "equate suspends",
 };
 
-static const char *const refusals[REFUSAL_COUNT] = { "",     "LONG",  "CUT",  "KIND",  "BODY", "NAME",  "MANY", "NOGOAL",
-                                                     "STATE", "NODE", "STILL", "ROOM", "NOVAR", "BOUND", "CONST" };
+static const char *const refusals[RISSOBARM_REFUSAL_COUNT + 1] = {
+    [RISSOBARM_LONG] = "LONG", [RISSOBARM_CUT] = "CUT", [RISSOBARM_KIND] = "KIND", [RISSOBARM_BODY] = "BODY",
+    [RISSOBARM_NAME] = "NAME", [RISSOBARM_MANY] = "MANY", [RISSOBARM_NOGOAL] = "NOGOAL", [RISSOBARM_STATE] = "STATE",
+    [RISSOBARM_NODE] = "NODE", [RISSOBARM_STILL] = "STILL", [RISSOBARM_ROOM] = "ROOM", [RISSOBARM_NOVAR] = "NOVAR",
+    [RISSOBARM_BOUND] = "BOUND", [RISSOBARM_CONST] = "CONST",
+};
 
-static const char *const ends[END_COUNT] = { "", "success", "failure", "waiting", "room", "budget" };
+static const char *const ends[RISSOBARM_END_COUNT + 1] = {
+    [RISSOBARM_END_SUCCESS] = "success", [RISSOBARM_END_FAILURE] = "failure", [RISSOBARM_END_WAITING] = "waiting",
+    [RISSOBARM_END_ROOM] = "room",       [RISSOBARM_END_BUDGET] = "budget",
+};
 
 static const char *const features[FEATURES] = {
     "twelve children in one move",
@@ -98,8 +133,8 @@ static unsigned pairs_seen(void)
 {
     unsigned seen = 0, parent, child;
 
-    for (parent = 0; parent < TAG_COUNT; parent++)
-        for (child = 0; child < TAG_COUNT; child++)
+    for (parent = 0; parent < RISSOBARM_TAG_COUNT; parent++)
+        for (child = 0; child < RISSOBARM_TAG_COUNT; child++)
             seen += counts.unmade[parent][child] > 0;
     return seen;
 }
@@ -107,10 +142,13 @@ static unsigned pairs_seen(void)
 /* An empty guard has no process of its own. */
 static bool tell_shapes(void)
 {
-    bool enough = tell("shapes", 0, "of the image's goal, of 256", "", shapes_seen(counts.goals[THE_GOAL]), SHAPES);
+    unsigned asked = shapes_seen(counts.goals[RISSOBARM_GOAL_IMAGE]);
+    unsigned guards = shapes_seen(counts.goals[RISSOBARM_GOAL_GUARD]);
+    unsigned bodies = shapes_seen(counts.goals[RISSOBARM_GOAL_BODY]);
+    bool enough = tell("shapes", 0, "of the image's goal, of 256", "", asked, SHAPES);
 
-    enough &= tell("shapes", 1, "of guards, of 255", "", shapes_seen(counts.goals[GUARD]), SHAPES - 1);
-    enough &= tell("shapes", 2, "of bodies, of 256", "", shapes_seen(counts.goals[BODY]), SHAPES);
+    enough &= tell("shapes", 1, "of guards, of 255", "", guards, SHAPES - 1);
+    enough &= tell("shapes", 2, "of bodies, of 256", "", bodies, SHAPES);
     enough &= tell("shapes", 3, "of blocks of a relation, of 256", "", shapes_seen(counts.blocks), SHAPES);
     return enough & tell("tags", 0, "pairs that no rule makes, of 63", "", pairs_seen(), 63);
 }
@@ -130,10 +168,10 @@ static void tell_totals(void)
 
 bool counts_tell(uint64_t least_broken)
 {
-    bool enough = tell_names("rule", rules, counts.rules, 1, RULE_COUNT);
+    bool enough = tell_names("rule", rules, counts.rules, 1, RISSOBARM_RULE_COUNT + 1);
 
-    enough &= tell_names("refusal", refusals, counts.refusals, 1, REFUSAL_COUNT);
-    enough &= tell_names("end", ends, counts.ends, 1, END_COUNT);
+    enough &= tell_names("refusal", refusals, counts.refusals, 1, RISSOBARM_REFUSAL_COUNT + 1);
+    enough &= tell_names("end", ends, counts.ends, 1, RISSOBARM_END_COUNT + 1);
     enough &= tell_names("seen", features, counts.features, 0, FEATURES);
     enough &= tell_broken(least_broken);
     enough &= tell_shapes();

@@ -5,7 +5,7 @@
 #include "event.h"
 #include "tablerules.h"
 
-enum { REFUSAL_COUNT = 15, END_COUNT = 6, SHAPES = 256 };
+enum { SHAPES = 256 };
 
 /* What is rare enough to be looked for by name. */
 enum feature {
@@ -39,13 +39,14 @@ struct counts {
     uint64_t steps;                 /* moves made one by one, by number or by turn */
     uint64_t by_number;             /* those by number */
     uint64_t run_steps;             /* moves made inside runs */
-    uint64_t refusals[REFUSAL_COUNT];
-    uint64_t rules[RULE_COUNT];
-    uint64_t ends[END_COUNT];
+    uint64_t refusals[RISSOBARM_REFUSAL_COUNT + 1];
+    uint64_t rules[RISSOBARM_RULE_COUNT + 1];
+    uint64_t ends[RISSOBARM_END_COUNT + 1];
     uint64_t broken[TABLE_RULES];   /* refused 8 for this rule alone */
     uint64_t legal;                 /* calls let in with tables made by chance or changed by hand */
-    uint64_t unmade[TAG_COUNT][TAG_COUNT]; /* a parent's tag with a tag that it does not make, refused for that alone */
-    uint64_t goals[GOAL_KIND_COUNT][SHAPES]; /* stage shapes of goals that processes worked in */
+    /* a parent's tag with a tag that it does not make, refused for that alone */
+    uint64_t unmade[RISSOBARM_TAG_COUNT][RISSOBARM_TAG_COUNT];
+    uint64_t goals[RISSOBARM_GOAL_COUNT][SHAPES]; /* stage shapes of goals that processes worked in */
     uint64_t blocks[SHAPES];        /* block shapes of relations that were searched */
     uint64_t features[FEATURES];
 };

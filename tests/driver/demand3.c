@@ -23,11 +23,13 @@ void fair_begin(void)
 
 static bool note_bound(const struct rows *rows, const uint8_t *row)
 {
-    unsigned k;
+    unsigned variable, k;
 
-    for (k = 0; k < row[AT_COUNT]; k++)
-        if (variable_row(rows, word_at(row + AT_NOTES + 2 * k))[AT_SORT] != UNBOUND)
+    for (k = 0; k < row[RISSOBARM_ROW_NOTE_COUNT]; k++) {
+        variable = word_at(row + RISSOBARM_ROW_NOTES + 2 * k);
+        if (variable_row(rows, variable)[RISSOBARM_CELL_SORT] != RISSOBARM_SORT_UNBOUND)
             return true;
+    }
     return false;
 }
 
@@ -46,7 +48,7 @@ static bool still_served(struct bed *bed, const struct event *event, unsigned pr
     const uint8_t *row = process_row(&bed->ours, process);
     bool own = event->kind != SUPPLIES && last_stepped(&bed->ours) == process;
 
-    if (own || row[AT_MODE] == DORMANT) {
+    if (own || row[RISSOBARM_ROW_MODE] == RISSOBARM_MODE_DORMANT) {
         waiting.age[process] = 0;
         return true;
     }
@@ -73,7 +75,7 @@ bool fair_holds(struct bed *bed, const struct event *event)
         const uint8_t *row = process_row(&bed->ours, p);
         bool can = ref_rule(&bed->program, &tables, p) != NO_RULE;
 
-        if (row[AT_MODE] == SUSPENDED && can != note_bound(&bed->ours, row))
+        if (row[RISSOBARM_ROW_MODE] == RISSOBARM_MODE_SUSPENDED && can != note_bound(&bed->ours, row))
             return bed_fault(bed, "process %u is suspended and its notes do not say whether it wakes", p);
         if (waiting.known && waiting.could[p] && !still_served(bed, event, p, can))
             return false;
@@ -94,7 +96,8 @@ static bool waits_for_live_child(const struct rows *rows, unsigned process)
     for (k = process + 1; k < count; k++) {
         const uint8_t *row = process_row(rows, k);
 
-        if (word_at(row + AT_PARENT) == process && row[AT_MODE] != DORMANT && row[AT_MODE] != REPORTING)
+        if (word_at(row + RISSOBARM_ROW_PARENT) == process && row[RISSOBARM_ROW_MODE] != RISSOBARM_MODE_DORMANT &&
+            row[RISSOBARM_ROW_MODE] != RISSOBARM_MODE_REPORTING)
             return true;
     }
     return false;
@@ -104,13 +107,14 @@ static bool waits_for_live_child(const struct rows *rows, unsigned process)
 static bool has_ground(const struct rows *rows, unsigned process)
 {
     const uint8_t *row = process_row(rows, process);
+    unsigned parent = word_at(row + RISSOBARM_ROW_PARENT);
 
-    switch (row[AT_MODE]) {
-    case SUSPENDED:
-        return row[AT_COUNT] > 0 && !note_bound(rows, row);
-    case REPORTING:
-        return process > 0 && process_row(rows, word_at(row + AT_PARENT))[AT_MODE] == WAITING;
-    case WAITING:
+    switch (row[RISSOBARM_ROW_MODE]) {
+    case RISSOBARM_MODE_SUSPENDED:
+        return row[RISSOBARM_ROW_NOTE_COUNT] > 0 && !note_bound(rows, row);
+    case RISSOBARM_MODE_REPORTING:
+        return process > 0 && process_row(rows, parent)[RISSOBARM_ROW_MODE] == RISSOBARM_MODE_WAITING;
+    case RISSOBARM_MODE_WAITING:
         return waits_for_live_child(rows, process);
     default:
         return false;
@@ -122,16 +126,16 @@ bool stuck_holds(struct bed *bed)
     unsigned count = process_count(&bed->ours), suspended = 0, live = 0, p;
 
     for (p = 0; p < count; p++) {
-        unsigned mode = process_row(&bed->ours, p)[AT_MODE];
+        unsigned mode = process_row(&bed->ours, p)[RISSOBARM_ROW_MODE];
 
-        if (mode == DORMANT)
+        if (mode == RISSOBARM_MODE_DORMANT)
             continue;
         live++;
-        suspended += mode == SUSPENDED;
+        suspended += mode == RISSOBARM_MODE_SUSPENDED;
         if (!has_ground(&bed->ours, p))
             return bed_fault(bed, "nothing can move, and process %u has no ground for it", p);
     }
-    if (bed->ours.procs[AT_MODE] == DORMANT)
+    if (bed->ours.procs[RISSOBARM_ROW_MODE] == RISSOBARM_MODE_DORMANT)
         return live == 0 || bed_fault(bed, "the goal has ended and %u processes are live", live);
     if (suspended == 0)
         return bed_fault(bed, "nothing can move and nobody is suspended");

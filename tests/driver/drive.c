@@ -72,7 +72,8 @@ static uint32_t draw_variable(struct journey *journey)
 
 static uint32_t draw_constant(struct journey *journey)
 {
-    static const uint32_t ends[] = { 32766, 32767, 32768, 65535, 65536, 98304, UINT32_MAX };
+    enum { MOST = RISSOBARM_CONSTANT_LIMIT };
+    static const uint32_t ends[] = { MOST - 1, MOST, MOST + 1, 65535, 65536, 98304, UINT32_MAX };
 
     if (random_once(journey->random, 16))
         return ends[random_below(journey->random, sizeof ends / sizeof ends[0])];
@@ -119,14 +120,14 @@ static bool go_run(struct journey *journey)
 static bool go_watch(struct journey *journey)
 {
     uint32_t full = RISSOBARM_PROCS_SIZE;
-    uint32_t used = RISSOBARM_PROCESS_ROW * process_count(&journey->bed->ours);
+    uint32_t used = RISSOBARM_PROCESS_ROW * process_count(&journey->bed->ours), beyond = used + RISSOBARM_PROCESS_ROW;
 
     if (random_once(journey->random, 2))
         return go(journey, WATCHES, full, 0);
     if (random_once(journey->random, 2))
         return go(journey, WATCHES, random_below(journey->random, random_once(journey->random, 2) ? 100 : WIDEST),
                   1 + random_bits(journey->random) / 2);
-    return go(journey, WATCHES, random_below(journey->random, used < full ? used + 25 : full), 0);
+    return go(journey, WATCHES, random_below(journey->random, used < full ? beyond + 1 : full), 0);
 }
 
 static bool go_supply(struct journey *journey)
@@ -195,8 +196,8 @@ static bool stands(const struct bed *bed)
 {
     unsigned refusal = rissobarm_refusal(bed->answer), end = rissobarm_end(bed->answer);
 
-    if (refusal != 0)
-        return refusal == REFUSED_STILL || refusal == REFUSED_ROOM;
+    if (refusal != RISSOBARM_ACCEPTED)
+        return refusal == RISSOBARM_STILL || refusal == RISSOBARM_ROOM;
     return bed->answer % 256 == 0 && end == RISSOBARM_END_WAITING;
 }
 
@@ -216,7 +217,7 @@ bool drive(struct journey *journey, unsigned temper, unsigned events)
 
     while (events-- > 0 && stood < 12) {
         /* nothing is left to do but a little beside the ended goal */
-        if (journey->bed->ours.procs[AT_MODE] == DORMANT)
+        if (journey->bed->ours.procs[RISSOBARM_ROW_MODE] == RISSOBARM_MODE_DORMANT)
             stood += 3;
         if (random_once(journey->random, 24)) {
             if (!go_aside(journey))

@@ -1,31 +1,10 @@
-/* The bytes of a run's tables by name, as docs/LAYOUT.md has them. */
+/* The rows of a run in plain memory, and how their numbers are read and written. */
 #ifndef LAYOUT_H
 #define LAYOUT_H
 
 #include "rissobarm.h"
 
 #include <stdint.h>
-
-enum { HEAD_PROCESSES = 0, HEAD_VARIABLES = 2, HEAD_LAST = 4, HEAD_STEPS = 6 };
-
-enum {
-    AT_TAG = 0,
-    AT_MODE = 1,
-    AT_RESULT = 2,
-    AT_COUNT = 3,
-    AT_PARENT = 4,
-    AT_KIND = 6,
-    AT_CLAUSE = 7,
-    AT_FIRST = 8,
-    AT_STAGE = 10,
-    AT_LITERAL = 11,
-    AT_BLOCK = 12,
-    AT_FOUND = 13,
-    AT_FOUND_FIRST = 14,
-    AT_NOTES = 16
-};
-
-enum { AT_SORT = 0, AT_NUMBER = 1 };
 
 /* Each row has this much room behind it, so that it can be lent with a greater length. */
 enum { SPARE = 256 };
@@ -60,22 +39,22 @@ static inline void put_word_at(uint8_t *bytes, unsigned word)
 
 static inline unsigned process_count(const struct rows *rows)
 {
-    return word_at(rows->head + HEAD_PROCESSES);
+    return word_at(rows->head + RISSOBARM_HEAD_PROCS);
 }
 
 static inline unsigned variable_count(const struct rows *rows)
 {
-    return word_at(rows->head + HEAD_VARIABLES);
+    return word_at(rows->head + RISSOBARM_HEAD_VARS);
 }
 
 static inline unsigned last_stepped(const struct rows *rows)
 {
-    return word_at(rows->head + HEAD_LAST);
+    return word_at(rows->head + RISSOBARM_HEAD_LAST);
 }
 
 static inline uint32_t step_count(const struct rows *rows)
 {
-    return word_at(rows->head + HEAD_STEPS) + 65536u * word_at(rows->head + HEAD_STEPS + 2);
+    return word_at(rows->head + RISSOBARM_HEAD_STEPS) + 65536u * word_at(rows->head + RISSOBARM_HEAD_STEPS + 2);
 }
 
 static inline const uint8_t *process_row(const struct rows *rows, unsigned process)
@@ -90,7 +69,7 @@ static inline const uint8_t *variable_row(const struct rows *rows, unsigned vari
 
 static inline uint32_t variable_number(const uint8_t *row)
 {
-    return word_at(row + AT_NUMBER) + 65536u * row[AT_NUMBER + 2];
+    return word_at(row + RISSOBARM_CELL_NUMBER) + 65536u * row[RISSOBARM_CELL_NUMBER + 2];
 }
 
 #endif

@@ -10,9 +10,13 @@
 
 static unsigned draw_mode(struct random *random)
 {
-    static const uint8_t modes[] = { DORMANT,   DORMANT, READY,   READY,     STARTING,  STARTING,  STARTING,
-                                     STARTING,  STARTING, WAITING, WAITING,   WAITING,   WAITING,   WAITING,
-                                     REPORTING, REPORTING, REPORTING, SUSPENDED, SUSPENDED };
+    static const uint8_t modes[] = {
+        RISSOBARM_MODE_DORMANT,   RISSOBARM_MODE_DORMANT,   RISSOBARM_MODE_READY,     RISSOBARM_MODE_READY,
+        RISSOBARM_MODE_STARTING,  RISSOBARM_MODE_STARTING,  RISSOBARM_MODE_STARTING,  RISSOBARM_MODE_STARTING,
+        RISSOBARM_MODE_STARTING,  RISSOBARM_MODE_WAITING,   RISSOBARM_MODE_WAITING,   RISSOBARM_MODE_WAITING,
+        RISSOBARM_MODE_WAITING,   RISSOBARM_MODE_WAITING,   RISSOBARM_MODE_REPORTING, RISSOBARM_MODE_REPORTING,
+        RISSOBARM_MODE_REPORTING, RISSOBARM_MODE_SUSPENDED, RISSOBARM_MODE_SUSPENDED,
+    };
 
     return modes[random_below(random, sizeof modes)];
 }
@@ -27,35 +31,36 @@ static void fill_free(struct random *random, uint8_t *row)
         return;
     for (k = 0; k < RISSOBARM_PROCESS_ROW; k++)
         row[k] = (uint8_t)random_bits(random);
-    row[AT_KIND] %= GOAL_KIND_COUNT;
+    row[RISSOBARM_ROW_KIND] %= RISSOBARM_GOAL_COUNT;
 }
 
 static void fill_notes(struct draw *draw, uint8_t *row)
 {
     unsigned k;
 
-    if (row[AT_MODE] != SUSPENDED)
+    if (row[RISSOBARM_ROW_MODE] != RISSOBARM_MODE_SUSPENDED)
         return;
-    row[AT_COUNT] = draw->variables == 0 ? 0 : (uint8_t)random_below(draw->random, NOTE_LIMIT + 1);
-    for (k = 0; k < row[AT_COUNT]; k++)
-        put_word_at(row + AT_NOTES + 2 * k, random_below(draw->random, draw->variables));
+    row[RISSOBARM_ROW_NOTE_COUNT] =
+        draw->variables == 0 ? 0 : (uint8_t)random_below(draw->random, RISSOBARM_NOTE_LIMIT + 1);
+    for (k = 0; k < row[RISSOBARM_ROW_NOTE_COUNT]; k++)
+        put_word_at(row + RISSOBARM_ROW_NOTES + 2 * k, random_below(draw->random, draw->variables));
 }
 
 /* ---- places */
 
 static void put_place(uint8_t *row, const struct place *place)
 {
-    row[AT_KIND] = place->kind;
-    row[AT_CLAUSE] = place->clause;
-    put_word_at(row + AT_FIRST, place->first);
-    row[AT_STAGE] = place->stage;
-    row[AT_LITERAL] = place->literal;
+    row[RISSOBARM_ROW_KIND] = place->kind;
+    row[RISSOBARM_ROW_CLAUSE] = place->clause;
+    put_word_at(row + RISSOBARM_ROW_BASE, place->first);
+    row[RISSOBARM_ROW_STAGE] = place->stage;
+    row[RISSOBARM_ROW_LITERAL] = place->literal;
 }
 
 static void put_found(uint8_t *row, const struct found *found)
 {
-    row[AT_FOUND] = found->clause;
-    put_word_at(row + AT_FOUND_FIRST, found->first);
+    row[RISSOBARM_ROW_FOUND] = found->clause;
+    put_word_at(row + RISSOBARM_ROW_FIRST, found->first);
 }
 
 static bool fill_search(struct draw *draw, uint8_t *row)
@@ -68,12 +73,12 @@ static bool fill_search(struct draw *draw, uint8_t *row)
         return false;
     put_place(row, &place);
     blocks = ref_block_count(draw->program, called_at(draw->program, &place));
-    if (row[AT_TAG] == OR_SEARCH || row[AT_MODE] == WAITING) {
+    if (row[RISSOBARM_ROW_TAG] == RISSOBARM_TAG_OR_SEARCH || row[RISSOBARM_ROW_MODE] == RISSOBARM_MODE_WAITING) {
         if (blocks == 0)
             return false;
-        row[AT_BLOCK] = (uint8_t)random_below(draw->random, blocks);
+        row[RISSOBARM_ROW_BLOCK] = (uint8_t)random_below(draw->random, blocks);
     }
-    if (row[AT_MODE] != REPORTING || row[AT_RESULT] != SUCCESS)
+    if (row[RISSOBARM_ROW_MODE] != RISSOBARM_MODE_REPORTING || row[RISSOBARM_ROW_RESULT] != RISSOBARM_RESULT_SUCCESS)
         return true;
     if (!draw_clause(draw, ANY_RELATION, &found))
         return false;
@@ -87,7 +92,7 @@ static bool fill_trial(struct draw *draw, uint8_t *row)
     struct found found;
     unsigned relation = ANY_RELATION;
 
-    if (row[AT_TAG] != GUARD_EVAL) {
+    if (row[RISSOBARM_ROW_TAG] != RISSOBARM_TAG_GUARD_EVAL) {
         if (!draw_literal(draw, false, &place))
             return false;
         put_place(row, &place);
@@ -102,16 +107,17 @@ static bool fill_trial(struct draw *draw, uint8_t *row)
 static bool fill_places(struct draw *draw, uint8_t *row)
 {
     struct place place;
-    unsigned tag = row[AT_TAG];
+    unsigned tag = row[RISSOBARM_ROW_TAG], behind;
 
-    if (tag == SEQ_SEARCH || tag == OR_SEARCH)
+    if (tag == RISSOBARM_TAG_SEQ_SEARCH || tag == RISSOBARM_TAG_OR_SEARCH)
         return fill_search(draw, row);
-    if (tag == TRY_CLAUSE || tag == INPUT_MATCH || tag == GUARD_EVAL)
+    if (tag == RISSOBARM_TAG_TRY_CLAUSE || tag == RISSOBARM_TAG_INPUT_MATCH || tag == RISSOBARM_TAG_GUARD_EVAL)
         return fill_trial(draw, row);
-    if (tag == AND_PAR || tag == AND_SEQ) {
-        if (!draw_stage(draw, tag == AND_SEQ && row[AT_MODE] != WAITING, &place))
+    if (tag == RISSOBARM_TAG_AND_PAR || tag == RISSOBARM_TAG_AND_SEQ) {
+        behind = tag == RISSOBARM_TAG_AND_SEQ && row[RISSOBARM_ROW_MODE] != RISSOBARM_MODE_WAITING;
+        if (!draw_stage(draw, behind, &place))
             return false;
-    } else if (!draw_literal(draw, tag == EQUATE, &place)) {
+    } else if (!draw_literal(draw, tag == RISSOBARM_TAG_EQUATE, &place)) {
         return false;
     }
     put_place(row, &place);
@@ -123,12 +129,12 @@ static bool fill_places(struct draw *draw, uint8_t *row)
 static bool fill_row(struct draw *draw, unsigned tag, unsigned parent, uint8_t *row)
 {
     fill_free(draw->random, row);
-    row[AT_TAG] = (uint8_t)tag;
-    row[AT_MODE] = (uint8_t)draw_mode(draw->random);
-    row[AT_RESULT] = (uint8_t)random_below(draw->random, RESULT_COUNT);
-    if (row[AT_MODE] == REPORTING && row[AT_RESULT] == NONE)
-        row[AT_RESULT] = SUCCESS;
-    put_word_at(row + AT_PARENT, parent);
+    row[RISSOBARM_ROW_TAG] = (uint8_t)tag;
+    row[RISSOBARM_ROW_MODE] = (uint8_t)draw_mode(draw->random);
+    row[RISSOBARM_ROW_RESULT] = (uint8_t)random_below(draw->random, RISSOBARM_RESULT_COUNT);
+    if (row[RISSOBARM_ROW_MODE] == RISSOBARM_MODE_REPORTING && row[RISSOBARM_ROW_RESULT] == RISSOBARM_RESULT_NONE)
+        row[RISSOBARM_ROW_RESULT] = RISSOBARM_RESULT_SUCCESS;
+    put_word_at(row + RISSOBARM_ROW_PARENT, parent);
     fill_notes(draw, row);
     return fill_places(draw, row);
 }
@@ -142,21 +148,21 @@ static void fill_root(struct draw *draw, uint8_t *row)
     while (!fill_row(draw, ref_goal_tag(&draw->program->goal), 0, row))
         continue;
     draw->goal_only = only;
-    if (row[AT_MODE] == DORMANT && row[AT_RESULT] == NONE)
-        row[AT_RESULT] = FAILURE;
+    if (row[RISSOBARM_ROW_MODE] == RISSOBARM_MODE_DORMANT && row[RISSOBARM_ROW_RESULT] == RISSOBARM_RESULT_NONE)
+        row[RISSOBARM_ROW_RESULT] = RISSOBARM_RESULT_FAILURE;
 }
 
 /* A tag that no row has yet, half of the time; else any. */
 static unsigned draw_tag(struct draw *draw, const struct rows *rows, unsigned processes)
 {
-    unsigned tag = random_below(draw->random, TAG_COUNT), present = 0, k;
+    unsigned tag = random_below(draw->random, RISSOBARM_TAG_COUNT), present = 0, k;
 
     if (random_once(draw->random, 2))
         return tag;
     for (k = 0; k < processes; k++)
-        present |= 1u << process_row(rows, k)[AT_TAG];
-    for (k = 0; k < TAG_COUNT && (present >> tag & 1) != 0; k++)
-        tag = (tag + 1) % TAG_COUNT;
+        present |= 1u << process_row(rows, k)[RISSOBARM_ROW_TAG];
+    for (k = 0; k < RISSOBARM_TAG_COUNT && (present >> tag & 1) != 0; k++)
+        tag = (tag + 1) % RISSOBARM_TAG_COUNT;
     return tag;
 }
 
@@ -168,7 +174,7 @@ static unsigned draw_parent(struct draw *draw, const struct rows *rows, unsigned
     for (k = 0; k < processes; k++) {
         unsigned parent = (from + k) % processes;
 
-        if (tag_makes(process_row(rows, parent)[AT_TAG], tag))
+        if (tag_makes(process_row(rows, parent)[RISSOBARM_ROW_TAG], tag))
             return parent;
     }
     return processes;
@@ -193,12 +199,14 @@ static void fill_variable(struct random *random, unsigned variable, uint8_t *row
     unsigned sort = random_below(random, 4);
 
     memset(row, 0, RISSOBARM_VARIABLE_ROW);
-    if (sort == CONSTANT) {
-        row[AT_SORT] = CONSTANT;
-        put_word_at(row + AT_NUMBER, random_once(random, 8) ? random_below(random, 32768) : random_below(random, 4));
-    } else if (sort == VARIABLE && variable > 0) {
-        row[AT_SORT] = VARIABLE;
-        put_word_at(row + AT_NUMBER, random_once(random, 2) ? variable - 1 : random_below(random, variable));
+    if (sort == RISSOBARM_SORT_CONSTANT) {
+        row[RISSOBARM_CELL_SORT] = RISSOBARM_SORT_CONSTANT;
+        put_word_at(row + RISSOBARM_CELL_NUMBER,
+                    random_below(random, random_once(random, 8) ? RISSOBARM_CONSTANT_LIMIT + 1 : 4));
+    } else if (sort == RISSOBARM_SORT_VARIABLE && variable > 0) {
+        row[RISSOBARM_CELL_SORT] = RISSOBARM_SORT_VARIABLE;
+        put_word_at(row + RISSOBARM_CELL_NUMBER,
+                    random_once(random, 2) ? variable - 1 : random_below(random, variable));
     }
 }
 
@@ -233,11 +241,11 @@ static void fill_head(struct random *random, struct rows *rows, unsigned process
 {
     uint32_t steps = random_once(random, 4) ? UINT32_MAX - random_below(random, 4) : random_below(random, 100000);
 
-    put_word_at(rows->head + HEAD_PROCESSES, processes);
-    put_word_at(rows->head + HEAD_VARIABLES, variables);
-    put_word_at(rows->head + HEAD_LAST, random_below(random, processes));
-    put_word_at(rows->head + HEAD_STEPS, steps % 65536);
-    put_word_at(rows->head + HEAD_STEPS + 2, steps / 65536);
+    put_word_at(rows->head + RISSOBARM_HEAD_PROCS, processes);
+    put_word_at(rows->head + RISSOBARM_HEAD_VARS, variables);
+    put_word_at(rows->head + RISSOBARM_HEAD_LAST, random_below(random, processes));
+    put_word_at(rows->head + RISSOBARM_HEAD_STEPS, steps % 65536);
+    put_word_at(rows->head + RISSOBARM_HEAD_STEPS + 2, steps / 65536);
 }
 
 /* Unused rows hold one byte throughout, 0 or another. */

@@ -1,8 +1,6 @@
 /* Images for a purpose: shapes, records, loops and notes. */
 #include "plans.h"
 
-enum { IS_EQUALITY = 255, A_VARIABLE = 32768 };
-
 static void begin(struct image *image)
 {
     image->length = 0;
@@ -18,7 +16,7 @@ static void put_shaped_clause(struct image *image, struct random *random, const 
 {
     unsigned arity = declared_arity(image, relation);
 
-    record_begin(image, 2);
+    record_begin(image, RISSOBARM_RECORD_CLAUSE);
     put_byte(image, relation);
     put_byte(image, arity);
     put_byte(image, mark);
@@ -50,13 +48,13 @@ void plan_of_shapes(struct image *image, struct random *random)
     }
     if (!random_once(random, 4)) {
         within.variables = 0;
-        record_begin(image, 2);
+        record_begin(image, RISSOBARM_RECORD_CLAUSE);
         put_number(image, 2);
         put_number(image, 0);
         put_number(image, 0);
         record_end(image);
     }
-    record_begin(image, 3);
+    record_begin(image, RISSOBARM_RECORD_GOAL);
     put_byte(image, goal.variables);
     put_shaped_goal(image, random, &goal, random_below(random, 256));
     record_end(image);
@@ -68,7 +66,7 @@ enum { RECORD, FETCH, NORMALISE, PLACE, BOTH };
 
 static void put_head(struct image *image, unsigned relation, unsigned arity, unsigned mark, unsigned variables)
 {
-    record_begin(image, 2);
+    record_begin(image, RISSOBARM_RECORD_CLAUSE);
     put_byte(image, relation);
     put_byte(image, arity);
     put_byte(image, mark);
@@ -98,12 +96,12 @@ static void put_fact(struct image *image, unsigned relation, unsigned mark, unsi
 static void put_guarded(struct image *image, unsigned relation, unsigned mark, unsigned in, unsigned out)
 {
     put_head(image, relation, 2, mark, 2);
-    put_number(image, A_VARIABLE);
-    put_number(image, A_VARIABLE + 1);
+    put_number(image, variable_term(0));
+    put_number(image, variable_term(1));
     put_number(image, 1 + 256);
-    put_call(image, IS_EQUALITY, A_VARIABLE, in);
+    put_call(image, RISSOBARM_EQUALITY, variable_term(0), in);
     put_number(image, 1 + 256);
-    put_call(image, IS_EQUALITY, A_VARIABLE + 1, out);
+    put_call(image, RISSOBARM_EQUALITY, variable_term(1), out);
     record_end(image);
 }
 
@@ -127,14 +125,14 @@ static void put_record_clause(struct image *image, struct random *random)
     unsigned way = random_below(random, 4), relation;
 
     put_head(image, RECORD, 2, 0, 4);
-    put_number(image, A_VARIABLE);
-    put_number(image, A_VARIABLE + 3);
+    put_number(image, variable_term(0));
+    put_number(image, variable_term(3));
     put_byte(image, 0);
     put_byte(image, way == 0 ? 3 : way == 1 ? 2 : 1);
     for (relation = FETCH; relation <= PLACE; relation++) {
         if (relation == FETCH || way == 0 || (way == 1 && relation == PLACE))
             put_byte(image, way == 0 ? 1 : way > 1 ? 3 : relation == FETCH ? 2 : 1);
-        put_call(image, relation, A_VARIABLE + relation - 1, A_VARIABLE + relation);
+        put_call(image, relation, variable_term(relation - 1), variable_term(relation));
     }
     record_end(image);
 }
@@ -143,8 +141,8 @@ static void put_record_clause(struct image *image, struct random *random)
 static void put_both_clause(struct image *image)
 {
     put_head(image, BOTH, 2, 0, 1);
-    put_number(image, A_VARIABLE);
-    put_number(image, A_VARIABLE);
+    put_number(image, variable_term(0));
+    put_number(image, variable_term(0));
     put_byte(image, 0);
     put_byte(image, 0);
     record_end(image);
@@ -155,13 +153,13 @@ static void put_record_goal(struct image *image, struct random *random, unsigned
 {
     unsigned compared = records > 1 && records < 8 && random_once(random, 2), k;
 
-    record_begin(image, 3);
+    record_begin(image, RISSOBARM_RECORD_GOAL);
     put_byte(image, 2 * records);
     put_number(image, 1 + 256 * (records + compared));
     for (k = 0; k < records; k++)
-        put_call(image, RECORD, A_VARIABLE + 2 * (random_once(random, 8) ? 0 : k), A_VARIABLE + 2 * k + 1);
+        put_call(image, RECORD, variable_term(2 * (random_once(random, 8) ? 0 : k)), variable_term(2 * k + 1));
     if (compared)
-        put_call(image, BOTH, A_VARIABLE + 1, A_VARIABLE + 3);
+        put_call(image, BOTH, variable_term(1), variable_term(3));
     record_end(image);
 }
 
@@ -196,13 +194,13 @@ void plan_of_loops(struct image *image, struct random *random)
         put_byte(image, 1);
         put_byte(image, 1 + beside);
         for (k = 0; k < beside && variables > 0; k++)
-            put_call(image, IS_EQUALITY, A_VARIABLE, A_VARIABLE + random_below(random, variables));
+            put_call(image, RISSOBARM_EQUALITY, variable_term(0), variable_term(random_below(random, variables)));
         for (; k < beside; k++)
-            put_call(image, IS_EQUALITY, 1, 1);
+            put_call(image, RISSOBARM_EQUALITY, 1, 1);
         put_number(image, 0);
         record_end(image);
     }
-    record_begin(image, 3);
+    record_begin(image, RISSOBARM_RECORD_GOAL);
     put_byte(image, 0);
     put_number(image, 1 + 256);
     put_number(image, 0);
@@ -217,7 +215,7 @@ static void put_terms(struct image *image, struct random *random, unsigned arity
 
     for (k = 0; k < arity; k++)
         if (random_below(random, 8) >= constants)
-            put_number(image, A_VARIABLE + (random_once(random, 8) ? random_below(random, variables) : k));
+            put_number(image, variable_term(random_once(random, 8) ? random_below(random, variables) : k));
         else
             put_number(image, random_below(random, 2));
 }
@@ -237,11 +235,12 @@ void plan_of_notes(struct image *image, struct random *random)
         put_byte(image, 0);
         record_end(image);
     }
-    record_begin(image, 3);
+    record_begin(image, RISSOBARM_RECORD_GOAL);
     put_byte(image, 4 + random_below(random, 2));
     put_number(image, 1 + 256 * (1 + equations));
     for (k = 0; k < equations; k++)
-        put_call(image, IS_EQUALITY, A_VARIABLE + random_below(random, 4), A_VARIABLE + random_below(random, 4));
+        put_call(image, RISSOBARM_EQUALITY, variable_term(random_below(random, 4)),
+                 variable_term(random_below(random, 4)));
     put_byte(image, 0);
     put_byte(image, arity);
     put_terms(image, random, arity, 4, random_below(random, 2));

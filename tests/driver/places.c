@@ -1,6 +1,8 @@
 /* Each draw tries a few times and answers whether it found something. */
 #include "places.h"
 
+#include "rissobarm.h"
+
 enum { TRIES = 24 };
 
 static uint16_t draw_first(struct draw *draw, unsigned size)
@@ -41,14 +43,14 @@ static bool draw_goal(struct draw *draw, struct place *place)
 {
     struct found found = { 0, 0 };
 
-    place->kind = THE_GOAL;
+    place->kind = RISSOBARM_GOAL_IMAGE;
     place->clause = 0;
     place->first = 0;
     if (draw->goal_only || random_once(draw->random, 4))
         return true;
     if (!draw_clause(draw, ANY_RELATION, &found))
         return false;
-    place->kind = random_once(draw->random, 2) ? GUARD : BODY;
+    place->kind = random_once(draw->random, 2) ? RISSOBARM_GOAL_GUARD : RISSOBARM_GOAL_BODY;
     place->clause = found.clause;
     place->first = found.first;
     return true;
@@ -85,7 +87,7 @@ bool draw_literal(struct draw *draw, bool equality, struct place *place)
             return false;
         count = ref_goal_at(draw->program, place)->stages[place->stage].count;
         place->literal = (uint8_t)random_below(draw->random, count);
-        if ((called_at(draw->program, place) == EQUALITY) == equality)
+        if ((called_at(draw->program, place) == RISSOBARM_EQUALITY) == equality)
             return true;
     }
     return false;

@@ -16,8 +16,6 @@ const struct style styles[STYLES] = {
     { "large", 32, 3, 6, 4, 5, 6, 3, 9, 2, 3, 6, 4, 4, 8, 1 },
 };
 
-enum { IS_EQUALITY = 255, A_VARIABLE = 32768, MOST_CLAUSES = 64 };
-
 static bool often(struct random *random, unsigned sixteenths)
 {
     return random_below(random, 16) < sixteenths;
@@ -38,16 +36,16 @@ void put_number(struct image *image, unsigned number)
 void put_styled_term(struct image *image, struct random *random, const struct style *style, unsigned variables)
 {
     if (variables > 0 && often(random, style->variable))
-        put_number(image, A_VARIABLE + random_below(random, variables));
+        put_number(image, variable_term(random_below(random, variables)));
     else
-        put_number(image, random_once(random, 64) ? 32767 : random_below(random, style->constants));
+        put_number(image, random_once(random, 64) ? RISSOBARM_CONSTANT_LIMIT : random_below(random, style->constants));
 }
 
 void put_modes(struct image *image, unsigned arity, unsigned outputs)
 {
     unsigned k;
 
-    record_begin(image, 1);
+    record_begin(image, RISSOBARM_RECORD_RELATION);
     put_byte(image, arity);
     for (k = 0; k < arity; k++)
         put_byte(image, outputs >> k & 1);
@@ -56,12 +54,12 @@ void put_modes(struct image *image, unsigned arity, unsigned outputs)
 
 unsigned declared_arity(const struct image *image, unsigned relation)
 {
-    return image->bytes[image->starts[relation] + 4];
+    return image->bytes[image->starts[relation] + RISSOBARM_RECORD_HEAD];
 }
 
 static void put_literal(struct image *image, struct random *random, const struct goal_style *goal)
 {
-    unsigned relation = IS_EQUALITY, arity = 2;
+    unsigned relation = RISSOBARM_EQUALITY, arity = 2;
 
     if (goal->from < goal->relations && !often(random, goal->style->equality)) {
         relation = goal->from + random_below(random, goal->relations - goal->from);
@@ -114,7 +112,7 @@ static void put_clause(struct image *image, struct random *random, const struct 
     struct goal_style goal = { up_to(random, style, style->variables), style->down ? relation + 1 : 0, relations, style };
     unsigned arity = declared_arity(image, relation), k;
 
-    record_begin(image, 2);
+    record_begin(image, RISSOBARM_RECORD_CLAUSE);
     put_byte(image, relation);
     put_byte(image, arity);
     put_byte(image, mark);
@@ -128,7 +126,7 @@ static void put_clause(struct image *image, struct random *random, const struct 
 
 void plan_in_style(struct image *image, struct random *random, const struct style *style)
 {
-    unsigned relations = 1 + up_to(random, style, style->relations - 1), left = MOST_CLAUSES, r, c, clauses;
+    unsigned relations = 1 + up_to(random, style, style->relations - 1), left = RISSOBARM_CLAUSE_LIMIT, r, c, clauses;
     struct goal_style goal = { 0, 0, relations, style };
 
     image->length = 0;
@@ -136,7 +134,7 @@ void plan_in_style(struct image *image, struct random *random, const struct styl
     for (r = 0; r < relations; r++) {
         unsigned outputs = 0, k;
 
-        for (k = 0; k < 4; k++)
+        for (k = 0; k < RISSOBARM_ARITY_LIMIT; k++)
             outputs += (unsigned)often(random, style->output) << k;
         put_modes(image, up_to(random, style, style->arity), outputs);
     }
@@ -148,7 +146,7 @@ void plan_in_style(struct image *image, struct random *random, const struct styl
             put_clause(image, random, style, r, relations, c > 0 && often(random, style->opens));
     }
     goal.variables = up_to(random, style, style->variables);
-    record_begin(image, 3);
+    record_begin(image, RISSOBARM_RECORD_GOAL);
     put_byte(image, goal.variables);
     put_shaped_goal(image, random, &goal, draw_shape(random, style, up_to(random, style, style->goal)));
     record_end(image);

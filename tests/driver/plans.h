@@ -3,6 +3,7 @@
 #define PLANS_H
 
 #include "images.h"
+#include "rissobarm.h"
 
 #include <stdbool.h>
 
@@ -64,6 +65,12 @@ unsigned draw_shape(struct random *random, const struct style *style, unsigned l
 
 /* A number of two bytes. */
 void put_number(struct image *image, unsigned number);
+
+/* A variable as a term. */
+static inline unsigned variable_term(unsigned variable)
+{
+    return RISSOBARM_TERM_VARIABLE + variable;
+}
 
 /* A term as the style has them. */
 void put_styled_term(struct image *image, struct random *random, const struct style *style, unsigned variables);

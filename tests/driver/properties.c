@@ -34,7 +34,7 @@ struct entry entry_of(struct bed *bed, const struct event *event)
         if (bed->broken.first < entry.first)
             entry.first = bed->broken.first;
     }
-    entry.refused = entry.broken > 0 ? REFUSED_STATE : 0;
+    entry.refused = entry.broken > 0 ? RISSOBARM_STATE : RISSOBARM_ACCEPTED;
     return entry;
 }
 
@@ -43,15 +43,15 @@ static unsigned numbers_refused(const struct bed *bed, const struct event *event
 {
     switch (event->kind) {
     case STEPS:
-        return event->a >= process_count(&bed->before) ? REFUSED_NODE : 0;
+        return event->a >= process_count(&bed->before) ? RISSOBARM_NODE : RISSOBARM_ACCEPTED;
     case SUPPLIES:
         if (event->a >= bed->program.goal_variables)
-            return REFUSED_NOVAR;
-        return event->b > RISSOBARM_CONSTANT_LIMIT ? REFUSED_CONST : 0;
+            return RISSOBARM_NOVAR;
+        return event->b > RISSOBARM_CONSTANT_LIMIT ? RISSOBARM_CONST : RISSOBARM_ACCEPTED;
     case VALUES:
-        return event->a >= bed->program.goal_variables ? REFUSED_NOVAR : 0;
+        return event->a >= bed->program.goal_variables ? RISSOBARM_NOVAR : RISSOBARM_ACCEPTED;
     default:
-        return 0;
+        return RISSOBARM_ACCEPTED;
     }
 }
 
@@ -61,11 +61,11 @@ static bool refusal_possible(unsigned kind, unsigned refusal)
     switch (kind) {
     case STEPS:
     case TURNS:
-        return refusal == 0 || refusal == REFUSED_STILL || refusal == REFUSED_ROOM;
+        return refusal == RISSOBARM_ACCEPTED || refusal == RISSOBARM_STILL || refusal == RISSOBARM_ROOM;
     case SUPPLIES:
-        return refusal == 0 || refusal == REFUSED_BOUND;
+        return refusal == RISSOBARM_ACCEPTED || refusal == RISSOBARM_BOUND;
     default:
-        return refusal == 0;
+        return refusal == RISSOBARM_ACCEPTED;
     }
 }
 
@@ -81,20 +81,28 @@ bool entry_right(struct bed *bed, const struct event *event, const struct entry 
                          rissobarm_refusal(entry->refused), table_rule_name(entry->first % TABLE_RULES),
                          table_rule_tag(entry->first % TABLE_RULES));
     if (!entry->tested)
-        return refusal == 0 || bed_fault(bed, "a watch was refused");
+        return refusal == RISSOBARM_ACCEPTED || bed_fault(bed, "a watch was refused");
     numbers = numbers_refused(bed, event);
-    if (numbers != 0)
+    if (numbers != RISSOBARM_ACCEPTED)
         return bed->answer == numbers || bed_fault(bed, "refusal %u where the numbers come to %u", refusal, numbers);
     if (!refusal_possible(event->kind, refusal))
         return bed_fault(bed, "refusal %u of a call that is let in", refusal);
-    return refusal == 0 || bed->answer == refusal || bed_fault(bed, "more than a number in a refusal");
+    return refusal == RISSOBARM_ACCEPTED || bed->answer == refusal || bed_fault(bed, "more than a number in a refusal");
 }
 
 /* ---- a run is its turns */
 
 static bool ended(const struct rows *rows)
 {
-    return rows->procs[AT_MODE] == DORMANT;
+    return rows->procs[RISSOBARM_ROW_MODE] == RISSOBARM_MODE_DORMANT;
+}
+
+/* The end that the result of an ended goal means. */
+static unsigned end_of(const struct rows *rows)
+{
+    bool success = rows->procs[RISSOBARM_ROW_RESULT] == RISSOBARM_RESULT_SUCCESS;
+
+    return success ? RISSOBARM_END_SUCCESS : RISSOBARM_END_FAILURE;
 }
 
 /* Why the run stops where it does. */
@@ -103,15 +111,15 @@ static bool stops_right(const struct bed *bed, struct rows *rows, unsigned end, 
     unsigned refusal;
 
     if (ended(rows))
-        return end == rows->procs[AT_RESULT];
+        return end == end_of(rows);
     refusal = rissobarm_refusal(call_turn(bed, rows));
     switch (end) {
     case RISSOBARM_END_WAITING:
-        return refusal == REFUSED_STILL;
+        return refusal == RISSOBARM_STILL;
     case RISSOBARM_END_ROOM:
-        return refusal == REFUSED_ROOM && !used_up;
+        return refusal == RISSOBARM_ROOM && !used_up;
     case RISSOBARM_END_BUDGET:
-        return used_up && refusal != REFUSED_STILL;
+        return used_up && refusal != RISSOBARM_STILL;
     default:
         return false;
     }
@@ -124,7 +132,7 @@ static bool run_is_turns(struct bed *bed, const struct event *event)
 
     rows = bed->before;
     for (k = 0; k < steps; k++)
-        if (ended(&rows) || rissobarm_refusal(call_turn(bed, &rows)) != 0)
+        if (ended(&rows) || rissobarm_refusal(call_turn(bed, &rows)) != RISSOBARM_ACCEPTED)
             return bed_fault(bed, "turn %u of the run's %u cannot be made", k, steps);
     for (k = 0; k < LENT_ROWS; k++)
         if (memcmp(row_bytes(&rows, k), row_bytes(&bed->ours, k), row_sizes[k]) != 0)
@@ -148,13 +156,13 @@ static bool changes_tables(const struct event *event)
 static bool says_still(const struct bed *bed, const struct event *event)
 {
     if (event->kind == TURNS)
-        return rissobarm_refusal(bed->answer) == REFUSED_STILL;
+        return rissobarm_refusal(bed->answer) == RISSOBARM_STILL;
     return event->kind == RUNS && bed->answer % 65536 == RISSOBARM_END_WAITING << 8;
 }
 
 bool properties_hold(struct bed *bed, const struct event *event)
 {
-    bool accepted = rissobarm_refusal(bed->answer) == 0;
+    bool accepted = rissobarm_refusal(bed->answer) == RISSOBARM_ACCEPTED;
 
     if (says_still(bed, event) && bed->straight && !stuck_holds(bed))
         return false;

@@ -13,25 +13,36 @@ struct named_field {
 };
 
 static const struct named_field head_fields[] = {
-    { "process count", HEAD_PROCESSES, 2 },
-    { "variable count", HEAD_VARIABLES, 2 },
-    { "last stepped", HEAD_LAST, 2 },
-    { "steps", HEAD_STEPS, 4 },
+    { "process count", RISSOBARM_HEAD_PROCS, 2 },
+    { "variable count", RISSOBARM_HEAD_VARS, 2 },
+    { "last stepped", RISSOBARM_HEAD_LAST, 2 },
+    { "steps", RISSOBARM_HEAD_STEPS, 4 },
 };
 
 static const struct named_field process_fields[] = {
-    { "tag", AT_TAG, 1 },         { "mode", AT_MODE, 1 },
-    { "result", AT_RESULT, 1 },   { "note count", AT_COUNT, 1 },
-    { "parent", AT_PARENT, 2 },   { "goal kind", AT_KIND, 1 },
-    { "clause", AT_CLAUSE, 1 },   { "first variable", AT_FIRST, 2 },
-    { "stage", AT_STAGE, 1 },     { "literal", AT_LITERAL, 1 },
-    { "block", AT_BLOCK, 1 },     { "found clause", AT_FOUND, 1 },
-    { "found first variable", AT_FOUND_FIRST, 2 },
-    { "note 0", AT_NOTES, 2 },    { "note 1", AT_NOTES + 2, 2 },
-    { "note 2", AT_NOTES + 4, 2 }, { "note 3", AT_NOTES + 6, 2 },
+    { "tag", RISSOBARM_ROW_TAG, 1 },
+    { "mode", RISSOBARM_ROW_MODE, 1 },
+    { "result", RISSOBARM_ROW_RESULT, 1 },
+    { "note count", RISSOBARM_ROW_NOTE_COUNT, 1 },
+    { "parent", RISSOBARM_ROW_PARENT, 2 },
+    { "goal kind", RISSOBARM_ROW_KIND, 1 },
+    { "clause", RISSOBARM_ROW_CLAUSE, 1 },
+    { "first variable", RISSOBARM_ROW_BASE, 2 },
+    { "stage", RISSOBARM_ROW_STAGE, 1 },
+    { "literal", RISSOBARM_ROW_LITERAL, 1 },
+    { "block", RISSOBARM_ROW_BLOCK, 1 },
+    { "found clause", RISSOBARM_ROW_FOUND, 1 },
+    { "found first variable", RISSOBARM_ROW_FIRST, 2 },
+    { "note 0", RISSOBARM_ROW_NOTES, 2 },
+    { "note 1", RISSOBARM_ROW_NOTES + 2, 2 },
+    { "note 2", RISSOBARM_ROW_NOTES + 4, 2 },
+    { "note 3", RISSOBARM_ROW_NOTES + 6, 2 },
 };
 
-static const struct named_field variable_fields[] = { { "sort", AT_SORT, 1 }, { "number", AT_NUMBER, 3 } };
+static const struct named_field variable_fields[] = {
+    { "sort", RISSOBARM_CELL_SORT, 1 },
+    { "number", RISSOBARM_CELL_NUMBER, 3 },
+};
 
 #define COUNT(array) (sizeof(array) / sizeof(array)[0])
 

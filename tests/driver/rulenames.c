@@ -43,17 +43,22 @@ static const char *const places[ASPECTS] = {
     "its clause is of the called relation",
 };
 
-static const char *const tags[TAG_COUNT] = { "and-par",    "and-seq",     "or-par",     "seq-search", "or-search",
-                                             "try-clause", "input-match", "guard-eval", "equate" };
+static const char *const tags[RISSOBARM_TAG_COUNT] = {
+    [RISSOBARM_TAG_AND_PAR] = "and-par",       [RISSOBARM_TAG_AND_SEQ] = "and-seq",
+    [RISSOBARM_TAG_OR_PAR] = "or-par",         [RISSOBARM_TAG_SEQ_SEARCH] = "seq-search",
+    [RISSOBARM_TAG_OR_SEARCH] = "or-search",   [RISSOBARM_TAG_TRY_CLAUSE] = "try-clause",
+    [RISSOBARM_TAG_INPUT_MATCH] = "input-match", [RISSOBARM_TAG_GUARD_EVAL] = "guard-eval",
+    [RISSOBARM_TAG_EQUATE] = "equate",
+};
 
 enum {
-    P = 1 << AND_PAR,
-    S = 1 << AND_SEQ,
-    CALLERS = 1 << OR_PAR | 1 << SEQ_SEARCH | 1 << OR_SEARCH | 1 << TRY_CLAUSE | 1 << INPUT_MATCH,
-    E = 1 << EQUATE,
-    IN_GOALS = P | S | CALLERS | E,
-    SEARCHES = 1 << SEQ_SEARCH | 1 << OR_SEARCH,
-    TRIALS = 1 << TRY_CLAUSE | 1 << INPUT_MATCH
+    P = 1 << RISSOBARM_TAG_AND_PAR,
+    S = 1 << RISSOBARM_TAG_AND_SEQ,
+    SEARCHES = 1 << RISSOBARM_TAG_SEQ_SEARCH | 1 << RISSOBARM_TAG_OR_SEARCH,
+    TRIALS = 1 << RISSOBARM_TAG_TRY_CLAUSE | 1 << RISSOBARM_TAG_INPUT_MATCH,
+    CALLERS = 1 << RISSOBARM_TAG_OR_PAR | SEARCHES | TRIALS,
+    E = 1 << RISSOBARM_TAG_EQUATE,
+    IN_GOALS = P | S | CALLERS | E
 };
 
 /* The tags that have an aspect, a bit for each. */
@@ -65,8 +70,8 @@ static const uint16_t having[ASPECTS] = {
     [ITS_LITERAL] = CALLERS | E,
     [LITERAL_KIND] = CALLERS | E,
     [ITS_BLOCK] = SEARCHES,
-    [ITS_CLAUSE] = SEARCHES | TRIALS | 1 << GUARD_EVAL,
-    [CLAUSE_BLOCK] = SEARCHES | TRIALS | 1 << GUARD_EVAL,
+    [ITS_CLAUSE] = SEARCHES | TRIALS | 1 << RISSOBARM_TAG_GUARD_EVAL,
+    [CLAUSE_BLOCK] = SEARCHES | TRIALS | 1 << RISSOBARM_TAG_GUARD_EVAL,
     [CLAUSE_RELATION] = TRIALS,
 };
 
@@ -74,20 +79,20 @@ bool table_rule_exists(unsigned rule)
 {
     unsigned place = rule - PLAIN_RULES;
 
-    return rule < PLAIN_RULES || having[place / TAG_COUNT] >> place % TAG_COUNT & 1;
+    return rule < PLAIN_RULES || having[place / RISSOBARM_TAG_COUNT] >> place % RISSOBARM_TAG_COUNT & 1;
 }
 
 unsigned place_rule(unsigned aspect, unsigned tag)
 {
-    return PLAIN_RULES + aspect * TAG_COUNT + tag;
+    return PLAIN_RULES + aspect * RISSOBARM_TAG_COUNT + tag;
 }
 
 const char *table_rule_name(unsigned rule)
 {
-    return rule < PLAIN_RULES ? plain[rule] : places[(rule - PLAIN_RULES) / TAG_COUNT];
+    return rule < PLAIN_RULES ? plain[rule] : places[(rule - PLAIN_RULES) / RISSOBARM_TAG_COUNT];
 }
 
 const char *table_rule_tag(unsigned rule)
 {
-    return rule < PLAIN_RULES ? "" : tags[(rule - PLAIN_RULES) % TAG_COUNT];
+    return rule < PLAIN_RULES ? "" : tags[(rule - PLAIN_RULES) % RISSOBARM_TAG_COUNT];
 }

@@ -3,14 +3,20 @@
 
 #include "counts.h"
 
+/* The most that one move makes: children for a committed body's literals, variables for the clauses of a block. */
+enum {
+    MOST_CHILDREN = RISSOBARM_LITERAL_LIMIT + RISSOBARM_ARITY_LIMIT,
+    MOST_VARIABLES = RISSOBARM_BLOCK_LIMIT * (RISSOBARM_OWN_LIMIT + RISSOBARM_ARITY_LIMIT)
+};
+
 /* How many guard-evals stand above a process. */
 static unsigned guards_above(const struct rows *rows, unsigned process)
 {
     unsigned guards = 0;
 
     while (process != 0) {
-        process = word_at(process_row(rows, process) + AT_PARENT);
-        guards += process_row(rows, process)[AT_TAG] == GUARD_EVAL;
+        process = word_at(process_row(rows, process) + RISSOBARM_ROW_PARENT);
+        guards += process_row(rows, process)[RISSOBARM_ROW_TAG] == RISSOBARM_TAG_GUARD_EVAL;
     }
     return guards;
 }
@@ -20,38 +26,43 @@ static void seen_binding(const struct bed *bed, unsigned process)
     uint32_t touched = rissobarm_touched(bed->answer);
 
     if (rissobarm_touched_sort(bed->answer) == RISSOBARM_TOUCHED_VARIABLE)
-        counts.features[VARIABLES_JOINED] += variable_row(&bed->ours, touched)[AT_SORT] == VARIABLE;
+        counts.features[VARIABLES_JOINED] +=
+            variable_row(&bed->ours, touched)[RISSOBARM_CELL_SORT] == RISSOBARM_SORT_VARIABLE;
     counts.features[NESTED_GUARDS] += guards_above(&bed->ours, process) >= 3;
 }
 
 static void seen_move(const struct bed *bed)
 {
     unsigned rule = rissobarm_rule(bed->answer), process = last_stepped(&bed->ours);
-    unsigned made = process_count(&bed->ours) - process_count(&bed->before);
+    unsigned processes = process_count(&bed->ours), made = processes - process_count(&bed->before);
+    bool searches = rule == RISSOBARM_RULE_OR_SEARCH_START;
+    const uint8_t *row = process_row(&bed->ours, process);
 
     counts.steps++;
     counts.rules[rule]++;
-    counts.features[TWELVE_CHILDREN] += made == COMMITTED_LIMIT;
-    counts.features[EIGHT_CLAUSES] += rule == OR_SEARCH_START && made == BLOCK_LIMIT;
-    counts.features[FOUR_NOTES] += rule == INPUT_MATCH_SUSPEND && process_row(&bed->ours, process)[AT_COUNT] == 4;
-    counts.features[ALL_PROCESSES] += made > 0 && process_count(&bed->ours) == PROCESS_LIMIT;
-    counts.features[ALL_VARIABLES] += rule == OR_SEARCH_START && variable_count(&bed->ours) == VARIABLE_LIMIT;
+    counts.features[TWELVE_CHILDREN] += made == MOST_CHILDREN;
+    counts.features[EIGHT_CLAUSES] += searches && made == RISSOBARM_BLOCK_LIMIT;
+    counts.features[FOUR_NOTES] +=
+        rule == RISSOBARM_RULE_INPUT_MATCH_SUSPEND && row[RISSOBARM_ROW_NOTE_COUNT] == RISSOBARM_NOTE_LIMIT;
+    counts.features[ALL_PROCESSES] += made > 0 && processes == RISSOBARM_PROCESS_LIMIT;
+    counts.features[ALL_VARIABLES] += searches && variable_count(&bed->ours) == RISSOBARM_VARIABLE_LIMIT;
     counts.features[COUNT_AT_TOP] += step_count(&bed->before) == UINT32_MAX;
-    counts.features[EQUATE_WOKEN] += rule == RULE_WAKE && process_row(&bed->ours, process)[AT_TAG] == EQUATE;
-    if (rule == EQUATE_SUCCESS || rule == EQUATE_SUSPEND || rule == INPUT_MATCH_SUCCESS)
+    counts.features[EQUATE_WOKEN] += rule == RISSOBARM_RULE_WAKE && row[RISSOBARM_ROW_TAG] == RISSOBARM_TAG_EQUATE;
+    if (rule == RISSOBARM_RULE_EQUATE_SUCCESS || rule == RISSOBARM_RULE_EQUATE_SUSPEND ||
+        rule == RISSOBARM_RULE_INPUT_MATCH_SUCCESS)
         seen_binding(bed, process);
 }
 
 /* A step that lacks room lacks variables where no block could lack processes, and the other way round. */
 static void seen_room(const struct bed *bed, const struct event *event)
 {
-    unsigned processes = PROCESS_LIMIT - process_count(&bed->ours);
-    unsigned variables = VARIABLE_LIMIT - variable_count(&bed->ours);
+    unsigned processes = RISSOBARM_PROCESS_LIMIT - process_count(&bed->ours);
+    unsigned variables = RISSOBARM_VARIABLE_LIMIT - variable_count(&bed->ours);
 
     if (event->kind != STEPS)
         return;
-    counts.features[NO_VARIABLE_LEFT] += processes >= COMMITTED_LIMIT;
-    counts.features[NO_PROCESS_LEFT] += variables >= BLOCK_LIMIT * (OWN_LIMIT + ARITY_LIMIT);
+    counts.features[NO_VARIABLE_LEFT] += processes >= MOST_CHILDREN;
+    counts.features[NO_PROCESS_LEFT] += variables >= MOST_VARIABLES;
 }
 
 /* Whether the variable that a supply bound is one that somebody has noted. */
@@ -62,10 +73,11 @@ static bool wakes_somebody(const struct bed *bed)
     for (p = 0; p < count; p++) {
         const uint8_t *row = process_row(&bed->ours, p);
 
-        for (k = 0; row[AT_MODE] == SUSPENDED && k < row[AT_COUNT]; k++) {
-            unsigned variable = word_at(row + AT_NOTES + 2 * k);
+        for (k = 0; row[RISSOBARM_ROW_MODE] == RISSOBARM_MODE_SUSPENDED && k < row[RISSOBARM_ROW_NOTE_COUNT]; k++) {
+            unsigned variable = word_at(row + RISSOBARM_ROW_NOTES + 2 * k);
+            unsigned before = variable_row(&bed->before, variable)[RISSOBARM_CELL_SORT];
 
-            if (variable_row(&bed->ours, variable)[AT_SORT] != variable_row(&bed->before, variable)[AT_SORT])
+            if (variable_row(&bed->ours, variable)[RISSOBARM_CELL_SORT] != before)
                 return true;
         }
     }
@@ -77,9 +89,9 @@ static void seen_refusal(const struct bed *bed, const struct event *event, const
     unsigned refusal = rissobarm_refusal(bed->answer);
 
     counts.refusals[refusal]++;
-    if (refusal == REFUSED_ROOM)
+    if (refusal == RISSOBARM_ROOM)
         seen_room(bed, event);
-    if (refusal == REFUSED_STATE && entry->broken == 1)
+    if (refusal == RISSOBARM_STATE && entry->broken == 1)
         counts.broken[entry->first]++;
 }
 
@@ -95,7 +107,7 @@ static void seen_accepted(const struct bed *bed, const struct event *event)
         counts.run_steps += rissobarm_steps(bed->answer);
         break;
     case SUPPLIES:
-        counts.features[SUPPLY_AT_END] += bed->ours.procs[AT_MODE] == DORMANT;
+        counts.features[SUPPLY_AT_END] += bed->ours.procs[RISSOBARM_ROW_MODE] == RISSOBARM_MODE_DORMANT;
         counts.features[WOKEN_BY_SUPPLY] += wakes_somebody(bed);
         break;
     default:
@@ -106,8 +118,8 @@ static void seen_accepted(const struct bed *bed, const struct event *event)
 void seen(const struct bed *bed, const struct event *event, const struct entry *entry)
 {
     counts.calls[event->kind]++;
-    counts.features[LONGEST_IMAGE] += event->kind == LOADS && bed->source->length == IMAGE_LIMIT;
-    if (rissobarm_refusal(bed->answer) != 0) {
+    counts.features[LONGEST_IMAGE] += event->kind == LOADS && bed->source->length == RISSOBARM_IMAGE_LIMIT;
+    if (rissobarm_refusal(bed->answer) != RISSOBARM_ACCEPTED) {
         seen_refusal(bed, event, entry);
         return;
     }

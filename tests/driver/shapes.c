@@ -27,22 +27,24 @@ static unsigned goal_shape(const struct goal *goal, unsigned equations)
 static void seen_goal(const struct bed *bed, const uint8_t *row)
 {
     const struct program *program = &bed->program;
-    const struct clause *clause = &program->clauses[row[AT_CLAUSE]];
+    const struct clause *clause = &program->clauses[row[RISSOBARM_ROW_CLAUSE]];
     unsigned shape;
 
-    if (row[AT_KIND] == THE_GOAL)
+    if (row[RISSOBARM_ROW_KIND] == RISSOBARM_GOAL_IMAGE)
         shape = goal_shape(&program->goal, 0);
-    else if (row[AT_KIND] == GUARD)
+    else if (row[RISSOBARM_ROW_KIND] == RISSOBARM_GOAL_GUARD)
         shape = goal_shape(&clause->guard, 0);
     else
         shape = goal_shape(&clause->body, clause->size - clause->own);
-    counts.goals[row[AT_KIND]][shape]++;
+    counts.goals[row[RISSOBARM_ROW_KIND]][shape]++;
 }
 
 static void seen_relation(const struct bed *bed, const uint8_t *row)
 {
     const struct program *program = &bed->program;
-    struct place place = { row[AT_KIND], row[AT_CLAUSE], (uint16_t)word_at(row + AT_FIRST), row[AT_STAGE], row[AT_LITERAL] };
+    struct place place = { row[RISSOBARM_ROW_KIND], row[RISSOBARM_ROW_CLAUSE],
+                           (uint16_t)word_at(row + RISSOBARM_ROW_BASE), row[RISSOBARM_ROW_STAGE],
+                           row[RISSOBARM_ROW_LITERAL] };
     unsigned relation = ref_literal_at(program, &place)->relation, shape = 0, clauses = 0, c;
 
     for (c = 0; c < program->clause_count; c++)
@@ -59,9 +61,9 @@ void seen_shapes(const struct bed *bed)
     for (p = 0; p < count; p++) {
         const uint8_t *row = process_row(&bed->ours, p);
 
-        if (row[AT_TAG] == SEQ_SEARCH)
+        if (row[RISSOBARM_ROW_TAG] == RISSOBARM_TAG_SEQ_SEARCH)
             seen_relation(bed, row);
-        else if (row[AT_TAG] <= OR_PAR || row[AT_TAG] == EQUATE)
+        else if (row[RISSOBARM_ROW_TAG] <= RISSOBARM_TAG_OR_PAR || row[RISSOBARM_ROW_TAG] == RISSOBARM_TAG_EQUATE)
             seen_goal(bed, row);
     }
 }

@@ -61,10 +61,10 @@ static size_t record_size(const struct image *image, size_t at)
 {
     size_t left = image->length - at, size;
 
-    if (left < 4)
+    if (left < RISSOBARM_RECORD_HEAD)
         return left;
     size = image->bytes[at] + 256u * image->bytes[at + 1];
-    return size < 4 || size > left ? left : size;
+    return size < RISSOBARM_RECORD_HEAD || size > left ? left : size;
 }
 
 static bool drop_record(struct bed *bed, struct story *story, size_t at, size_t size)

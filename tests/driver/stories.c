@@ -72,10 +72,10 @@ bool story_of_a_run(struct journey *journey)
     if (!go(journey, STARTS, 0, 0))
         return false;
     /* the step count can be near its top from the start */
-    if (random_once(journey->random, 40) && !(go_row(journey, POKES, THE_HEAD, HEAD_STEPS, 253) &&
-                                              go_row(journey, POKES, THE_HEAD, HEAD_STEPS + 1, 255) &&
-                                              go_row(journey, POKES, THE_HEAD, HEAD_STEPS + 2, 255) &&
-                                              go_row(journey, POKES, THE_HEAD, HEAD_STEPS + 3, 255)))
+    if (random_once(journey->random, 40) && !(go_row(journey, POKES, THE_HEAD, RISSOBARM_HEAD_STEPS, 253) &&
+                                              go_row(journey, POKES, THE_HEAD, RISSOBARM_HEAD_STEPS + 1, 255) &&
+                                              go_row(journey, POKES, THE_HEAD, RISSOBARM_HEAD_STEPS + 2, 255) &&
+                                              go_row(journey, POKES, THE_HEAD, RISSOBARM_HEAD_STEPS + 3, 255)))
         return false;
     if (!drive(journey, temper, draw_events(journey->random)))
         return false;

@@ -33,15 +33,22 @@ static bool asks(const struct look *look, unsigned rule, bool condition)
 
 bool tag_makes(unsigned parent, unsigned child)
 {
-    enum { LITERALS = 1 << OR_PAR | 1 << EQUATE, STAGES = LITERALS | 1 << AND_PAR, GOALS = STAGES | 1 << AND_SEQ };
-    static const uint16_t made[TAG_COUNT] = {
-        [AND_PAR] = LITERALS,           [AND_SEQ] = STAGES,
-        [OR_PAR] = GOALS | 1 << SEQ_SEARCH, [SEQ_SEARCH] = 1 << OR_SEARCH,
-        [OR_SEARCH] = 1 << TRY_CLAUSE,  [TRY_CLAUSE] = 1 << INPUT_MATCH | 1 << GUARD_EVAL,
-        [GUARD_EVAL] = GOALS,
+    enum {
+        LITERALS = 1 << RISSOBARM_TAG_OR_PAR | 1 << RISSOBARM_TAG_EQUATE,
+        STAGES = LITERALS | 1 << RISSOBARM_TAG_AND_PAR,
+        GOALS = STAGES | 1 << RISSOBARM_TAG_AND_SEQ
+    };
+    static const uint16_t made[RISSOBARM_TAG_COUNT] = {
+        [RISSOBARM_TAG_AND_PAR] = LITERALS,
+        [RISSOBARM_TAG_AND_SEQ] = STAGES,
+        [RISSOBARM_TAG_OR_PAR] = GOALS | 1 << RISSOBARM_TAG_SEQ_SEARCH,
+        [RISSOBARM_TAG_SEQ_SEARCH] = 1 << RISSOBARM_TAG_OR_SEARCH,
+        [RISSOBARM_TAG_OR_SEARCH] = 1 << RISSOBARM_TAG_TRY_CLAUSE,
+        [RISSOBARM_TAG_TRY_CLAUSE] = 1 << RISSOBARM_TAG_INPUT_MATCH | 1 << RISSOBARM_TAG_GUARD_EVAL,
+        [RISSOBARM_TAG_GUARD_EVAL] = GOALS,
     };
 
-    return parent < TAG_COUNT && child < TAG_COUNT && (made[parent] >> child & 1) != 0;
+    return parent < RISSOBARM_TAG_COUNT && child < RISSOBARM_TAG_COUNT && (made[parent] >> child & 1) != 0;
 }
 
 /* ---- variables */
@@ -51,11 +58,11 @@ static void look_at_variable(const struct look *look, unsigned variable)
     const uint8_t *row = variable_row(look->rows, variable);
     uint32_t number = variable_number(row);
 
-    if (row[AT_SORT] == UNBOUND)
+    if (row[RISSOBARM_CELL_SORT] == RISSOBARM_SORT_UNBOUND)
         asks(look, UNBOUND_NUMBER, number == 0);
-    else if (row[AT_SORT] == CONSTANT)
+    else if (row[RISSOBARM_CELL_SORT] == RISSOBARM_SORT_CONSTANT)
         asks(look, CONSTANT_FITS, number <= RISSOBARM_CONSTANT_LIMIT);
-    else if (row[AT_SORT] == VARIABLE)
+    else if (row[RISSOBARM_CELL_SORT] == RISSOBARM_SORT_VARIABLE)
         asks(look, LOWER_VARIABLE, number < variable);
     else
         breaks(look, KNOWN_SORT);
@@ -75,13 +82,14 @@ static bool look_at_clause(const struct look *look, unsigned there, unsigned blo
 static const struct goal *look_at_goal(const struct look *look, const uint8_t *row)
 {
     const struct program *program = look->program;
-    unsigned tag = row[AT_TAG], clause = row[AT_CLAUSE], first = word_at(row + AT_FIRST);
+    unsigned tag = row[RISSOBARM_ROW_TAG], kind = row[RISSOBARM_ROW_KIND];
+    unsigned clause = row[RISSOBARM_ROW_CLAUSE], first = word_at(row + RISSOBARM_ROW_BASE);
 
-    if (row[AT_KIND] == THE_GOAL)
+    if (kind == RISSOBARM_GOAL_IMAGE)
         return asks(look, place_rule(GOAL_FIRST, tag), first == 0) ? &program->goal : NULL;
     if (!look_at_clause(look, place_rule(GOAL_CLAUSE, tag), place_rule(GOAL_BLOCK, tag), clause, first))
         return NULL;
-    return row[AT_KIND] == GUARD ? &program->clauses[clause].guard : &program->clauses[clause].body;
+    return kind == RISSOBARM_GOAL_GUARD ? &program->clauses[clause].guard : &program->clauses[clause].body;
 }
 
 /* The literal that a row names, of the kind that its tag needs; else NULL. */
@@ -89,14 +97,15 @@ static const struct literal *look_at_literal(const struct look *look, const uint
 {
     const struct goal *goal = look_at_goal(look, row);
     const struct literal *literal;
-    unsigned tag = row[AT_TAG], stage = row[AT_STAGE];
+    unsigned tag = row[RISSOBARM_ROW_TAG], stage = row[RISSOBARM_ROW_STAGE];
+    bool equates = tag == RISSOBARM_TAG_EQUATE;
 
     if (goal == NULL || !asks(look, place_rule(ITS_STAGE, tag), stage < goal->stage_count))
         return NULL;
-    if (!asks(look, place_rule(ITS_LITERAL, tag), row[AT_LITERAL] < goal->stages[stage].count))
+    if (!asks(look, place_rule(ITS_LITERAL, tag), row[RISSOBARM_ROW_LITERAL] < goal->stages[stage].count))
         return NULL;
-    literal = &goal->literals[goal->stages[stage].first + row[AT_LITERAL]];
-    if (!asks(look, place_rule(LITERAL_KIND, tag), (literal->relation == EQUALITY) == (tag == EQUATE)))
+    literal = &goal->literals[goal->stages[stage].first + row[RISSOBARM_ROW_LITERAL]];
+    if (!asks(look, place_rule(LITERAL_KIND, tag), (literal->relation == RISSOBARM_EQUALITY) == equates))
         return NULL;
     return literal;
 }
@@ -115,22 +124,22 @@ static unsigned blocks_of(const struct program *program, unsigned relation)
 static void look_at_search(const struct look *look, const uint8_t *row)
 {
     const struct literal *call = look_at_literal(look, row);
-    unsigned tag = row[AT_TAG];
+    unsigned tag = row[RISSOBARM_ROW_TAG];
 
-    if (call != NULL && (tag == OR_SEARCH || row[AT_MODE] == WAITING))
-        asks(look, place_rule(ITS_BLOCK, tag), row[AT_BLOCK] < blocks_of(look->program, call->relation));
-    if (row[AT_MODE] == REPORTING && row[AT_RESULT] == SUCCESS)
-        look_at_clause(look, place_rule(ITS_CLAUSE, tag), place_rule(CLAUSE_BLOCK, tag), row[AT_FOUND],
-                       word_at(row + AT_FOUND_FIRST));
+    if (call != NULL && (tag == RISSOBARM_TAG_OR_SEARCH || row[RISSOBARM_ROW_MODE] == RISSOBARM_MODE_WAITING))
+        asks(look, place_rule(ITS_BLOCK, tag), row[RISSOBARM_ROW_BLOCK] < blocks_of(look->program, call->relation));
+    if (row[RISSOBARM_ROW_MODE] == RISSOBARM_MODE_REPORTING && row[RISSOBARM_ROW_RESULT] == RISSOBARM_RESULT_SUCCESS)
+        look_at_clause(look, place_rule(ITS_CLAUSE, tag), place_rule(CLAUSE_BLOCK, tag), row[RISSOBARM_ROW_FOUND],
+                       word_at(row + RISSOBARM_ROW_FIRST));
 }
 
 static void look_at_trial(const struct look *look, const uint8_t *row)
 {
-    const struct literal *call = row[AT_TAG] == GUARD_EVAL ? NULL : look_at_literal(look, row);
-    unsigned tag = row[AT_TAG], clause = row[AT_FOUND];
+    const struct literal *call = row[RISSOBARM_ROW_TAG] == RISSOBARM_TAG_GUARD_EVAL ? NULL : look_at_literal(look, row);
+    unsigned tag = row[RISSOBARM_ROW_TAG], clause = row[RISSOBARM_ROW_FOUND];
 
     if (!look_at_clause(look, place_rule(ITS_CLAUSE, tag), place_rule(CLAUSE_BLOCK, tag), clause,
-                        word_at(row + AT_FOUND_FIRST)))
+                        word_at(row + RISSOBARM_ROW_FIRST)))
         return;
     if (call != NULL)
         asks(look, place_rule(CLAUSE_RELATION, tag), look->program->clauses[clause].relation == call->relation);
@@ -139,33 +148,33 @@ static void look_at_trial(const struct look *look, const uint8_t *row)
 static void look_at_stages(const struct look *look, const uint8_t *row)
 {
     const struct goal *goal = look_at_goal(look, row);
-    unsigned behind = row[AT_TAG] == AND_SEQ;
+    unsigned tag = row[RISSOBARM_ROW_TAG], stage = row[RISSOBARM_ROW_STAGE], behind = tag == RISSOBARM_TAG_AND_SEQ;
 
     if (goal == NULL)
         return;
-    if (!asks(look, place_rule(ITS_STAGE, row[AT_TAG]), row[AT_STAGE] < goal->stage_count + behind))
+    if (!asks(look, place_rule(ITS_STAGE, tag), stage < goal->stage_count + behind))
         return;
-    if (row[AT_TAG] == AND_SEQ && row[AT_MODE] == WAITING)
-        asks(look, STAGE_LEFT, row[AT_STAGE] < goal->stage_count);
+    if (tag == RISSOBARM_TAG_AND_SEQ && row[RISSOBARM_ROW_MODE] == RISSOBARM_MODE_WAITING)
+        asks(look, STAGE_LEFT, stage < goal->stage_count);
 }
 
 static void look_at_places(const struct look *look, const uint8_t *row)
 {
-    switch (row[AT_TAG]) {
-    case AND_PAR:
-    case AND_SEQ:
+    switch (row[RISSOBARM_ROW_TAG]) {
+    case RISSOBARM_TAG_AND_PAR:
+    case RISSOBARM_TAG_AND_SEQ:
         look_at_stages(look, row);
         break;
-    case SEQ_SEARCH:
-    case OR_SEARCH:
+    case RISSOBARM_TAG_SEQ_SEARCH:
+    case RISSOBARM_TAG_OR_SEARCH:
         look_at_search(look, row);
         break;
-    case TRY_CLAUSE:
-    case INPUT_MATCH:
-    case GUARD_EVAL:
+    case RISSOBARM_TAG_TRY_CLAUSE:
+    case RISSOBARM_TAG_INPUT_MATCH:
+    case RISSOBARM_TAG_GUARD_EVAL:
         look_at_trial(look, row);
         break;
-    default: /* OR_PAR, EQUATE */
+    default: /* or-par, equate */
         look_at_literal(look, row);
     }
 }
@@ -175,49 +184,52 @@ static void look_at_places(const struct look *look, const uint8_t *row)
 static unsigned tag_of_goal(const struct goal *goal)
 {
     if (goal->stage_count != 1)
-        return AND_SEQ;
+        return RISSOBARM_TAG_AND_SEQ;
     if (goal->stages[0].count > 1)
-        return AND_PAR;
-    return goal->literals[0].relation == EQUALITY ? EQUATE : OR_PAR;
+        return RISSOBARM_TAG_AND_PAR;
+    return goal->literals[0].relation == RISSOBARM_EQUALITY ? RISSOBARM_TAG_EQUATE : RISSOBARM_TAG_OR_PAR;
 }
 
 static void look_at_root(const struct look *look, const uint8_t *row)
 {
-    asks(look, ROOT_TAG, row[AT_TAG] >= TAG_COUNT || row[AT_TAG] == tag_of_goal(&look->program->goal));
-    asks(look, ROOT_PARENT, word_at(row + AT_PARENT) == 0);
-    asks(look, ROOT_GOAL, row[AT_KIND] >= GOAL_KIND_COUNT || row[AT_KIND] == THE_GOAL);
-    asks(look, ROOT_RESULT, row[AT_MODE] != DORMANT || row[AT_RESULT] != NONE);
+    unsigned tag = row[RISSOBARM_ROW_TAG], kind = row[RISSOBARM_ROW_KIND], result = row[RISSOBARM_ROW_RESULT];
+
+    asks(look, ROOT_TAG, tag >= RISSOBARM_TAG_COUNT || tag == tag_of_goal(&look->program->goal));
+    asks(look, ROOT_PARENT, word_at(row + RISSOBARM_ROW_PARENT) == 0);
+    asks(look, ROOT_GOAL, kind >= RISSOBARM_GOAL_COUNT || kind == RISSOBARM_GOAL_IMAGE);
+    asks(look, ROOT_RESULT, row[RISSOBARM_ROW_MODE] != RISSOBARM_MODE_DORMANT || result != RISSOBARM_RESULT_NONE);
 }
 
 static void look_at_parent(const struct look *look, unsigned process, const uint8_t *row)
 {
-    unsigned parent = word_at(row + AT_PARENT), tag;
+    unsigned parent = word_at(row + RISSOBARM_ROW_PARENT), tag;
 
-    if (!asks(look, LOWER_PARENT, parent < process) || row[AT_TAG] >= TAG_COUNT)
+    if (!asks(look, LOWER_PARENT, parent < process) || row[RISSOBARM_ROW_TAG] >= RISSOBARM_TAG_COUNT)
         return;
-    tag = process_row(look->rows, parent)[AT_TAG];
-    asks(look, MADE_TAG, tag >= TAG_COUNT || tag_makes(tag, row[AT_TAG]));
+    tag = process_row(look->rows, parent)[RISSOBARM_ROW_TAG];
+    asks(look, MADE_TAG, tag >= RISSOBARM_TAG_COUNT || tag_makes(tag, row[RISSOBARM_ROW_TAG]));
 }
 
 static void look_at_notes(const struct look *look, const uint8_t *row)
 {
-    unsigned k;
+    unsigned count = row[RISSOBARM_ROW_NOTE_COUNT], k;
 
-    if (row[AT_MODE] != SUSPENDED || !asks(look, NOTES_FIT, row[AT_COUNT] <= NOTE_LIMIT))
+    if (row[RISSOBARM_ROW_MODE] != RISSOBARM_MODE_SUSPENDED || !asks(look, NOTES_FIT, count <= RISSOBARM_NOTE_LIMIT))
         return;
-    for (k = 0; k < row[AT_COUNT]; k++)
-        asks(look, NOTES_BELOW, word_at(row + AT_NOTES + 2 * k) < look->variables);
+    for (k = 0; k < count; k++)
+        asks(look, NOTES_BELOW, word_at(row + RISSOBARM_ROW_NOTES + 2 * k) < look->variables);
 }
 
 static void look_at_process(const struct look *look, unsigned process)
 {
     const uint8_t *row = process_row(look->rows, process);
-    bool tag = asks(look, KNOWN_TAG, row[AT_TAG] < TAG_COUNT);
-    bool kind = asks(look, KNOWN_KIND, row[AT_KIND] < GOAL_KIND_COUNT);
+    unsigned mode = row[RISSOBARM_ROW_MODE], result = row[RISSOBARM_ROW_RESULT];
+    bool tag = asks(look, KNOWN_TAG, row[RISSOBARM_ROW_TAG] < RISSOBARM_TAG_COUNT);
+    bool kind = asks(look, KNOWN_KIND, row[RISSOBARM_ROW_KIND] < RISSOBARM_GOAL_COUNT);
 
-    asks(look, KNOWN_MODE, row[AT_MODE] < MODE_COUNT);
-    asks(look, KNOWN_RESULT, row[AT_RESULT] < RESULT_COUNT);
-    asks(look, REPORTER_RESULT, row[AT_MODE] != REPORTING || row[AT_RESULT] != NONE);
+    asks(look, KNOWN_MODE, mode < RISSOBARM_MODE_COUNT);
+    asks(look, KNOWN_RESULT, result < RISSOBARM_RESULT_COUNT);
+    asks(look, REPORTER_RESULT, mode != RISSOBARM_MODE_REPORTING || result != RISSOBARM_RESULT_NONE);
     if (process == 0)
         look_at_root(look, row);
     else

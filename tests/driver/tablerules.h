@@ -51,7 +51,7 @@ enum aspect {
     ASPECTS
 };
 
-enum { TABLE_RULES = PLAIN_RULES + ASPECTS * TAG_COUNT };
+enum { TABLE_RULES = PLAIN_RULES + ASPECTS * RISSOBARM_TAG_COUNT };
 
 /* Whether there is such a rule: not every aspect has one for every tag. */
 bool table_rule_exists(unsigned rule);

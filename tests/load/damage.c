@@ -1,5 +1,6 @@
 /* Harms whole images, and makes what never was one. */
 #include "images.h"
+#include "rissobarm.h"
 
 #include <string.h>
 
@@ -110,10 +111,10 @@ static void resize_record(struct image *image, struct random *random)
     size_t at = image->starts[random_below(random, image->records)];
     size_t end;
 
-    if (at + 4 >= image->length)
+    if (at + RISSOBARM_RECORD_HEAD >= image->length)
         return;
     end = at + image->bytes[at];
-    if (end >= image->length || image->bytes[at] < 5 || image->bytes[at] > 250)
+    if (end >= image->length || image->bytes[at] <= RISSOBARM_RECORD_HEAD || image->bytes[at] > 250)
         return;
     if (random_once(random, 2)) {
         shift(image, end, end - 1);
@@ -147,7 +148,7 @@ void image_stretch(struct image *image, struct random *random, size_t length)
         image->bytes[start + 1] = (uint8_t)(size / 256);
     }
     while (way == 1 && image->length + 6 <= length) {
-        record_begin(image, 3);
+        record_begin(image, RISSOBARM_RECORD_GOAL);
         put_byte(image, 0);
         put_byte(image, 0);
         record_end(image);
@@ -159,7 +160,7 @@ void image_stretch(struct image *image, struct random *random, size_t length)
 /* Records of likely lengths and kinds with fields by chance. */
 static void garbage_records(struct image *image, struct random *random)
 {
-    unsigned count = random_below(random, 8), kind = 1, k;
+    unsigned count = random_below(random, 8), kind = RISSOBARM_RECORD_RELATION, k;
 
     while (count-- > 0) {
         record_begin(image, kind);

@@ -1,9 +1,20 @@
 /* Makes images after a recipe, and draws recipes. */
 #include "images.h"
 
-enum { ARITY = 4, BLOCK = 8, VARIABLES = 16, LITERALS = 8, STAGES = 8, EQUALITY = 255 };
+#include "rissobarm.h"
 
-const struct recipe full_recipe = { 32, 64, ARITY, BLOCK, VARIABLES, LITERALS, STAGES, 16, 0, 0 };
+const struct recipe full_recipe = {
+    .relations = RISSOBARM_RELATION_LIMIT,
+    .clauses = RISSOBARM_CLAUSE_LIMIT,
+    .arity = RISSOBARM_ARITY_LIMIT,
+    .block = RISSOBARM_BLOCK_LIMIT,
+    .variables = RISSOBARM_OWN_LIMIT,
+    .literals = RISSOBARM_LITERAL_LIMIT,
+    .stages = RISSOBARM_STAGE_LIMIT,
+    .tight = 16,
+    .equality = 0,
+    .last = 0
+};
 
 void put_byte(struct image *image, unsigned byte)
 {
@@ -43,10 +54,12 @@ static unsigned up_to(struct random *random, const struct recipe *recipe, unsign
 /* A variable below the count where there is one, or a constant; the ends of both ranges come often. */
 static void put_term(struct image *image, struct random *random, unsigned variables)
 {
+    enum { MOST = RISSOBARM_CONSTANT_LIMIT, FIRST = RISSOBARM_TERM_VARIABLE };
+
     if (variables > 0 && !random_once(random, 3))
-        put_word(image, 32768 + (random_once(random, 4) ? variables - 1 : random_below(random, variables)));
+        put_word(image, FIRST + (random_once(random, 4) ? variables - 1 : random_below(random, variables)));
     else
-        put_word(image, random_once(random, 4) ? 32767 : random_below(random, 32768));
+        put_word(image, random_once(random, 4) ? MOST : random_below(random, MOST + 1));
 }
 
 static void put_terms(struct image *image, struct random *random, unsigned arity, unsigned variables)
@@ -58,12 +71,12 @@ static void put_terms(struct image *image, struct random *random, unsigned arity
 /* The relations stand first in the image, so an arity is read where its record has it. */
 static unsigned arity_of(const struct image *image, unsigned relation)
 {
-    return image->bytes[image->starts[relation] + 4];
+    return image->bytes[image->starts[relation] + RISSOBARM_RECORD_HEAD];
 }
 
 static void put_literal(struct image *image, struct random *random, const struct recipe *recipe, unsigned variables)
 {
-    unsigned relation = EQUALITY, arity = 2;
+    unsigned relation = RISSOBARM_EQUALITY, arity = 2;
 
     if (recipe->relations > 0 && random_below(random, 16) >= recipe->equality) {
         relation = recipe->last ? recipe->relations - 1 : random_below(random, recipe->relations);
@@ -95,7 +108,7 @@ static void put_relation(struct image *image, struct random *random, const struc
 {
     unsigned arity = up_to(random, recipe, recipe->arity);
 
-    record_begin(image, 1);
+    record_begin(image, RISSOBARM_RECORD_RELATION);
     put_byte(image, arity);
     while (arity-- > 0)
         put_byte(image, random_below(random, 2));
@@ -108,7 +121,7 @@ static void put_clause(struct image *image, struct random *random, const struct 
     unsigned variables = up_to(random, recipe, recipe->variables);
     unsigned arity = arity_of(image, relation);
 
-    record_begin(image, 2);
+    record_begin(image, RISSOBARM_RECORD_CLAUSE);
     put_byte(image, relation);
     put_byte(image, arity);
     put_byte(image, mark);
@@ -146,7 +159,7 @@ void image_by_recipe(struct image *image, struct random *random, const struct re
         put_relation(image, random, recipe);
     put_clauses(image, random, recipe);
     variables = up_to(random, recipe, recipe->variables);
-    record_begin(image, 3);
+    record_begin(image, RISSOBARM_RECORD_GOAL);
     put_byte(image, variables);
     put_goal(image, random, recipe, variables);
     record_end(image);
@@ -158,9 +171,9 @@ static void draw_recipe(struct random *random, struct recipe *recipe)
     int large = random_once(random, 16);
 
     *recipe = full_recipe;
-    recipe->relations = random_below(random, large ? 33 : 6);
-    recipe->clauses = random_below(random, large ? 65 : 10);
-    recipe->literals = random_below(random, large ? 9 : 5);
+    recipe->relations = random_below(random, large ? RISSOBARM_RELATION_LIMIT + 1 : 6);
+    recipe->clauses = random_below(random, large ? RISSOBARM_CLAUSE_LIMIT + 1 : 10);
+    recipe->literals = random_below(random, large ? RISSOBARM_LITERAL_LIMIT + 1 : 5);
     recipe->tight = random_below(random, 9);
     recipe->equality = random_below(random, 9);
 }
@@ -182,24 +195,24 @@ void image_crowded(struct image *image, struct random *random)
     draw_recipe(random, &recipe);
     recipe.tight = sort == 2 ? 8 : 4;
     if (sort == 0)
-        recipe.relations = 32 + over;
+        recipe.relations = RISSOBARM_RELATION_LIMIT + over;
     else if (sort == 1)
-        recipe.clauses = 64 + over;
+        recipe.clauses = RISSOBARM_CLAUSE_LIMIT + over;
     else if (sort == 2)
-        recipe.block = BLOCK + over;
+        recipe.block = RISSOBARM_BLOCK_LIMIT + over;
     else if (sort == 3)
-        recipe.variables = VARIABLES + over;
+        recipe.variables = RISSOBARM_OWN_LIMIT + over;
     else if (sort == 4)
-        recipe.literals = LITERALS + over;
+        recipe.literals = RISSOBARM_LITERAL_LIMIT + over;
     else if (sort == 5)
-        recipe.stages = recipe.literals = STAGES + over;
+        recipe.stages = recipe.literals = RISSOBARM_STAGE_LIMIT + over;
     else if (sort == 6)
-        recipe.arity = ARITY + over;
+        recipe.arity = RISSOBARM_ARITY_LIMIT + over;
     if (recipe.relations == 0)
         recipe.relations = 1;
     if (sort == 2)
         recipe.clauses = 16 + random_below(random, 49);
     image_by_recipe(image, random, &recipe);
     if (sort >= 7)
-        image_stretch(image, random, 32768 + over);
+        image_stretch(image, random, RISSOBARM_IMAGE_LIMIT + over);
 }

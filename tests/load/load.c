@@ -8,10 +8,15 @@
 #include <stdio.h>
 #include <string.h>
 
-enum { IMAGES = 120000, REFUSALS = 8, LEAST = 100 };
+/* A load refuses up to NOGOAL. */
+enum { IMAGES = 120000, REFUSALS = RISSOBARM_NOGOAL + 1, LEAST = 100 };
 
 static const uint64_t seed = 20011;
-static const char *const names[REFUSALS] = { "accepted", "LONG", "CUT", "KIND", "BODY", "NAME", "MANY", "NOGOAL" };
+static const char *const names[REFUSALS] = {
+    [RISSOBARM_ACCEPTED] = "accepted", [RISSOBARM_LONG] = "LONG", [RISSOBARM_CUT] = "CUT",
+    [RISSOBARM_KIND] = "KIND",         [RISSOBARM_BODY] = "BODY", [RISSOBARM_NAME] = "NAME",
+    [RISSOBARM_MANY] = "MANY",         [RISSOBARM_NOGOAL] = "NOGOAL",
+};
 static unsigned seen[REFUSALS], differences, touched;
 
 /* The image at both ends of the guarded row: the same answer, and not one byte changed. */

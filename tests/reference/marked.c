@@ -333,6 +333,6 @@ int main(void)
     budget_case();
     refusal_case();
     watch_case();
-    printf("%u passed, %u failed\n", passed, failed);
+    printf("marked: %u as told, %u not\n", passed, failed);
     return failed == 0 ? 0 : 1;
 }

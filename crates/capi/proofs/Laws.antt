@@ -9,11 +9,11 @@ use Rattle.load.specs.Fields.{refusalOf}
 use Rattle.machine.specs.Starting.{StartSays}
 use Rattle.machine.specs.Supplying.{SupplySays}
 use Rattle.parlog.specs.Calls.{valueCall}
-use Rattle.parlog.specs.Limits.{small}
+use Rattle.parlog.specs.Limits.{Limits, Usable}
 use Rattle.parlog.specs.Load.{loadOf}
 use Rattle.parlog.specs.Numbers.{loadNumbers, Numbers, refusedAs, runNumbers, startNumbers, stepNumbers, supplyNumbers, valueNumbers, watchNumbers, word}
 use Rattle.parlog.specs.Run.{watchOf}
-use Rattle.parlog.specs.Tables.{Lent, procsOf}
+use Rattle.parlog.specs.Tables.{Lent, procsOf, rowSize}
 use Rattle.parlog.specs.declared.Found.{Found}
 use Rattle.parlog.specs.declared.Loaded.{Loaded}
 use Rattle.parlog.specs.declared.Loaded.the-variants.{Accepted, Refused}
@@ -48,52 +48,52 @@ module _ {A : Type 0} {a x : A} (is : a ≡ x) where
   pub tells-of : (f : A → Numbers) {l : Lent} {h p v : List ℕ} {w : ℕ} → h ≡ l .head → p ≡ l .procs → v ≡ l .vars → w ≡ word (f a) → Tells (f x) l w h p v
   tells-of f eh ep ev k = record { answer = word-of f k; head = eh; procs = ep; vars = ev }
 
-module _ (s : List ℕ) (l : Lent) {h p v : List ℕ} where
-  module _ {a : Started} (told : StartSays s l a h p v) where
+module _ (lim : Limits) (s : List ℕ) (l : Lent) {h p v : List ℕ} where
+  module _ {a : Started} (told : StartSays lim s l a h p v) where
     pub start-fit : StartFits a
-    start-fit = fits-of (told .answer) StartFits (start-fits s l)
+    start-fit = fits-of (told .answer) StartFits (start-fits lim s l)
 
-    pub start-tells : {w : ℕ} → w ≡ word (startNumbers a) → StartTells s l w h p v
+    pub start-tells : {w : ℕ} → w ≡ word (startNumbers a) → StartTells lim s l w h p v
     start-tells k = tells-of (told .answer) startNumbers (told .head) (told .procs) (told .vars) k
 
-  module _ (i : ℕ) {a : Stepped} (told : StepSays s l i a h p v) where
-    pub step-fit : StepFits a
-    step-fit = fits-of (told .answer) StepFits (step-fits s l i)
+  module _ (i : ℕ) {a : Stepped} (told : StepSays lim s l i a h p v) where
+    pub step-fit : Usable lim → StepFits a
+    step-fit ok = fits-of (told .answer) StepFits (step-fits lim ok s l i)
 
-    pub step-tells : {w : ℕ} → w ≡ word (stepNumbers a) → StepTells s l i w h p v
+    pub step-tells : {w : ℕ} → w ≡ word (stepNumbers a) → StepTells lim s l i w h p v
     step-tells k = tells-of (told .answer) stepNumbers (told .head) (told .procs) (told .vars) k
 
-  module _ {a : Stepped} (told : TurnSays s l a h p v) where
-    pub turn-fit : StepFits a
-    turn-fit = fits-of (told .answer) StepFits (turn-fits s l)
+  module _ {a : Stepped} (told : TurnSays lim s l a h p v) where
+    pub turn-fit : Usable lim → StepFits a
+    turn-fit ok = fits-of (told .answer) StepFits (turn-fits lim ok s l)
 
-    pub turn-tells : {w : ℕ} → w ≡ word (stepNumbers a) → TurnTells s l w h p v
+    pub turn-tells : {w : ℕ} → w ≡ word (stepNumbers a) → TurnTells lim s l w h p v
     turn-tells k = tells-of (told .answer) stepNumbers (told .head) (told .procs) (told .vars) k
 
-  module _ (limit : ℕ) {a : Ran} (told : RunSays s l limit a h p v) where
+  module _ (limit : ℕ) {a : Ran} (told : RunSays lim s l limit a h p v) where
     pub run-fit : limit ≤ 65535 → RunFits a
-    run-fit most = fits-of (told .answer) RunFits (run-fits s l limit (omega (arith, most)))
+    run-fit most = fits-of (told .answer) RunFits (run-fits lim s l limit (omega (arith, most)))
 
-    pub run-tells : {w : ℕ} → w ≡ word (runNumbers a) → RunTells s l limit w h p v
+    pub run-tells : {w : ℕ} → w ≡ word (runNumbers a) → RunTells lim s l limit w h p v
     run-tells k = tells-of (told .answer) runNumbers (told .head) (told .procs) (told .vars) k
 
-  module _ (x c : ℕ) {a : Supplied} (told : SupplySays s l x c a h p v) where
+  module _ (x c : ℕ) {a : Supplied} (told : SupplySays lim s l x c a h p v) where
     pub supply-fit : SupplyFits a
-    supply-fit = fits-of (told .answer) SupplyFits (supply-fits s l x c)
+    supply-fit = fits-of (told .answer) SupplyFits (supply-fits lim s l x c)
 
-    pub supply-tells : {w : ℕ} → w ≡ word (supplyNumbers a) → SupplyTells s l x c w h p v
+    pub supply-tells : {w : ℕ} → w ≡ word (supplyNumbers a) → SupplyTells lim s l x c w h p v
     supply-tells k = tells-of (told .answer) supplyNumbers (told .head) (told .procs) (told .vars) k
 
-module _ (s : List ℕ) (l : Lent) (x : ℕ) {a : Valued} (told : a ≡ valueCall small s l x) where
+module _ (lim : Limits) (s : List ℕ) (l : Lent) (x : ℕ) {a : Valued} (told : a ≡ valueCall lim s l x) where
   pub value-fit : ValueFits a
-  value-fit = fits-of told ValueFits (value-fits s l x)
+  value-fit = fits-of told ValueFits (value-fits lim s l x)
 
-  pub value-tells : {w : ℕ} → w ≡ word (valueNumbers a) → ValueTells s l x w
+  pub value-tells : {w : ℕ} → w ≡ word (valueNumbers a) → ValueTells lim s l x w
   value-tells k = word-of told valueNumbers k
 
-pub watch-tells : (p : List ℕ) {a : Found} {w : ℕ} → a ≡ watchOf (procsOf p (length p / 24)) → w ≡ word (watchNumbers (reached a)) → WatchTells p w
+pub watch-tells : (p : List ℕ) {a : Found} {w : ℕ} → a ≡ watchOf (procsOf p (length p / rowSize)) → w ≡ word (watchNumbers (reached a)) → WatchTells p w
 watch-tells p e k = word-of e (λ f. watchNumbers (reached f)) k
 
 -- a row of processes that a word can tell throughout: the watch itself
-pub watch-whole : (p : List ℕ) {w : ℕ} → length p / 24 ≤ 4294967296 → WatchTells p w → w ≡ word (watchNumbers (watchOf (procsOf p (length p / 24))))
-watch-whole p h k = rw (k, watch-reached (procsOf p (length p / 24)) (rw (procs-length p (length p / 24)) h))
+pub watch-whole : (p : List ℕ) {w : ℕ} → length p / rowSize ≤ 4294967296 → WatchTells p w → w ≡ word (watchNumbers (watchOf (procsOf p (length p / rowSize))))
+watch-whole p h k = rw (k, watch-reached (procsOf p (length p / rowSize)) (rw (procs-length p (length p / rowSize)) h))

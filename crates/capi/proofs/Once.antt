@@ -3,6 +3,7 @@ use mathlib.Core.Path.{_∙_, _≡_, sym}
 use mathlib.Core.List.{List}
 use Prim.Native.Nat.{ℕ}
 use Rattle.capi.specs.Tells.{RunTells, StartTells, StepTells, SupplyTells, Tells, TurnTells, ValueTells, WatchTells}
+use Rattle.parlog.specs.Limits.{Limits}
 use Rattle.parlog.specs.Load.{loadOf}
 use Rattle.parlog.specs.Numbers.{loadNumbers, Numbers, word}
 use Rattle.parlog.specs.Tables.{Lent}
@@ -17,23 +18,23 @@ tells-once n l r q h p v h′ p′ v′ a b = (a .answer ∙ sym (b .answer), a 
 pub load-once : (s : List ℕ) (r q : ℕ) → r ≡ word (loadNumbers (loadOf s)) → q ≡ word (loadNumbers (loadOf s)) → r ≡ q
 load-once s r q a b = a ∙ sym b
 
-pub start-once : (s : List ℕ) (l : Lent) (r q : ℕ) (h p v h′ p′ v′ : List ℕ) → StartTells s l r h p v → StartTells s l q h′ p′ v′ → Same r q h p v h′ p′ v′
-start-once s l r q h p v h′ p′ v′ a b = tells-once _ _ r q h p v h′ p′ v′ a b
+pub start-once : (lim : Limits) (s : List ℕ) (l : Lent) (r q : ℕ) (h p v h′ p′ v′ : List ℕ) → StartTells lim s l r h p v → StartTells lim s l q h′ p′ v′ → Same r q h p v h′ p′ v′
+start-once lim s l r q h p v h′ p′ v′ a b = tells-once _ _ r q h p v h′ p′ v′ a b
 
-pub step-once : (s : List ℕ) (l : Lent) (i : ℕ) (r q : ℕ) (h p v h′ p′ v′ : List ℕ) → StepTells s l i r h p v → StepTells s l i q h′ p′ v′ → Same r q h p v h′ p′ v′
-step-once s l i r q h p v h′ p′ v′ a b = tells-once _ _ r q h p v h′ p′ v′ a b
+pub step-once : (lim : Limits) (s : List ℕ) (l : Lent) (i : ℕ) (r q : ℕ) (h p v h′ p′ v′ : List ℕ) → StepTells lim s l i r h p v → StepTells lim s l i q h′ p′ v′ → Same r q h p v h′ p′ v′
+step-once lim s l i r q h p v h′ p′ v′ a b = tells-once _ _ r q h p v h′ p′ v′ a b
 
-pub turn-once : (s : List ℕ) (l : Lent) (r q : ℕ) (h p v h′ p′ v′ : List ℕ) → TurnTells s l r h p v → TurnTells s l q h′ p′ v′ → Same r q h p v h′ p′ v′
-turn-once s l r q h p v h′ p′ v′ a b = tells-once _ _ r q h p v h′ p′ v′ a b
+pub turn-once : (lim : Limits) (s : List ℕ) (l : Lent) (r q : ℕ) (h p v h′ p′ v′ : List ℕ) → TurnTells lim s l r h p v → TurnTells lim s l q h′ p′ v′ → Same r q h p v h′ p′ v′
+turn-once lim s l r q h p v h′ p′ v′ a b = tells-once _ _ r q h p v h′ p′ v′ a b
 
-pub run-once : (s : List ℕ) (l : Lent) (limit : ℕ) (r q : ℕ) (h p v h′ p′ v′ : List ℕ) → RunTells s l limit r h p v → RunTells s l limit q h′ p′ v′ → Same r q h p v h′ p′ v′
-run-once s l limit r q h p v h′ p′ v′ a b = tells-once _ _ r q h p v h′ p′ v′ a b
+pub run-once : (lim : Limits) (s : List ℕ) (l : Lent) (limit : ℕ) (r q : ℕ) (h p v h′ p′ v′ : List ℕ) → RunTells lim s l limit r h p v → RunTells lim s l limit q h′ p′ v′ → Same r q h p v h′ p′ v′
+run-once lim s l limit r q h p v h′ p′ v′ a b = tells-once _ _ r q h p v h′ p′ v′ a b
 
-pub supply-once : (s : List ℕ) (l : Lent) (x c : ℕ) (r q : ℕ) (h p v h′ p′ v′ : List ℕ) → SupplyTells s l x c r h p v → SupplyTells s l x c q h′ p′ v′ → Same r q h p v h′ p′ v′
-supply-once s l x c r q h p v h′ p′ v′ a b = tells-once _ _ r q h p v h′ p′ v′ a b
+pub supply-once : (lim : Limits) (s : List ℕ) (l : Lent) (x c : ℕ) (r q : ℕ) (h p v h′ p′ v′ : List ℕ) → SupplyTells lim s l x c r h p v → SupplyTells lim s l x c q h′ p′ v′ → Same r q h p v h′ p′ v′
+supply-once lim s l x c r q h p v h′ p′ v′ a b = tells-once _ _ r q h p v h′ p′ v′ a b
 
-pub value-once : (s : List ℕ) (l : Lent) (x : ℕ) (r q : ℕ) → ValueTells s l x r → ValueTells s l x q → r ≡ q
-value-once s l x r q a b = a ∙ sym b
+pub value-once : (lim : Limits) (s : List ℕ) (l : Lent) (x : ℕ) (r q : ℕ) → ValueTells lim s l x r → ValueTells lim s l x q → r ≡ q
+value-once lim s l x r q a b = a ∙ sym b
 
 pub watch-once : (p : List ℕ) (r q : ℕ) → WatchTells p r → WatchTells p q → r ≡ q
 watch-once p r q a b = a ∙ sym b

@@ -4,10 +4,10 @@ use mathlib.Core.List.{List}
 use Prim.Native.Nat.{_/_, ℕ}
 use lib.ListN.{length}
 use Rattle.parlog.specs.Calls.{runCall, startCall, stepCall, supplyCall, turnCall, valueCall}
-use Rattle.parlog.specs.Limits.{small}
+use Rattle.parlog.specs.Limits.{Limits}
 use Rattle.parlog.specs.Numbers.{Numbers, runNumbers, startNumbers, stepNumbers, supplyNumbers, valueNumbers, watchNumbers, word}
 use Rattle.parlog.specs.Run.{watchOf}
-use Rattle.parlog.specs.Tables.{Lent, procsOf}
+use Rattle.parlog.specs.Tables.{Lent, procsOf, rowSize}
 use Rattle.words.specs.Fits.{reached}
 
 -- Turns 10: the word of these numbers, and these rows
@@ -18,29 +18,29 @@ pub record Tells (n : Numbers) (l : Lent) (r : ℕ) (h p v : List ℕ) : Type 0 
   pub vars : v ≡ l .vars
 
 -- of a start
-abbrev pub StartTells : List ℕ → Lent → ℕ → List ℕ → List ℕ → List ℕ → Type 0
-StartTells s l r h p v = Tells (startNumbers (startCall small s l .answer)) (startCall small s l .lent) r h p v
+abbrev pub StartTells : Limits → List ℕ → Lent → ℕ → List ℕ → List ℕ → List ℕ → Type 0
+StartTells lim s l r h p v = Tells (startNumbers (startCall lim s l .answer)) (startCall lim s l .lent) r h p v
 
 -- of the step of process i
-abbrev pub StepTells : List ℕ → Lent → ℕ → ℕ → List ℕ → List ℕ → List ℕ → Type 0
-StepTells s l i r h p v = Tells (stepNumbers (stepCall small s l i .answer)) (stepCall small s l i .lent) r h p v
+abbrev pub StepTells : Limits → List ℕ → Lent → ℕ → ℕ → List ℕ → List ℕ → List ℕ → Type 0
+StepTells lim s l i r h p v = Tells (stepNumbers (stepCall lim s l i .answer)) (stepCall lim s l i .lent) r h p v
 
 -- of a turn
-abbrev pub TurnTells : List ℕ → Lent → ℕ → List ℕ → List ℕ → List ℕ → Type 0
-TurnTells s l r h p v = Tells (stepNumbers (turnCall small s l .answer)) (turnCall small s l .lent) r h p v
+abbrev pub TurnTells : Limits → List ℕ → Lent → ℕ → List ℕ → List ℕ → List ℕ → Type 0
+TurnTells lim s l r h p v = Tells (stepNumbers (turnCall lim s l .answer)) (turnCall lim s l .lent) r h p v
 
 -- of a run of at most so many moves
-abbrev pub RunTells : List ℕ → Lent → ℕ → ℕ → List ℕ → List ℕ → List ℕ → Type 0
-RunTells s l limit r h p v = Tells (runNumbers (runCall small s l limit .answer)) (runCall small s l limit .lent) r h p v
+abbrev pub RunTells : Limits → List ℕ → Lent → ℕ → ℕ → List ℕ → List ℕ → List ℕ → Type 0
+RunTells lim s l limit r h p v = Tells (runNumbers (runCall lim s l limit .answer)) (runCall lim s l limit .lent) r h p v
 
 -- of a supply of c for variable x of the goal
-abbrev pub SupplyTells : List ℕ → Lent → ℕ → ℕ → ℕ → List ℕ → List ℕ → List ℕ → Type 0
-SupplyTells s l x c r h p v = Tells (supplyNumbers (supplyCall small s l x c .answer)) (supplyCall small s l x c .lent) r h p v
+abbrev pub SupplyTells : Limits → List ℕ → Lent → ℕ → ℕ → ℕ → List ℕ → List ℕ → List ℕ → Type 0
+SupplyTells lim s l x c r h p v = Tells (supplyNumbers (supplyCall lim s l x c .answer)) (supplyCall lim s l x c .lent) r h p v
 
 -- of a look at variable x of the goal: nothing is written
-abbrev pub ValueTells : List ℕ → Lent → ℕ → ℕ → Type 0
-ValueTells s l x r = r ≡ word (valueNumbers (valueCall small s l x))
+abbrev pub ValueTells : Limits → List ℕ → Lent → ℕ → ℕ → Type 0
+ValueTells lim s l x r = r ≡ word (valueNumbers (valueCall lim s l x))
 
 -- Turns 5: of a watch over bytes: any row of processes, as far as a word can tell its number
 abbrev pub WatchTells : List ℕ → ℕ → Type 0
-WatchTells p r = r ≡ word (watchNumbers (reached (watchOf (procsOf p (length p / 24)))))
+WatchTells p r = r ≡ word (watchNumbers (reached (watchOf (procsOf p (length p / rowSize)))))

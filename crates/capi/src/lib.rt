@@ -2,8 +2,10 @@
 use parlog::Loaded;
 ghost use mathlib.Core.Path.{_≡_};
 ghost use Rattle.capi.specs.Tells.{RunTells, StartTells, StepTells, SupplyTells, TurnTells, ValueTells, WatchTells};
+ghost use Rattle.parlog.specs.Limits.{small};
 ghost use Rattle.parlog.specs.Load.{loadOf};
 ghost use Rattle.parlog.specs.Numbers.{loadNumbers, word};
+ghost use Rattle.parlog.specs.Tables.{lent};
 
 // Tests an image: its relation and clause counts, or the first refusal.
 #[no_mangle]
@@ -26,7 +28,7 @@ pub extern "C" fn rissobarm_start(
     procs: &mut [u8],
     vars: &mut [u8],
 ) -> u64
-    ensures { λ r. ⌜ StartTells (now (image .entry)) (record { head = now (head .entry); procs = now (procs .entry); vars = now (vars .entry) }) r (now (head .exit)) (now (procs .exit)) (now (vars .exit)) ⌝ }
+    ensures { λ r. ⌜ StartTells small (now (image .entry)) (lent (now (head .entry)) (now (procs .entry)) (now (vars .entry))) r (now (head .exit)) (now (procs .exit)) (now (vars .exit)) ⌝ }
 {
     let a = machine::start(image, head, procs, vars);
     words::start_word(a)
@@ -41,7 +43,7 @@ pub extern "C" fn rissobarm_step(
     vars: &mut [u8],
     process: u32,
 ) -> u64
-    ensures { λ r. ⌜ StepTells (now (image .entry)) (record { head = now (head .entry); procs = now (procs .entry); vars = now (vars .entry) }) process r (now (head .exit)) (now (procs .exit)) (now (vars .exit)) ⌝ }
+    ensures { λ r. ⌜ StepTells small (now (image .entry)) (lent (now (head .entry)) (now (procs .entry)) (now (vars .entry))) process r (now (head .exit)) (now (procs .exit)) (now (vars .exit)) ⌝ }
 {
     let a = step::step(image, head, procs, vars, process);
     words::step_word(a)
@@ -55,7 +57,7 @@ pub extern "C" fn rissobarm_turn(
     procs: &mut [u8],
     vars: &mut [u8],
 ) -> u64
-    ensures { λ r. ⌜ TurnTells (now (image .entry)) (record { head = now (head .entry); procs = now (procs .entry); vars = now (vars .entry) }) r (now (head .exit)) (now (procs .exit)) (now (vars .exit)) ⌝ }
+    ensures { λ r. ⌜ TurnTells small (now (image .entry)) (lent (now (head .entry)) (now (procs .entry)) (now (vars .entry))) r (now (head .exit)) (now (procs .exit)) (now (vars .exit)) ⌝ }
 {
     let a = run::turn(image, head, procs, vars);
     words::step_word(a)
@@ -70,7 +72,7 @@ pub extern "C" fn rissobarm_run(
     vars: &mut [u8],
     limit: u16,
 ) -> u64
-    ensures { λ r. ⌜ RunTells (now (image .entry)) (record { head = now (head .entry); procs = now (procs .entry); vars = now (vars .entry) }) limit r (now (head .exit)) (now (procs .exit)) (now (vars .exit)) ⌝ }
+    ensures { λ r. ⌜ RunTells small (now (image .entry)) (lent (now (head .entry)) (now (procs .entry)) (now (vars .entry))) limit r (now (head .exit)) (now (procs .exit)) (now (vars .exit)) ⌝ }
 {
     let a = run::run(image, head, procs, vars, limit);
     words::run_word(a)
@@ -86,7 +88,7 @@ pub extern "C" fn rissobarm_supply(
     variable: u32,
     value: u32,
 ) -> u64
-    ensures { λ r. ⌜ SupplyTells (now (image .entry)) (record { head = now (head .entry); procs = now (procs .entry); vars = now (vars .entry) }) variable value r (now (head .entry)) (now (procs .entry)) (now (vars .exit)) ⌝ }
+    ensures { λ r. ⌜ SupplyTells small (now (image .entry)) (lent (now (head .entry)) (now (procs .entry)) (now (vars .entry))) variable value r (now (head .entry)) (now (procs .entry)) (now (vars .exit)) ⌝ }
 {
     let a = machine::supply(image, head, procs, vars, variable, value);
     words::supply_word(a)
@@ -101,7 +103,7 @@ pub extern "C" fn rissobarm_value(
     vars: &[u8],
     variable: u32,
 ) -> u64
-    ensures { λ r. ⌜ ValueTells (now (image .entry)) (record { head = now (head .entry); procs = now (procs .entry); vars = now (vars .entry) }) variable r ⌝ }
+    ensures { λ r. ⌜ ValueTells small (now (image .entry)) (lent (now (head .entry)) (now (procs .entry)) (now (vars .entry))) variable r ⌝ }
 {
     let a = machine::value(image, head, procs, vars, variable);
     words::value_word(a)

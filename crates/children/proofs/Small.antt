@@ -4,49 +4,51 @@ use mathlib.Core.Bool.{_&&_, _||_, Bool, cond, false, not, true}
 use Prim.Native.Nat.{_<_, ℕ}
 use lib.Dec.{eqb, ltb}
 use borrow.Author.Tests.{ltb-true}
-use Rattle.children.specs.Notes.{hear, latestIn, noneSilent, someBad, someGood}
+use Rattle.children.specs.Notes.{badNote, goodNote, hear, latestIn, noneSilent, silentBit, someBad, someGood}
 use Rattle.parlog.proofs.Bools.{and-true, implies-true}
 use Rattle.parlog.proofs.Scans.{every-at}
 use Rattle.parlog.specs.Scan.{every, implies}
 
 -- ---- tests over all answers
 
-abbrev bothB : (Bool → Bool) → Bool
-bothB t = t true && t false
+-- a test of every pair of answers
+abbrev pub answers : (Bool → Bool → Bool) → Bool
+answers t = (t true true && t true false) && (t false true && t false false)
 
-bothB-at : (t : Bool → Bool) (b : Bool) → bothB t ≡ true → t b ≡ true
-bothB-at t true e = and-true (t true) (t false) e .0
-bothB-at t false e = and-true (t true) (t false) e .1
+pub answered : (t : Bool → Bool → Bool) (a b : Bool) → answers t ≡ true → t a b ≡ true
+answered t true true e = and-true (t true true) (t true false) (and-true (t true true && t true false) (t false true && t false false) e .0) .0
+answered t true false e = and-true (t true true) (t true false) (and-true (t true true && t true false) (t false true && t false false) e .0) .1
+answered t false true e = and-true (t false true) (t false false) (and-true (t true true && t true false) (t false true && t false false) e .1) .0
+answered t false false e = and-true (t false true) (t false false) (and-true (t true true && t true false) (t false true && t false false) e .1) .1
 
-abbrev agree : Bool → Bool → Bool
+-- two tests have the same answer
+abbrev pub agree : Bool → Bool → Bool
 agree true b = b
 agree false b = not b
 
-agree-is : (a b : Bool) → agree a b ≡ true → a ≡ b
+pub agree-is : (a b : Bool) → agree a b ≡ true → a ≡ b
 agree-is true b e = sym e
 agree-is false true e = e
 agree-is false false e = refl
 
 -- a test computed for each note, where no child reports both
-tested : (t : ℕ → Bool → Bool → Bool) (s : ℕ) → every (λ s. bothB (λ a. bothB (λ b. implies (not (a && b)) (t s a b)))) 16 ≡ true → s < 16
+tested : (t : ℕ → Bool → Bool → Bool) (s : ℕ) → every (λ s. answers (λ a b. implies (not (a && b)) (t s a b))) 16 ≡ true → s < 16
     → (a b : Bool) → not (a && b) ≡ true → t s a b ≡ true
 tested t s e h a b o =
     implies-true (not (a && b)) (t s a b)
-    (bothB-at (λ b. implies (not (a && b)) (t s a b)) b
-    (bothB-at (λ a. bothB (λ b. implies (not (a && b)) (t s a b))) a
-    (every-at (λ s. bothB (λ a. bothB (λ b. implies (not (a && b)) (t s a b)))) 16 s e h))) o
+    (answered (λ a b. implies (not (a && b)) (t s a b)) a b (every-at (λ s. answers (λ a b. implies (not (a && b)) (t s a b))) 16 s e h)) o
 
 -- ---- after a child that reports success (a), failure (b) or nothing
 
 abbrev pub says : Bool → Bool → ℕ
-says a b = cond a 10 (cond b 12 1)
+says a b = cond a goodNote (cond b badNote silentBit)
 
-pub says-good : (a b : Bool) → eqb (says a b) 10 ≡ a
+pub says-good : (a b : Bool) → eqb (says a b) goodNote ≡ a
 says-good true b = refl
 says-good false true = refl
 says-good false false = refl
 
-pub says-told : (a b : Bool) → not (eqb (says a b) 1) ≡ (a || b)
+pub says-told : (a b : Bool) → not (eqb (says a b) silentBit) ≡ (a || b)
 says-told true b = refl
 says-told false true = refl
 says-told false false = refl

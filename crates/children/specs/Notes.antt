@@ -1,4 +1,4 @@
--- What is noted of the children of a process while the rows are passed from the last down: 1 one reports nothing, 2 one success, 4 one failure, 8 the latest reports; 0 none was heard.
+-- What is noted of the children of a process while the rows are passed from the last down; 0 where none was heard.
 use mathlib.Core.Path.{_≡_}
 use mathlib.Core.Bool.{_&&_, _||_, Bool, cond, not, true}
 use mathlib.Core.List.{List}
@@ -14,32 +14,62 @@ use Rattle.parlog.specs.declared.Found.{Found}
 use Rattle.parlog.specs.declared.Found.the-variants.{At, Nothing}
 use Rattle.parlog.specs.declared.Process.{Process}
 
+-- ---- what was said, in bits
+
+-- one reports nothing
+abbrev pub silentBit : ℕ
+silentBit = 1
+
+-- one reports success
+abbrev pub goodBit : ℕ
+goodBit = 2
+
+-- one reports failure
+abbrev pub badBit : ℕ
+badBit = 4
+
+-- the latest reports
+abbrev pub latestBit : ℕ
+latestBit = 8
+
+-- a child that reports success, as the latest
+abbrev pub goodNote : ℕ
+goodNote = 10
+
+-- one that reports failure
+abbrev pub badNote : ℕ
+badNote = 12
+
+-- what is heard of a child that is not the latest
+abbrev pub earlierBits : ℕ
+earlierBits = 7
+
 -- ---- a note
 
 -- what one child says
 unfoldable pub noteOf : Process → ℕ
-noteOf x = cond (reports success x) 10 (cond (reports failure x) 12 1)
+noteOf x = cond (reports success x) goodNote (cond (reports failure x) badNote silentBit)
 
 -- what was said, and f; who is heard first is the latest
 unfoldable pub hear : ℕ → ℕ → ℕ
-hear s f = cond (eqb s 0) f (bitOr s (bitAnd f 7))
+hear s f = cond (eqb s 0) f (bitOr s (bitAnd f earlierBits))
 
 -- the note after process q, that says f; the latest is kept where it reports
 abbrev pub heardBy : Note → ℕ → ℕ → Note
-heardBy x f q = record { said = hear (x .said) f; latest = cond (eqb (x .said) 0 && not (eqb f 1)) q (x .latest); lowest = cond (eqb f 10) q (x .lowest) }
+heardBy x f q = record { said = hear (x .said) f; latest = cond (eqb (x .said) 0 && not (eqb f silentBit)) q (x .latest); lowest = cond (eqb f goodNote) q (x .lowest) }
 
 -- what was said
 abbrev pub someGood : ℕ → Bool
-someGood s = eqb (s / 2 % 2) 1
+someGood s = eqb (s / goodBit % 2) 1
 
 abbrev pub someBad : ℕ → Bool
-someBad s = eqb (s / 4 % 2) 1
+someBad s = eqb (s / badBit % 2) 1
 
 abbrev pub noneSilent : ℕ → Bool
 noneSilent s = eqb (s % 2) 0
 
 abbrev pub latestIn : ℕ → Bool
-latestIn s = eqb (s / 8 % 2) 1
+latestIn s = eqb (s / latestBit % 2) 1
 
 -- c, where this holds
 abbrev pub foundBy : Bool → ℕ → Found

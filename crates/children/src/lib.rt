@@ -1,13 +1,36 @@
 // What the children of a process report, heard one by one from the last row down.
 ghost use mathlib.Core.Path.{_≡_};
-ghost use mathlib.Core.Bool.{_&&_, cond, not};
+ghost use mathlib.Core.Bool.{cond, false};
 ghost use Prim.Native.Nat.{_*_, _≤_, suc, ℕ};
 ghost use lib.ListN.{length};
-ghost use Rattle.parlog.specs.Tables.{at, procsOf};
+ghost use Rattle.parlog.specs.Tables.{at, procsOf, rowSize};
 ghost use Rattle.parlog.specs.Tree.{isChild};
+ghost use Rattle.parlog.specs.declared.Found.the-variants.{Nothing};
+ghost use Rattle.children.specs.declared.News.the-variants.{Silent};
 ghost use Rattle.children.specs.Notes.{foundBy, hear, heardBy, heardIn, newsIn, noneSilent, noteOf, Noted, someBad, someGood};
 ghost use Rattle.children.specs.Telling.{heardOf, Tells};
 use parlog::Found;
+use parlog::codes;
+
+// ---- what was said, in bits: one reports nothing, one success, one failure, and the latest reports
+
+pub const SILENT: u8 = 1;
+
+pub const GOOD: u8 = 2;
+
+pub const BAD: u8 = 4;
+
+pub const LATEST: u8 = 8;
+
+// What one child says: nothing is SILENT.
+pub const SUCCEEDED: u8 = LATEST + GOOD;
+
+pub const FAILED: u8 = LATEST + BAD;
+
+// What is heard of a child that is not the latest.
+const EARLIER: u8 = SILENT + GOOD + BAD;
+
+// ---- what is told
 
 // What the latest child has reported, and its number.
 pub enum News {
@@ -32,14 +55,10 @@ pub struct Note {
     pub lowest: u16,
 }
 
-fn wide(v: u16) -> usize
-    ensures { λ r. ⌜ r ≡ v ⌝ }
-{
-    v as usize
-}
-
 // What is handed on for a process that does not ask.
-pub fn nothing() -> Told {
+pub fn nothing() -> Told
+    ensures { λ r. ⌜ (r .failed ≡ false) × (r .succeeded ≡ false) × (r .hopeless ≡ false) × (r .lowest ≡ Nothing) × (r .latest ≡ Silent) ⌝ }
+{
     Told {
         failed: false,
         succeeded: false,
@@ -53,19 +72,19 @@ pub fn nothing() -> Told {
 
 // What process i tells its parent.
 pub fn note_of(procs: &[u8], n: usize, i: usize) -> u8
-    requires { ⌜ n * 24 ≤ length (now procs) ⌝ }
+    requires { ⌜ n * rowSize ≤ length (now procs) ⌝ }
     ensures { λ r. ⌜ r ≡ noteOf (at (procsOf (now (procs .entry)) n) i) ⌝ }
 {
-    if rows::mode_at(procs, n, i) == 4 {
+    if rows::mode_at(procs, n, i) == codes::REPORTING {
         let told = rows::result_at(procs, n, i);
-        if told == 1 {
-            return 10;
+        if told == codes::SUCCESS {
+            return SUCCEEDED;
         }
-        if told == 2 {
-            return 12;
+        if told == codes::FAILURE {
+            return FAILED;
         }
     }
-    1
+    SILENT
 }
 
 // What was said, and f.
@@ -75,13 +94,7 @@ pub fn with(s: u8, f: u8) -> u8
     if s == 0 {
         return f;
     }
-    s | (f & 7)
-}
-
-pub fn both(a: bool, b: bool) -> bool
-    ensures { λ r. ⌜ r ≡ (a && b) ⌝ }
-{
-    if a { b } else { false }
+    s | (f & EARLIER)
 }
 
 fn choose(b: bool, q: u16, v: u16) -> u16
@@ -95,9 +108,9 @@ fn hear(x: Note, f: u8, q: u16) -> Note
     ensures { λ r. ⌜ r ≡ heardBy x f q ⌝ }
 {
     let said = with(x.said, f);
-    let first = both(x.said == 0, f != 1);
+    let first = basics::and(x.said == 0, f != SILENT);
     let latest = choose(first, q, x.latest);
-    let lowest = choose(f == 10, q, x.lowest);
+    let lowest = choose(f == SUCCEEDED, q, x.lowest);
     Note {
         said: said,
         latest: latest,
@@ -110,13 +123,13 @@ fn hear(x: Note, f: u8, q: u16) -> Note
 pub fn some_bad(s: u8) -> bool
     ensures { λ r. ⌜ r ≡ someBad s ⌝ }
 {
-    s / 4 % 2 == 1
+    s / BAD % 2 == 1
 }
 
 pub fn some_good(s: u8) -> bool
     ensures { λ r. ⌜ r ≡ someGood s ⌝ }
 {
-    s / 2 % 2 == 1
+    s / GOOD % 2 == 1
 }
 
 pub fn none_silent(s: u8) -> bool
@@ -125,31 +138,25 @@ pub fn none_silent(s: u8) -> bool
     s % 2 == 0
 }
 
-fn unless(a: bool, b: bool) -> bool
-    ensures { λ r. ⌜ r ≡ (not a && b) ⌝ }
-{
-    if a { false } else { b }
-}
-
 fn found(b: bool, c: u16) -> Found
     ensures { λ r. ⌜ r ≡ foundBy b c ⌝ }
 {
     if b {
-        return Found::At(wide(c));
+        return Found::At(basics::wide_u16(c));
     }
     Found::Nothing
 }
 
 // What process c has reported.
 fn heard_from(procs: &[u8], n: usize, c: usize) -> News
-    requires { ⌜ n * 24 ≤ length (now procs) ⌝ }
+    requires { ⌜ n * rowSize ≤ length (now procs) ⌝ }
     ensures { λ r. ⌜ heardOf r ≡ heardIn (at (procsOf (now (procs .entry)) n) c) c ⌝ }
 {
     let f = note_of(procs, n, c);
-    if f == 10 {
+    if f == SUCCEEDED {
         return News::Good(c);
     }
-    if f == 12 {
+    if f == FAILED {
         return News::Bad(c);
     }
     News::Silent
@@ -157,26 +164,26 @@ fn heard_from(procs: &[u8], n: usize, c: usize) -> News
 
 // What the latest has reported.
 fn heard(procs: &[u8], n: usize, x: Note) -> News
-    requires { ⌜ n * 24 ≤ length (now procs) ⌝ }
+    requires { ⌜ n * rowSize ≤ length (now procs) ⌝ }
     ensures { λ r. ⌜ heardOf r ≡ newsIn (procsOf (now (procs .entry)) n) x ⌝ }
 {
-    if x.said / 8 % 2 == 1 {
-        return heard_from(procs, n, wide(x.latest));
+    if x.said / LATEST % 2 == 1 {
+        return heard_from(procs, n, basics::wide_u16(x.latest));
     }
     News::Silent
 }
 
 // What the note tells once every row was heard.
 pub fn told_by(procs: &[u8], n: usize, x: Note) -> Told
-    requires { ⌜ n * 24 ≤ length (now procs) ⌝ }
+    requires { ⌜ n * rowSize ≤ length (now procs) ⌝ }
     ensures { λ r. ⌜ ((p : ℕ) → Noted (procsOf (now (procs .entry)) n) p 0 x → Tells (procsOf (now (procs .entry)) n) p r) ⌝ }
 {
     let s = x.said;
     let failed = some_bad(s);
     let good = some_good(s);
     let spoke = none_silent(s);
-    let succeeded = unless(failed, spoke);
-    let hopeless = unless(good, spoke);
+    let succeeded = basics::and(!failed, spoke);
+    let hopeless = basics::and(!good, spoke);
     let lowest = found(good, x.lowest);
     let latest = heard(procs, n, x);
     Told {
@@ -192,18 +199,18 @@ pub fn told_by(procs: &[u8], n: usize, x: Note) -> Told
 
 // Process i counts as a child of p, also where it is dormant.
 fn is_child(procs: &[u8], n: usize, p: usize, i: usize) -> bool
-    requires { ⌜ n * 24 ≤ length (now procs) ⌝ }
+    requires { ⌜ n * rowSize ≤ length (now procs) ⌝ }
     ensures { λ r. ⌜ r ≡ isChild (procsOf (now (procs .entry)) n) p i ⌝ }
 {
     if i == 0 {
         return false;
     }
-    wide(rows::parent_at(procs, n, i)) == p
+    basics::wide_u16(rows::parent_at(procs, n, i)) == p
 }
 
 // Row q is heard if it is a child of p.
 fn listen(procs: &[u8], n: usize, p: usize, q: usize, x: Note) -> Note
-    requires { ⌜ (n * 24 ≤ length (now procs)) × (q ≤ 65535) × Noted (procsOf (now procs) n) p (suc q) x ⌝ }
+    requires { ⌜ (n * rowSize ≤ length (now procs)) × (q ≤ 65535) × Noted (procsOf (now procs) n) p (suc q) x ⌝ }
     ensures { λ r. ⌜ Noted (procsOf (now (procs .entry)) n) p q r ⌝ }
 {
     if !is_child(procs, n, p, q) {
@@ -215,7 +222,7 @@ fn listen(procs: &[u8], n: usize, p: usize, q: usize, x: Note) -> Note
 
 // What the children of p report: one pass over the rows.
 pub fn asked(procs: &[u8], n: usize, p: usize) -> Told
-    requires { ⌜ (n * 24 ≤ length (now procs)) × (n ≤ 65535) ⌝ }
+    requires { ⌜ (n * rowSize ≤ length (now procs)) × (n ≤ 65535) ⌝ }
     ensures { λ r. ⌜ Tells (procsOf (now (procs .entry)) n) p r ⌝ }
 {
     let mut x = Note {

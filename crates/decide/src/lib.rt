@@ -4,14 +4,14 @@ use parlog::Pair;
 use parlog::Term;
 use unify::Unified;
 ghost use mathlib.Core.Path.{_≡_};
-ghost use mathlib.Core.Bool.{Bool, true, false, _&&_, _||_};
 ghost use mathlib.Core.List.{[], _∷_};
 ghost use Prim.Native.Nat.{ℕ, _+_, _*_, _≤_, _<_};
 ghost use lib.ListN.{length, getD, take};
+ghost use Rattle.parlog.specs.declared.Term.the-variants.{Const};
 ghost use Rattle.parlog.specs.Program.{outCount};
 ghost use Rattle.parlog.specs.Tables.{varsIn};
 ghost use Rattle.parlog.specs.Unify.{decide, equateOf, headSide, inputValue, isVar, matchOf, outAfter, pairOf, pairsOf, shift};
-ghost use Rattle.unify.specs.Pending.{AllLower, Below, noChange, pending, top};
+ghost use Rattle.unify.specs.Pending.{Below, noChange, pending, top};
 ghost use Rattle.decide.specs.Decision.{Decides, gather, heldBy, pushOf, Shifted};
 
 // Fails, suspends, or binds.
@@ -42,18 +42,6 @@ pub struct Held {
     pub arity: usize,
     pub modes: [u8; 4],
     pub base: u16,
-}
-
-fn and(a: bool, b: bool) -> bool
-    ensures { λ r. ⌜ r ≡ (a && b) ⌝ }
-{
-    if a { b } else { false }
-}
-
-fn or(a: bool, b: bool) -> bool
-    ensures { λ r. ⌜ r ≡ (a || b) ⌝ }
-{
-    if a { true } else { b }
 }
 
 // The term is the variable v.
@@ -97,7 +85,7 @@ fn is_input(
         let t = shift(a, base);
         let x = unify::value_of(vars, n, t);
         let yes = is_var(x, v);
-        let hit = and(m == 0, yes);
+        let hit = basics::and(m == 0, yes);
         if hit {
             return true;
         }
@@ -114,7 +102,7 @@ fn is_held(vars: &[u8], n: usize, args: [Term; 4], h: Held, v: u32) -> bool
     let modes = h.modes;
     let low = (v as usize) < h.bar;
     let input = is_input(vars, n, modes, args, h.base, h.arity, v);
-    or(low, input)
+    basics::or(low, input)
 }
 
 // One variable more, where it is to be noted.
@@ -222,14 +210,25 @@ fn out_after(m: u8, out: u32) -> u32
     if m == 0 { out } else { out + 1 }
 }
 
-// One argument of the call with one of the head.
-fn pair_of(m: u8, a: Term, base: u16, t: Term, first: u16, out: u32) -> Pair
-    requires { ⌜ (top a + base ≤ 65535) × (top t + first ≤ 65535) × (out ≤ 65540) ⌝ }
-    ensures { λ r. ⌜ r ≡ pairOf m a base t first out ⌝ }
+// Argument k of the call with that of the head.
+fn pair_at(
+    modes: [u8; 4],
+    args: [Term; 4],
+    base: u16,
+    head: [Term; 4],
+    first: u16,
+    k: usize,
+    out: u32,
+) -> Pair
+    requires { ⌜ (k < 4) × (length modes ≡ 4) × (length args ≡ 4) × (length head ≡ 4) × (top (getD args k (Const 0)) + base ≤ 65535) × (top (getD head k (Const 0)) + first ≤ 65535) × (out ≤ 65540) ⌝ }
+    ensures { λ r. ⌜ r ≡ pairOf (getD modes k 0) (getD args k (Const 0)) base (getD head k (Const 0)) first out ⌝ }
 {
-    let l = shift(a, base);
-    let r = head_side(m, t, first, out);
-    Pair { left: l, right: r }
+    let m = modes[k];
+    let a = args[k];
+    let t = head[k];
+    let left = shift(a, base);
+    let right = head_side(m, t, first, out);
+    Pair { left, right }
 }
 
 // The arguments of the call with those of the head, from the left.
@@ -247,22 +246,13 @@ fn pairs_of(
     let m0 = modes[0];
     let m1 = modes[1];
     let m2 = modes[2];
-    let m3 = modes[3];
-    let a0 = args[0];
-    let a1 = args[1];
-    let a2 = args[2];
-    let a3 = args[3];
-    let h0 = head[0];
-    let h1 = head[1];
-    let h2 = head[2];
-    let h3 = head[3];
     let o1 = out_after(m0, own);
     let o2 = out_after(m1, o1);
     let o3 = out_after(m2, o2);
-    let p0 = pair_of(m0, a0, base, h0, first, own);
-    let p1 = pair_of(m1, a1, base, h1, first, o1);
-    let p2 = pair_of(m2, a2, base, h2, first, o2);
-    let p3 = pair_of(m3, a3, base, h3, first, o3);
+    let p0 = pair_at(modes, args, base, head, first, 0, own);
+    let p1 = pair_at(modes, args, base, head, first, 1, o1);
+    let p2 = pair_at(modes, args, base, head, first, 2, o2);
+    let p3 = pair_at(modes, args, base, head, first, 3, o3);
     [p0, p1, p2, p3]
 }
 

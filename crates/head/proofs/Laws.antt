@@ -9,7 +9,7 @@ use native.Mathlib.Nat.{zero-add}
 use native.Mathlib.Numerals.{add-one}
 use Rattle.parlog.proofs.Rows.{build-is, halves, high-half, low-half}
 use Rattle.parlog.specs.Scan.{build}
-use Rattle.parlog.specs.Tables.{headBytes, markerLast, markerSteps, procCount, varCount}
+use Rattle.parlog.specs.Tables.{headBytes, headSize, markerLast, markerSteps, procCount, varCount}
 use Rattle.rows.specs.Rows.{Bytes}
 
 -- the four bytes of a number of turns give it
@@ -33,7 +33,7 @@ module _ (n m last steps : ℕ) where
   unfolding headBytes
   head-steps = steps-back steps
 
-  pub head-length : length (headBytes n m last steps) ≡ 10
+  pub head-length : length (headBytes n m last steps) ≡ headSize
   unfolding headBytes
   head-length = refl
 
@@ -50,11 +50,11 @@ module _ (a b c d : ℕ) (ha : a < 256) (hb : b < 256) (hc : c < 256) (hd : d < 
   word-3 : (a + b * 256 + (c + d * 256) * 65536) / 16777216 ≡ d
   word-3 = omega arith
 
-ten : (h : List ℕ) → length h ≡ 10 → h ≡ build (λ (k : ℕ). getD h k 0) 10
+ten : (h : List ℕ) → length h ≡ headSize → h ≡ build (λ (k : ℕ). getD h k 0) headSize
 ten h e = sym (rw e at (build-is (λ (k : ℕ). getD h k 0) 0 h (λ i u. refl)))
 
 -- ten bytes are the head of their four numbers
-pub head-is : (h : List ℕ) → length h ≡ 10 → Bytes h → h ≡ headBytes (procCount h) (varCount h) (markerLast h) (markerSteps h)
+pub head-is : (h : List ℕ) → length h ≡ headSize → Bytes h → h ≡ headBytes (procCount h) (varCount h) (markerLast h) (markerSteps h)
 unfolding headBytes build
 head-is h len are =
     let b : ℕ → ℕ = λ k. getD h k 0 in

@@ -10,24 +10,18 @@ use borrow.Author.Tests.{eq-eqb, eqb-false, eqb-true, leb-true, lt-ltb, ltb-fals
 use borrow.Author.Count.{below-more}
 use native.Mathlib.Omega.{arith}
 use native.Mathlib.Numerals.{add-one}
-use Rattle.load.proofs.Room.{few-clauses, few-relations}
-use Rattle.load.proofs.Turn.{ends, whole}
-use Rattle.load.specs.Reading.{Arities}
+use Rattle.load_names.specs.Reading.{Arities}
+use Rattle.load.proofs.Room.{block-room, few-clauses, few-relations}
+use Rattle.load.proofs.Turn.{passed}
 use Rattle.parlog.proofs.Along.{along-snoc}
 use Rattle.parlog.proofs.Bools.{and-true, or-false}
-use Rattle.parlog.proofs.Steps.{few}
-use Rattle.parlog.proofs.Stuck.{grown}
+use Rattle.parlog.proofs.Walk.{walk-holds, whole}
 use Rattle.parlog.specs.Body.{askBody, bodyRight, clauseBody, relationBody}
-use Rattle.parlog.specs.Cases.{order}
-use Rattle.parlog.specs.Codes.{none}
-use Rattle.parlog.specs.Image.{byteAt, kindAt, recordAt, recordEnd, wordAt}
-use Rattle.parlog.specs.Limits.{small}
-use Rattle.parlog.specs.Load.{after, blockFull, blockWith, cut, kindFault, loadEnd, loadOf, long, nothingRead, progressed, records, refusal, refuseIf, tooMany, verdict}
+use Rattle.parlog.specs.Load.{after, blockFull, blockWith, broken, judged, kindFault, loadEnd, loadOf, long, nothingRead, progressed, records, refusal, tooMany, verdict}
 use Rattle.parlog.specs.Names.{arityOf, clauseInside, clausePlaced, follows, goalNamed, namesRight, relationNamed}
-use Rattle.parlog.specs.Rules.{room}
+use Rattle.parlog.specs.Records.{byteAt, cut, kindAt, recordAt, recordEnd}
 use Rattle.parlog.specs.Scan.{along}
-use Rattle.parlog.specs.TableRules.{known}
-use Rattle.parlog.specs.Tables.{at, high, low}
+use Rattle.parlog.specs.declared.Loaded.{Loaded}
 use Rattle.parlog.specs.declared.Loaded.the-variants.{Accepted, Refused}
 use Rattle.parlog.specs.declared.Progress.{Progress}
 use Rattle.parlog.specs.declared.Verdict.{Verdict}
@@ -94,10 +88,6 @@ pub record Reached (s : List ℕ) (g : Progress) (at : ℕ) : Type 0 where
   pub goal : g .kind ≡ 3 → GoalRight s (g .relations) (recordAt s (g .relations + g .clauses))
   pub done : g .kind ≡ 3 → at ≡ recordAt s (g .relations + g .clauses + 1)
 
-passed : (b : Bool) (n : ℕ) (v : Verdict) (t : Progress) → refuseIf b n v ≡ Goes t → (b ≡ false) × (v ≡ Goes t)
-passed true n v t e = absurd (let z : _≡_ {A = ℕ} 0 1 = cc in omega arith)
-passed false n v t e = (refl, e)
-
 -- what a record that passes has passed
 pub record Passed (s : List ℕ) (g : Progress) (at : ℕ) (t : Progress) : Type 0 where
   pub kind : kindFault g (kindAt s at) ≡ false
@@ -108,17 +98,16 @@ pub record Passed (s : List ℕ) (g : Progress) (at : ℕ) (t : Progress) : Type
   pub inside : recordEnd s at ≤ length s
   pub next : progressed s g at (kindAt s at) ≡ t
 
-pub all-passed : (s : List ℕ) (g t : Progress) (at : ℕ) → verdict s g at ≡ Goes t → Passed s g at t
+pub all-passed : (s : List ℕ) (g t : Progress) (at : ℕ) → cut s at ≡ false → verdict s g at ≡ Goes t → Passed s g at t
 unfolding verdict
-all-passed s g t at e =
-    let p1 = passed (cut s at) 2 _ t e in
-    let p2 = passed (kindFault g (kindAt s at)) 3 _ t (p1 .1) in
+all-passed s g t at w e =
+    let p2 = passed (kindFault g (kindAt s at)) 3 _ t e in
     let p3 = passed (tooMany g (kindAt s at)) 6 _ t (p2 .1) in
     let p4 = passed (not (bodyRight s at (kindAt s at))) 4 _ t (p3 .1) in
     let p5 = passed (not (namesRight s g at (kindAt s at))) 5 _ t (p4 .1) in
     let p6 = passed (blockFull s g at (kindAt s at)) 6 _ t (p5 .1) in
     let e7 = p6 .1 in
-    record { kind = p2 .0; few = p3 .0; body = not-false _ (p4 .0); names = not-false _ (p5 .0); room = p6 .0; inside = whole s g t at e .1; next = cc }
+    record { kind = p2 .0; few = p3 .0; body = not-false _ (p4 .0); names = not-false _ (p5 .0); room = p6 .0; inside = whole s at w .1; next = cc }
 
 kinds : (g : Progress) (k : ℕ) → kindFault g k ≡ false → (1 ≤ k) × (k ≤ 3) × (g .kind ≤ k) × (g .kind < 3)
 unfolding kindFault
@@ -155,10 +144,6 @@ size-with s g at R its mark = go (g .clauses) refl
         let b = R .block n (sym e) in
         let o = lt-ltb 0 (suc n) (omega arith) in
         rw (e, i, m, l, b, o, add-one)
-
-block-room : (s : List ℕ) (g : Progress) (at : ℕ) → kindAt s at ≡ 2 → blockFull s g at (kindAt s at) ≡ false → blockWith g (byteAt s (at + 4)) (byteAt s (at + 6)) ≤ 8
-unfolding blockFull
-block-room s g at k2 e = ltb-false 8 (blockWith g (byteAt s (at + 4)) (byteAt s (at + 6))) (rw (eq-eqb (kindAt s at) 2 k2) at e)
 
 module _ (s : List ℕ) (g t : Progress) (at : ℕ) (R : Reached s g at) (P : Passed s g at t) where
   reached-relation : kindAt s at ≡ 1 → Reached s (progressed s g at (kindAt s at)) (recordEnd s at)
@@ -205,7 +190,7 @@ module _ (s : List ℕ) (g t : Progress) (at : ℕ) (R : Reached s g at) (P : Pa
       let its : relationOf s (g .relations) (g .clauses) ≡ byteAt s (at + 4) = ap (λ p. byteAt s (p + 4)) (sym at-end) in
       let mark : markOf s (g .relations) (g .clauses) ≡ byteAt s (at + 6) = ap (λ p. byteAt s (p + 6)) (sym at-end) in
       let grown = size-with s g at R its mark in
-      let small = block-room s g at k2 (P .room) in
+      let small = block-room s g at (kindAt s at) k2 (P .room) in
       let room = few-clauses g (kindAt s at) k2 (P .few) in
       rw (n1, eq-eqb (kindAt s at) 2 k2)
       (record {
@@ -318,23 +303,16 @@ module _ (s : List ℕ) (r c : ℕ) (short : length s ≤ 32768) where
         ends = sym (R .done k3) ∙ the-end;
       }))
 
-  -- what the records after the one at `at` show
-  abbrev Rest : ℕ → ℕ → Type 0
-  Rest n at = (t : Progress) → 4 ≤ wordAt s at → Reached s t (recordEnd s at) → records s n (recordEnd s at) t ≡ Accepted r c → Right s r c
-
   from-records : (n at : ℕ) (g : Progress) → length s ≤ at + n → Reached s g at → records s n at g ≡ Accepted r c → Right s r c
-  unfolding records
-  from-records zero at g h R e = from-end g at R (omega arith) e
-  from-records (suc n) at g h R e =
-      end (ltb at (length s)) refl (λ t w R' e'. from-records n (recordEnd s at) t (omega arith) R' e') e
+  from-records = walk-holds s broken (judged s) (loadEnd s) (λ at g. Reached s g at) (λ a. a ≡ Accepted r c → Right s r c)
+      (λ at g R l e q. absurd (let z : _≡_ {A = ℕ} 0 1 = cc in omega arith))
+      (λ at g R l e rest go. turn g at R e rest go (verdict s g at) refl)
+      (λ at g R h q. from-end g at R h q)
     where
-      turn : Rest n at → (v : Verdict) → verdict s g at ≡ v → after (records s n (recordEnd s at)) at v ≡ Accepted r c → Right s r c
-      turn rest (Goes t) ve e' = rest t (whole s g t at ve .0) (reached s g t at R (all-passed s g t at ve)) e'
-      turn rest (Refuses j) ve e' = absurd (let z : _≡_ {A = ℕ} 0 1 = cc in omega arith)
-
-      end : (b : Bool) → ltb at (length s) ≡ b → Rest n at → cond b (after (records s n (recordEnd s at)) at (verdict s g at)) (loadEnd s g) ≡ Accepted r c → Right s r c
-      end true _ rest e' = turn rest (verdict s g at) refl e'
-      end false past rest e' = from-end g at R (ltb-false at (length s) past) e'
+      turn : (g : Progress) (at : ℕ) → Reached s g at → cut s at ≡ false → (rest : Progress → Loaded) → ((t : Progress) → Reached s t (recordEnd s at) → rest t ≡ Accepted r c → Right s r c)
+          → (v : Verdict) → verdict s g at ≡ v → after rest at v ≡ Accepted r c → Right s r c
+      turn g at R e rest go (Goes t) ve q = go t (reached s g t at R (all-passed s g t at e ve)) q
+      turn g at R e rest go (Refuses j) ve q = absurd (let z : _≡_ {A = ℕ} 0 1 = cc in omega arith)
 
 -- before the first record
 pub nothing-reached : (s : List ℕ) → Reached s nothingRead 0

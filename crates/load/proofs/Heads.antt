@@ -10,10 +10,11 @@ use native.Mathlib.Omega.{arith}
 use Rattle.load.proofs.Accepted.{accepted, Right}
 use Rattle.parlog.proofs.Along.{list-at, list-length, list-past}
 use Rattle.parlog.proofs.Bools.{and-true, split}
-use Rattle.parlog.specs.Image.{byteAt, equality, modeEnd, recordAt, recordEnd, termAt, termEnd}
+use Rattle.parlog.specs.Image.{equality, modeEnd, termAt, termEnd}
 use Rattle.parlog.specs.Load.{loadOf}
 use Rattle.parlog.specs.Names.{arityOf, relationNamed}
 use Rattle.parlog.specs.Program.{clauseAt, clauseOf, modesAt, modesOf, programOf}
+use Rattle.parlog.specs.Records.{byteAt, recordAt, recordEnd}
 use Rattle.parlog.specs.declared.Loaded.the-variants.{Accepted}
 use Rattle.place.proofs.Clauses.{clause-here, clause-past}
 

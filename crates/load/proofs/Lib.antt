@@ -1,8 +1,7 @@
 pub mod Room
 pub mod Turn
-pub mod Accepted
 pub mod Inside
-pub mod Rows
+pub mod Accepted
 pub mod Sanity
 pub mod Sizes
 pub mod Heads

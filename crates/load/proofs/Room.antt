@@ -6,9 +6,8 @@ use Prim.Native.Nat.{_+_, _<_, _≤_, ℕ}
 use lib.Dec.{eqb}
 use borrow.Author.Tests.{eq-eqb, leb-false, ltb-false, ne-eqb}
 use native.Mathlib.Omega.{arith}
-use Rattle.parlog.specs.Image.{byteAt}
 use Rattle.parlog.specs.Load.{blockFull, blockWith, tooMany}
-use Rattle.parlog.specs.Tables.{at}
+use Rattle.parlog.specs.Records.{byteAt}
 use Rattle.parlog.specs.declared.Progress.{Progress}
 
 pub few-relations : (g : Progress) (kind : ℕ) → kind ≡ 1 → tooMany g kind ≡ false → g .relations < 32

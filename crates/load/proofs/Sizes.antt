@@ -15,8 +15,9 @@ use Rattle.parlog.proofs.Blocks.{blocks-short, runSize}
 use Rattle.parlog.proofs.Bools.{split}
 use Rattle.parlog.specs.Body.{goalRange}
 use Rattle.parlog.specs.Codes.{Kind, kindOf, the-body, the-goal, the-guard}
-use Rattle.parlog.specs.Image.{bodyAt, byteAt, guardAt, isInput, literalEnd, recordAt, stageEnd}
-use Rattle.parlog.specs.Program.{before, blockOf, clauseAt, clauseOf, committedBody, equation, Goal, goalAt, goalBy, goalOf, Literal, literalOf, modesAt, outCount, outputs, Program, programOf, stageAt, stageOf, varsOf}
+use Rattle.parlog.specs.Image.{bodyAt, guardAt, isInput, literalEnd, stageEnd}
+use Rattle.parlog.specs.Program.{before, blockOf, clauseAt, clauseOf, committedBody, equation, Goal, goalAt, goalBy, goalOf, Literal, literalOf, modesAt, outputs, Program, programOf, stageAt, stageOf}
+use Rattle.parlog.specs.Records.{byteAt, recordAt}
 use Rattle.parlog.specs.declared.Spot.{Spot}
 use Rattle.parlog.specs.declared.Term.{Term}
 use Rattle.place.proofs.Clauses.{clause-count, clause-here, clause-past}
@@ -93,27 +94,3 @@ module _ (s : List ℕ) (r c : ℕ) (ok : Right s r c) where
   -- THE LAW: a block has at most 8 clauses
   pub block-small : (q b : ℕ) → length (blockOf pr q b) ≤ 8
   block-small q b = blocks-short pr 8 (λ k h. let n = clause-count s r c in let l : k < c = omega arith in rw (size-run k l) (ok .blocks k l)) q b
-
-  -- THE LAW: a copy of a clause has at most 20 variables
-  out-few : (ms : List ℕ) → outCount ms ≤ length ms
-  unfolding outCount
-  out-few [] = omega arith
-  out-few (m ∷ ms) = go (isInput m) (out-few ms)
-    where
-      go : (b : Bool) → outCount ms ≤ length ms → cond b (outCount ms) (suc (outCount ms)) ≤ suc (length ms)
-      go true h = omega arith
-      go false h = omega arith
-
-  own-few : (k : ℕ) → clauseAt pr k .vars ≤ 16
-  unfolding clauseOf
-  own-few k = split (ltb k c)
-      (λ h. let l = ltb-true k c h in rw (clause-here s r c k l) (clause-fields s (recordAt s (r + k)) (ok .clause k l .body) .vars))
-      (λ h. rw (clause-past s r c k (ltb-false k c h)) (omega arith))
-
-  pub vars-small : (k : ℕ) → varsOf pr k ≤ 20
-  unfolding varsOf
-  vars-small k =
-      let m = right-sane s r c ok .modes (clauseAt pr k .rel) in
-      let o = out-few (modesAt pr (clauseAt pr k .rel)) in
-      let v = own-few k in
-      omega arith

@@ -7,17 +7,16 @@ use lib.ListN.{getD, length, length-replicate, replicate}
 use native.Mathlib.Omega.{arith}
 use Rattle.load.specs.Bounds.{Bounded}
 use Rattle.load.specs.Fields.{refusalOf}
-use Rattle.machine.proofs.Held.{limits}
 use Rattle.machine.specs.Starting.{BeginSays, SizedOf, StartableSays, StartSays}
 use Rattle.parlog.proofs.Assume.{full-sizes}
 use Rattle.parlog.proofs.Scans.{every-is}
 use Rattle.parlog.specs.Calls.{startCall}
 use Rattle.parlog.specs.Codes.{kindOf, starting, tagCode, the-goal}
-use Rattle.parlog.specs.Limits.{small}
+use Rattle.parlog.specs.Limits.{Limits, Usable}
 use Rattle.parlog.specs.Load.{loadOf, refusal}
 use Rattle.parlog.specs.Program.{goalBy, Program, programOf, tagOfGoal}
 use Rattle.parlog.specs.TableRules.{cellKnown, fullSize}
-use Rattle.parlog.specs.Tables.{bindingBytes, bindingOf, fresh, freshTables, goalSpot, headBytes, Lent, newProcess, noNotes, nowhere, processBytes, procsOf, putTables, rowsBytes, startedLent, varsIn, written, zeros}
+use Rattle.parlog.specs.Tables.{bindingBytes, bindingOf, cellSize, fresh, freshTables, goalSpot, headBytes, Lent, newProcess, noNotes, nowhere, processBytes, procsOf, putTables, rowsBytes, rowSize, startedLent, varsIn, written, zeros}
 use Rattle.parlog.specs.declared.Binding.the-variants.{Free}
 use Rattle.parlog.specs.declared.Loaded.{Loaded}
 use Rattle.parlog.specs.declared.Loaded.the-variants.{Accepted, Refused}
@@ -32,27 +31,27 @@ use Rattle.vars.proofs.Exact.{cells-bytes}
 use Rattle.vars.proofs.Laws.{binding-none, known-none}
 use Rattle.vars.proofs.Tables.{cells-same, vars-is, vars-length}
 
-lent-sized : (r c : ℕ) (l : Lent) → r ≤ 32 → c ≤ 64 → fullSize limits l ≡ true → SizedOf (Accepted r c) l
-lent-sized r c l hr hc e = let (h, p, v) = full-sizes limits l e in (hr, hc, h, p, v)
+lent-sized : (lim : Limits) (r c : ℕ) (l : Lent) → r ≤ 32 → c ≤ 64 → fullSize lim l ≡ true → SizedOf (Accepted r c) lim l
+lent-sized lim r c l hr hc e = let (h, p, v) = full-sizes lim l e in (hr, hc, h, p, v)
 
-module _ (s : List ℕ) (l : Lent) {a : Loaded} (is : a ≡ loadOf s) where
-  pub startable-refused : {f : Refusal} → a ≡ Refused f → StartableSays s l a
+module _ (lim : Limits) (s : List ℕ) (l : Lent) {a : Loaded} (is : a ≡ loadOf s) where
+  pub startable-refused : {f : Refusal} → a ≡ Refused f → StartableSays lim s l a
   unfolding startCall
   startable-refused e = rw e (record { call = rw (sym is ∙ e); sized = tt })
 
-  module _ {r c : ℕ} (e : a ≡ Accepted r c) {ok : Bool} (test : ok ≡ fullSize limits l) where
-    pub startable-turned : ok ≡ false → {f : Refusal} → f ≡ refusal 8 0 → StartableSays s l (Refused f)
-    unfolding startCall small
+  module _ {r c : ℕ} (e : a ≡ Accepted r c) {ok : Bool} (test : ok ≡ fullSize lim l) where
+    pub startable-turned : ok ≡ false → {f : Refusal} → f ≡ refusal 8 0 → StartableSays lim s l (Refused f)
+    unfolding startCall
     startable-turned h ef = record { call = rw (sym is ∙ e, sym test ∙ h, ef); sized = tt }
 
-    pub startable-sized : ok ≡ true → Bounded (length s) a → StartableSays s l (Accepted r c)
-    unfolding startCall small
+    pub startable-sized : ok ≡ true → Bounded (length s) a → StartableSays lim s l (Accepted r c)
+    unfolding startCall
     startable-sized h b =
         let k = rw e at b in
-        record { call = rw (sym is ∙ e, sym test ∙ h); sized = lent-sized r c l (k .0) (k .1) (sym test ∙ h) }
+        record { call = rw (sym is ∙ e, sym test ∙ h); sized = lent-sized lim r c l (k .0) (k .1) (sym test ∙ h) }
 
-pub sized-of : (s : List ℕ) (l : Lent) {a : Loaded} {r c : ℕ} → StartableSays s l a → a ≡ Accepted r c → SizedOf (Accepted r c) l
-sized-of s l h e = rw e at (h .sized)
+pub sized-of : (lim : Limits) (s : List ℕ) (l : Lent) {a : Loaded} {r c : ℕ} → StartableSays lim s l a → a ≡ Accepted r c → SizedOf (Accepted r c) lim l
+sized-of lim s l h e = rw e at (h .sized)
 
 -- ---- the goal's process
 
@@ -66,14 +65,14 @@ process-new pr e = rw e
 wiped-whole : (l : List ℕ) (n : ℕ) → length l ≡ n → wiped l 0 n ≡ zeros n
 wiped-whole l n e = rw e at (wiped-all l)
 
-pub begun-procs : (pr : Program) (l z m : List ℕ) {x : Process} → length l ≡ 12288 → z ≡ wiped l 0 12288 → x ≡ newProcess (tagOfGoal (pr .goal)) starting 0 (goalSpot the-goal 0 0)
-    → Table z m (procsOf z 0 ++ (x ∷ [])) → Bytes m → m ≡ startedLent small pr .procs
-unfolding startedLent putTables freshTables fresh small
-begun-procs pr l z m {x} n ez ex t are =
-    let e : z ≡ zeros 12288 = ez ∙ wiped-whole l 12288 n in
-    let w : Table (zeros 12288) m (x ∷ []) = rw (procs-none z, e) at t in
-    let b = table-bytes w are (omega (arith, zeros-length 12288)) in
-    b ∙ ap (λ (y : Process). written (rowsBytes processBytes (y ∷ [])) (zeros 12288)) ex
+pub begun-procs : (lim : Limits) → Usable lim → (pr : Program) (l z m : List ℕ) {x : Process} → length l ≡ lim .procs * rowSize → z ≡ wiped l 0 (lim .procs * rowSize) → x ≡ newProcess (tagOfGoal (pr .goal)) starting 0 (goalSpot the-goal 0 0)
+    → Table z m (procsOf z 0 ++ (x ∷ [])) → Bytes m → m ≡ startedLent lim pr .procs
+unfolding startedLent putTables freshTables fresh
+begun-procs lim ok pr l z m {x} n ez ex t are =
+    let e : z ≡ zeros (lim .procs * rowSize) = ez ∙ wiped-whole l (lim .procs * rowSize) n in
+    let w : Table (zeros (lim .procs * rowSize)) m (x ∷ []) = rw (procs-none z, e) at t in
+    let b = table-bytes w are (omega (arith, zeros-length (lim .procs * rowSize), ok .goal)) in
+    b ∙ ap (λ (y : Process). written (rowsBytes processBytes (y ∷ [])) (zeros (lim .procs * rowSize))) ex
 
 zeros-zero : (n k : ℕ) → getD (zeros n) k 0 ≡ 0
 unfolding zeros
@@ -108,21 +107,21 @@ free-bytes n g e =
     cells-bytes (cells-same (zeros n) g) full (zeros-are n) (omega (arith, zeros-length n)) in
     rw (zeros-free n g e) at b
 
-module _ (pr : Program) {g : ℕ} (eg : g ≡ pr .goalVars) (small-goal : g ≤ 255) where
-  pub begun : (h p v w : List ℕ) → h ≡ headBytes 1 g 0 0 → p ≡ startedLent small pr .procs → length v ≡ 4096 → w ≡ wiped v 0 4096 → BeginSays pr h p w
-  begun h p v w eh ep n ew = record { head = head-begun h eh; procs = ep; vars = ew ∙ wiped-whole v 4096 n ∙ vars-begun }
+module _ (lim : Limits) (ok : Usable lim) (pr : Program) {g : ℕ} (eg : g ≡ pr .goalVars) (small-goal : g ≤ 255) where
+  pub begun : (h p v w : List ℕ) → h ≡ headBytes 1 g 0 0 → p ≡ startedLent lim pr .procs → length v ≡ lim .vars * cellSize → w ≡ wiped v 0 (lim .vars * cellSize) → BeginSays lim pr h p w
+  begun h p v w eh ep n ew = record { head = head-begun h eh; procs = ep; vars = ew ∙ wiped-whole v (lim .vars * cellSize) n ∙ vars-begun }
     where
-      head-begun : (x : List ℕ) → x ≡ headBytes 1 g 0 0 → x ≡ startedLent small pr .head
+      head-begun : (x : List ℕ) → x ≡ headBytes 1 g 0 0 → x ≡ startedLent lim pr .head
       head-begun x e = unfold startedLent putTables freshTables fresh in rw (length-replicate (pr .goalVars) Free, ← eg) e
 
-      vars-begun : zeros 4096 ≡ startedLent small pr .vars
-      vars-begun = unfold startedLent putTables freshTables fresh small in rw (← eg) (free-bytes 4096 g (omega arith))
+      vars-begun : zeros (lim .vars * cellSize) ≡ startedLent lim pr .vars
+      vars-begun = unfold startedLent putTables freshTables fresh in rw (← eg) (free-bytes (lim .vars * cellSize) g (omega (arith, ok .goal-vars)))
 
 -- ---- the call
 
-module _ (s : List ℕ) (l : Lent) {a : Loaded} (told : StartableSays s l a) where
-  pub start-refused : {f r : Refusal} → a ≡ Refused f → r ≡ refusalOf a → StartSays s l (Unstarted r) (l .head) (l .procs) (l .vars)
+module _ (lim : Limits) (s : List ℕ) (l : Lent) {a : Loaded} (told : StartableSays lim s l a) where
+  pub start-refused : {f r : Refusal} → a ≡ Refused f → r ≡ refusalOf a → StartSays lim s l (Unstarted r) (l .head) (l .procs) (l .vars)
   start-refused e er = let k = rw e at (told .call) in record { answer = rw (k, er, e); head = rw k; procs = rw k; vars = rw k }
 
-  pub start-begun : {r c : ℕ} → a ≡ Accepted r c → {h p v : List ℕ} → BeginSays (programOf s r c) h p v → StartSays s l Begun h p v
+  pub start-begun : {r c : ℕ} → a ≡ Accepted r c → {h p v : List ℕ} → BeginSays lim (programOf s r c) h p v → StartSays lim s l Begun h p v
   start-begun e b = let k = rw e at (told .call) in record { answer = rw k; head = rw k (b .head); procs = rw k (b .procs); vars = rw k (b .vars) }

@@ -8,12 +8,11 @@ use lib.ListN.{length}
 use borrow.Author.Tests.{ltb-true}
 use native.Mathlib.Omega.{arith}
 use Rattle.load.specs.Bounds.{Bounded}
-use Rattle.machine.proofs.Held.{limits}
 use Rattle.machine.specs.Entered.{EnterSays, Inside}
 use Rattle.parlog.proofs.Assume.{assume-counts, full-sizes}
 use Rattle.parlog.proofs.Bools.{and-true}
 use Rattle.parlog.specs.Calls.{enter}
-use Rattle.parlog.specs.Limits.{small}
+use Rattle.parlog.specs.Limits.{Limits}
 use Rattle.parlog.specs.Load.{loadOf, refusal}
 use Rattle.parlog.specs.Program.{programOf}
 use Rattle.parlog.specs.Scan.{every}
@@ -26,15 +25,15 @@ use Rattle.rows.proofs.Tables.{procs-length}
 use Rattle.vars.proofs.Tables.{vars-length}
 
 -- THE LAW: what an accepted image and good tables give
-pub lent-inside : (s : List ℕ) (r c : ℕ) (l : Lent) → loadOf s ≡ Accepted r c → r ≤ 32 → c ≤ 64 → lentOk small (programOf s r c) l ≡ true → Inside s r c l
-unfolding lentOk tablesOk tablesIn small
-lent-inside s r c l el hr hc e =
-    let a = and-true (fullSize limits l) (every (cellKnown (l .vars)) (varCount (l .head)) && tablesOk limits (programOf s r c) (tablesIn l)) e in
-    let b = and-true (every (cellKnown (l .vars)) (varCount (l .head))) (tablesOk limits (programOf s r c) (tablesIn l)) (a .1) in
-    let t = and-true (stateOk limits (programOf s r c) (tablesIn l .state)) (ltb (markerLast (l .head)) (length (tablesIn l .state .procs))) (b .1) in
-    let k = assume-counts limits (programOf s r c) (tablesIn l .state) (t .0) in
+pub lent-inside : (lim : Limits) (s : List ℕ) (r c : ℕ) (l : Lent) → loadOf s ≡ Accepted r c → r ≤ 32 → c ≤ 64 → lentOk lim (programOf s r c) l ≡ true → Inside lim s r c l
+unfolding lentOk tablesOk tablesIn
+lent-inside lim s r c l el hr hc e =
+    let a = and-true (fullSize lim l) (every (cellKnown (l .vars)) (varCount (l .head)) && tablesOk lim (programOf s r c) (tablesIn l)) e in
+    let b = and-true (every (cellKnown (l .vars)) (varCount (l .head))) (tablesOk lim (programOf s r c) (tablesIn l)) (a .1) in
+    let t = and-true (stateOk lim (programOf s r c) (tablesIn l .state)) (ltb (markerLast (l .head)) (length (tablesIn l .state .procs))) (b .1) in
+    let k = assume-counts lim (programOf s r c) (tablesIn l .state) (t .0) in
     let m = ltb-true (markerLast (l .head)) (length (tablesIn l .state .procs)) (t .1) in
-    let (h, p, v) = full-sizes limits l (a .0) in
+    let (h, p, v) = full-sizes lim l (a .0) in
     let np = procs-length (l .procs) (procCount (l .head)) in
     let nv = vars-length (l .vars) (varCount (l .head)) in
     record {
@@ -55,22 +54,22 @@ lent-inside s r c l el hr hc e =
       cells-known = b .0;
     }
 
-module _ (s : List ℕ) (l : Lent) {a : Loaded} (is : a ≡ loadOf s) where
-  pub enter-refused : {f : Refusal} → a ≡ Refused f → EnterSays s l a
+module _ (lim : Limits) (s : List ℕ) (l : Lent) {a : Loaded} (is : a ≡ loadOf s) where
+  pub enter-refused : {f : Refusal} → a ≡ Refused f → EnterSays lim s l a
   unfolding enter
   enter-refused e = rw e (record { entry = rw (sym is ∙ e); inside = tt })
 
-  module _ {r c : ℕ} (e : a ≡ Accepted r c) {ok : Bool} (test : ok ≡ lentOk limits (programOf s r c) l) where
-    pub enter-turned : ok ≡ false → {f : Refusal} → f ≡ refusal 8 0 → EnterSays s l (Refused f)
-    unfolding enter small
+  module _ {r c : ℕ} (e : a ≡ Accepted r c) {ok : Bool} (test : ok ≡ lentOk lim (programOf s r c) l) where
+    pub enter-turned : ok ≡ false → {f : Refusal} → f ≡ refusal 8 0 → EnterSays lim s l (Refused f)
+    unfolding enter
     enter-turned h ef = record { entry = rw (sym is ∙ e, sym test ∙ h, ef); inside = tt }
 
-    pub enter-entered : ok ≡ true → Bounded (length s) a → EnterSays s l (Accepted r c)
-    unfolding enter small
+    pub enter-entered : ok ≡ true → Bounded (length s) a → EnterSays lim s l (Accepted r c)
+    unfolding enter
     enter-entered h b =
         let k = rw e at b in
-        record { entry = rw (sym is ∙ e, sym test ∙ h); inside = lent-inside s r c l (sym is ∙ e) (k .0) (k .1) (unfold small in sym test ∙ h) }
+        record { entry = rw (sym is ∙ e, sym test ∙ h); inside = lent-inside lim s r c l (sym is ∙ e) (k .0) (k .1) (sym test ∙ h) }
 
 -- what a call knows that was let in
-pub inside-of : (s : List ℕ) (l : Lent) {a : Loaded} {r c : ℕ} → EnterSays s l a → a ≡ Accepted r c → Inside s r c l
-inside-of s l h e = rw e at (h .inside)
+pub inside-of : (lim : Limits) (s : List ℕ) (l : Lent) {a : Loaded} {r c : ℕ} → EnterSays lim s l a → a ≡ Accepted r c → Inside lim s r c l
+inside-of lim s l h e = rw e at (h .inside)

@@ -14,11 +14,11 @@ use Rattle.machine.specs.Entered.{EnterSays}
 use Rattle.machine.specs.Supplying.{askedOf, DecidedSays, givenBy, isConst, supplyOf, SupplySays, Writes, WritesOf}
 use Rattle.parlog.proofs.Bools.{never}
 use Rattle.parlog.specs.Calls.{supplyAnswer, supplyCall}
-use Rattle.parlog.specs.Limits.{small}
+use Rattle.parlog.specs.Limits.{Limits}
 use Rattle.parlog.specs.Load.{refusal}
 use Rattle.parlog.specs.Program.{Program, programOf}
 use Rattle.parlog.specs.Run.{supplied, supplyTables, supplyValue, ungiven}
-use Rattle.parlog.specs.Tables.{at, headBytes, Lent, markerLast, markerSteps, numberCode, procCount, putTables, Tables, tablesIn, varCount, varsIn}
+use Rattle.parlog.specs.Tables.{headBytes, Lent, markerLast, markerSteps, numberCode, procCount, putTables, Tables, tablesIn, varCount, varsIn}
 use Rattle.parlog.specs.Unify.{changed, value}
 use Rattle.parlog.specs.declared.Binding.{Binding}
 use Rattle.parlog.specs.declared.Binding.the-variants.{Bound}
@@ -107,27 +107,27 @@ module _ (pr : Program) (l : Lent) (v c : ℕ) where
       by true false h k e = (cc, cc)
       by true true h k e = (term (value vs (Var v)) refl e (ltb-true v (pr .goalVars) h), k)
 
-module _ (s : List ℕ) (l : Lent) (v c : ℕ) {a : Loaded} (told : EnterSays s l a) where
-  pub decided-refused : {f r : Refusal} → a ≡ Refused f → r ≡ refusalOf a → DecidedSays s l v c (Ungiven r)
+module _ (lim : Limits) (s : List ℕ) (l : Lent) (v c : ℕ) {a : Loaded} (told : EnterSays lim s l a) where
+  pub decided-refused : {f r : Refusal} → a ≡ Refused f → r ≡ refusalOf a → DecidedSays lim s l v c (Ungiven r)
   unfolding supplyCall
   decided-refused e er = record { call = rw (told .entry, er, e); writes = tt }
 
-  pub decided-asked : {r k : ℕ} → a ≡ Accepted r k → {x : Supplied} → x ≡ askedOf (programOf s r k) (varsIn (l .vars) (varCount (l .head))) v c → DecidedSays s l v c x
+  pub decided-asked : {r k : ℕ} → a ≡ Accepted r k → {x : Supplied} → x ≡ askedOf (programOf s r k) (varsIn (l .vars) (varCount (l .head))) v c → DecidedSays lim s l v c x
   decided-asked {r} {k} e {x} ex = record { call = whole; writes = writing x ex }
     where
-      whole : supplyCall small s l v c ≡ supplyOf x l c
+      whole : supplyCall lim s l v c ≡ supplyOf x l c
       whole = unfold supplyCall in rw (told .entry, e, ex) (asked-call (programOf s r k) l v c)
 
       writing : (y : Supplied) → y ≡ askedOf (programOf s r k) (varsIn (l .vars) (varCount (l .head))) v c → WritesOf y l c
       writing (Ungiven f) ey = tt
       writing (Given w) ey =
-          let i = inside-of s l told e in
+          let i = inside-of lim s l told e in
           let b = asked-below (programOf s r k) l v c (sym ey) in
           let u = ltb-true w (programOf s r k .goalVars) (b .0) in
           record { row = omega (arith, u, i .goal); constant = leb-true c 32767 (b .1); head = i .head; rows = i .rows; cells = i .cells; cells-known = i .cells-known }
 
-pub writes-of : (s : List ℕ) (l : Lent) (v c : ℕ) {a : Supplied} {w : ℕ} → DecidedSays s l v c a → a ≡ Given w → Writes l w c
-writes-of s l v c h e = rw e at (h .writes)
+pub writes-of : (lim : Limits) (s : List ℕ) (l : Lent) (v c : ℕ) {a : Supplied} {w : ℕ} → DecidedSays lim s l v c a → a ≡ Given w → Writes l w c
+writes-of lim s l v c h e = rw e at (h .writes)
 
 pub constant-small : (c : ℕ) → c ≤ 32767 → numberCode (Bound (Const c)) < 16777216
 constant-small c h = omega arith
@@ -175,14 +175,14 @@ module _ (l : Lent) (w c : ℕ) (can : Writes l w c) where
 
 -- ---- the call
 
-module _ (s : List ℕ) (l : Lent) (v c : ℕ) {a : Supplied} (told : DecidedSays s l v c a) where
-  pub supply-refused : {f : Refusal} → a ≡ Ungiven f → SupplySays s l v c a (l .head) (l .procs) (l .vars)
+module _ (lim : Limits) (s : List ℕ) (l : Lent) (v c : ℕ) {a : Supplied} (told : DecidedSays lim s l v c a) where
+  pub supply-refused : {f : Refusal} → a ≡ Ungiven f → SupplySays lim s l v c a (l .head) (l .procs) (l .vars)
   supply-refused e = let k = rw e at (told .call) in record { answer = rw (k, e); head = rw k; procs = rw k; vars = rw k }
 
   pub supply-given : {w n : ℕ} {m : List ℕ} → a ≡ Given w → n ≡ varCount (l .head)
       → Cells n (l .vars) m (set (varsIn (l .vars) n) w (Bound (Const c)))
-      → Bytes (l .head) → Bytes (l .procs) → Bytes m → SupplySays s l v c (Given w) (l .head) (l .procs) m
+      → Bytes (l .head) → Bytes (l .procs) → Bytes m → SupplySays lim s l v c (Given w) (l .head) (l .procs) m
   supply-given {w} e en t hs ps ms =
       let k = rw e at (told .call) in
-      let can = writes-of s l v c told e in
+      let can = writes-of lim s l v c told e in
       record { answer = rw k; head = rw k (head-stays l w c can hs); procs = rw k (procs-stay l w c can ps); vars = rw k (vars-put l w c can (rw en at t) ms) }

@@ -10,11 +10,11 @@ use Rattle.parlog.proofs.Assume.{assume-counts, full-sizes, sizes-full}
 use Rattle.parlog.proofs.Bools.{and-true}
 use Rattle.parlog.proofs.Kept.{fresh-keeps}
 use Rattle.parlog.proofs.Rows.{rows-length, written-over}
-use Rattle.parlog.specs.Limits.{Limits, small}
+use Rattle.parlog.specs.Limits.{Limits, Usable}
 use Rattle.parlog.specs.Program.{Program}
 use Rattle.parlog.specs.Scan.{every}
 use Rattle.parlog.specs.TableRules.{cellKnown, fullSize, lentOk, stateOk, tablesOk}
-use Rattle.parlog.specs.Tables.{at, bindingBytes, fresh, freshTables, Lent, markerLast, markerSteps, newProcess, procCount, processBytes, procsOf, putTables, rowsBytes, startedLent, Tables, tablesIn, varCount, varsIn, zeros}
+use Rattle.parlog.specs.Tables.{at, bindingBytes, cellSize, fresh, freshTables, headSize, Lent, lent, markerLast, markerSteps, newProcess, procCount, processBytes, procsOf, putTables, rowsBytes, rowSize, startedLent, Tables, tablesIn, varCount, varsIn, zeros}
 use Rattle.rows.proofs.Exact.{table-written}
 use Rattle.rows.proofs.Laws.{row-length, zeros-length}
 use Rattle.rows.proofs.Tables.{procs-length}
@@ -22,10 +22,6 @@ use Rattle.rows.specs.Rows.{Four}
 use Rattle.vars.proofs.Exact.{cells-written}
 use Rattle.vars.proofs.Laws.{cell-length}
 use Rattle.vars.proofs.Tables.{vars-length}
-
--- the limits, as the tests are given them
-abbrev pub limits : Limits
-limits = record { procs = 512; vars = 1024 }
 
 -- bytes with the same three rows
 pub same-lent : (l m : Lent) → l .head ≡ m .head → l .procs ≡ m .procs → l .vars ≡ m .vars → l ≡ m
@@ -49,7 +45,7 @@ module _ (l : Lent) (t : Tables) where
   abbrev m : ℕ
   m = length (t .state .vars)
 
-  pub head-sized : length (putTables l t .head) ≡ 10
+  pub head-sized : length (putTables l t .head) ≡ headSize
   unfolding putTables
   head-sized = head-length n m (t .last) (t .steps)
 
@@ -131,32 +127,30 @@ module _ (lim : Limits) (pr : Program) (l : Lent) (t : Tables) (full : fullSize 
 
 -- ---- what a start leaves
 
-abbrev blank : Lent
-blank = record { head = zeros 10; procs = zeros 12288; vars = zeros 4096 }
+abbrev blank : Limits → Lent
+blank lim = lent (zeros headSize) (zeros (lim .procs * rowSize)) (zeros (lim .vars * cellSize))
 
-blank-full : fullSize small blank ≡ true
-unfolding small
-blank-full = sizes-full limits blank (zeros-length 10) (zeros-length 12288) (zeros-length 4096)
+blank-full : (lim : Limits) → fullSize lim (blank lim) ≡ true
+blank-full lim = sizes-full lim (blank lim) (zeros-length headSize) (zeros-length (lim .procs * rowSize)) (zeros-length (lim .vars * cellSize))
 
-module _ (pr : Program) (few : pr .goalVars ≤ 255) where
-  started-is : startedLent small pr ≡ putTables blank (freshTables pr)
-  unfolding startedLent small
+module _ (lim : Limits) (usable : Usable lim) (pr : Program) (few : pr .goalVars ≤ 255) where
+  started-is : startedLent lim pr ≡ putTables (blank lim) (freshTables pr)
+  unfolding startedLent
   started-is = refl
 
-  pub fresh-good : tablesOk small pr (freshTables pr) ≡ true
-  unfolding small
-  fresh-good = fresh-keeps limits pr (omega arith) (omega arith)
+  pub fresh-good : tablesOk lim pr (freshTables pr) ≡ true
+  fresh-good = fresh-keeps lim pr (usable .goal) (omega (arith, usable .goal-vars))
 
   fresh-four : (i : ℕ) → i < length (freshTables pr .state .procs) → Four (at (freshTables pr .state .procs) i)
   unfolding freshTables fresh newProcess
   fresh-four zero h = refl
   fresh-four (suc i) h = absurd (omega arith)
 
-  pub started-read : tablesIn (startedLent small pr) ≡ freshTables pr
-  started-read = rw started-is (put-read small pr blank (freshTables pr) blank-full fresh-good fresh-four)
+  pub started-read : tablesIn (startedLent lim pr) ≡ freshTables pr
+  started-read = rw started-is (put-read lim pr (blank lim) (freshTables pr) (blank-full lim) fresh-good fresh-four)
 
-  pub started-good : lentOk small pr (startedLent small pr) ≡ true
-  started-good = rw started-is (put-good small pr blank (freshTables pr) blank-full fresh-good fresh-four)
+  pub started-good : lentOk lim pr (startedLent lim pr) ≡ true
+  started-good = rw started-is (put-good lim pr (blank lim) (freshTables pr) (blank-full lim) fresh-good fresh-four)
 
-  pub started-sized : length (startedLent small pr .vars) ≡ 4096
-  started-sized = rw started-is (vars-sized blank (freshTables pr) (cells-fit small pr blank (freshTables pr) blank-full fresh-good) ∙ zeros-length 4096)
+  pub started-sized : length (startedLent lim pr .vars) ≡ lim .vars * cellSize
+  started-sized = rw started-is (vars-sized (blank lim) (freshTables pr) (cells-fit lim pr (blank lim) (freshTables pr) (blank-full lim) fresh-good) ∙ zeros-length (lim .vars * cellSize))

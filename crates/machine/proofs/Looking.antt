@@ -9,7 +9,7 @@ use native.Mathlib.Omega.{arith}
 use Rattle.load.specs.Fields.{refusalOf}
 use Rattle.machine.specs.Entered.{EnterSays}
 use Rattle.parlog.specs.Calls.{valueAnswer, valueCall}
-use Rattle.parlog.specs.Limits.{small}
+use Rattle.parlog.specs.Limits.{Limits}
 use Rattle.parlog.specs.Load.{refusal}
 use Rattle.parlog.specs.Program.{programOf}
 use Rattle.parlog.specs.Run.{seen, unseen, valueTables}
@@ -36,13 +36,13 @@ module _ (k : ℕ) (vs : List Binding) (v : ℕ) {g : ℕ} (eg : g ≡ k) where
   pub look-some : v < g → {t : Term} → t ≡ value vs (Var v) → Value t ≡ valueAnswer (cond (ltb v k) (seen (value vs (Var v))) (unseen 12))
   look-some h et = rw (et, ← eg, lt-ltb v g h)
 
-module _ (s : List ℕ) (l : Lent) (v : ℕ) {a : Loaded} (told : EnterSays s l a) where
-  pub value-refused : {f r : Refusal} → a ≡ Refused f → r ≡ refusalOf a → Unvalued r ≡ valueCall small s l v
+module _ (lim : Limits) (s : List ℕ) (l : Lent) (v : ℕ) {a : Loaded} (told : EnterSays lim s l a) where
+  pub value-refused : {f r : Refusal} → a ≡ Refused f → r ≡ refusalOf a → Unvalued r ≡ valueCall lim s l v
   unfolding valueCall
   value-refused e er = rw (told .entry, er, e)
 
   pub value-looked : {r c : ℕ} → a ≡ Accepted r c → {x : Valued}
       → x ≡ valueAnswer (cond (ltb v (programOf s r c .goalVars)) (seen (value (varsIn (l .vars) (varCount (l .head))) (Var v))) (unseen 12))
-      → x ≡ valueCall small s l v
+      → x ≡ valueCall lim s l v
   unfolding valueCall valueTables tablesIn
   value-looked e ex = rw (told .entry, ex, e)

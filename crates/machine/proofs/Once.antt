@@ -5,19 +5,19 @@ use Prim.Native.Nat.{ℕ}
 use Rattle.machine.specs.Starting.{StartSays}
 use Rattle.machine.specs.Supplying.{SupplySays}
 use Rattle.parlog.specs.Calls.{valueCall}
-use Rattle.parlog.specs.Limits.{small}
+use Rattle.parlog.specs.Limits.{Limits}
 use Rattle.parlog.specs.Tables.{Lent}
 use Rattle.parlog.specs.declared.Started.{Started}
 use Rattle.parlog.specs.declared.Supplied.{Supplied}
 use Rattle.parlog.specs.declared.Valued.{Valued}
 
-pub value-once : (s : List ℕ) (l : Lent) (v : ℕ) (r q : Valued) → r ≡ valueCall small s l v → q ≡ valueCall small s l v → r ≡ q
-value-once s l v r q a b = a ∙ sym b
+pub value-once : (lim : Limits) (s : List ℕ) (l : Lent) (v : ℕ) (r q : Valued) → r ≡ valueCall lim s l v → q ≡ valueCall lim s l v → r ≡ q
+value-once lim s l v r q a b = a ∙ sym b
 
-pub start-once : (s : List ℕ) (l : Lent) (r q : Started) (h p v h′ p′ v′ : List ℕ) → StartSays s l r h p v → StartSays s l q h′ p′ v′
+pub start-once : (lim : Limits) (s : List ℕ) (l : Lent) (r q : Started) (h p v h′ p′ v′ : List ℕ) → StartSays lim s l r h p v → StartSays lim s l q h′ p′ v′
     → (r ≡ q) × (h ≡ h′) × (p ≡ p′) × (v ≡ v′)
-start-once s l r q h p v h′ p′ v′ a b = (a .answer ∙ sym (b .answer), a .head ∙ sym (b .head), a .procs ∙ sym (b .procs), a .vars ∙ sym (b .vars))
+start-once lim s l r q h p v h′ p′ v′ a b = (a .answer ∙ sym (b .answer), a .head ∙ sym (b .head), a .procs ∙ sym (b .procs), a .vars ∙ sym (b .vars))
 
-pub supply-once : (s : List ℕ) (l : Lent) (v c : ℕ) (r q : Supplied) (h p w h′ p′ w′ : List ℕ) → SupplySays s l v c r h p w → SupplySays s l v c q h′ p′ w′
+pub supply-once : (lim : Limits) (s : List ℕ) (l : Lent) (v c : ℕ) (r q : Supplied) (h p w h′ p′ w′ : List ℕ) → SupplySays lim s l v c r h p w → SupplySays lim s l v c q h′ p′ w′
     → (r ≡ q) × (h ≡ h′) × (p ≡ p′) × (w ≡ w′)
-supply-once s l v c r q h p w h′ p′ w′ a b = (a .answer ∙ sym (b .answer), a .head ∙ sym (b .head), a .procs ∙ sym (b .procs), a .vars ∙ sym (b .vars))
+supply-once lim s l v c r q h p w h′ p′ w′ a b = (a .answer ∙ sym (b .answer), a .head ∙ sym (b .head), a .procs ∙ sym (b .procs), a .vars ∙ sym (b .vars))

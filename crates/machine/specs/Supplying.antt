@@ -5,15 +5,14 @@ use mathlib.Core.List.{List}
 use Prim.Native.Nat.{_*_, _<_, _≤_, ℕ}
 use lib.Dec.{leb, ltb}
 use lib.ListN.{length}
-use Rattle.load.specs.Reading.{row}
 use Rattle.parlog.specs.Calls.{SupplyCall, supplyCall}
-use Rattle.parlog.specs.Limits.{small}
+use Rattle.parlog.specs.Limits.{Limits}
 use Rattle.parlog.specs.Load.{refusal}
 use Rattle.parlog.specs.Program.{Program}
 use Rattle.parlog.specs.Run.{supplied}
 use Rattle.parlog.specs.Scan.{every}
 use Rattle.parlog.specs.TableRules.{cellKnown}
-use Rattle.parlog.specs.Tables.{Lent, procCount, putTables, tablesIn, varCount}
+use Rattle.parlog.specs.Tables.{cellSize, headSize, Lent, procCount, putTables, rowSize, tablesIn, varCount}
 use Rattle.parlog.specs.Unify.{value}
 use Rattle.parlog.specs.declared.Binding.{Binding}
 use Rattle.parlog.specs.declared.Supplied.{Supplied}
@@ -44,9 +43,9 @@ supplyOf (Given w) l c = record { answer = Given w; lent = putTables l (supplied
 pub record Writes (l : Lent) (w c : ℕ) : Type 0 where
   pub row : w < varCount (l .head)
   pub constant : c ≤ 32767
-  pub head : length (l .head) ≡ 10
-  pub rows : procCount (l .head) * 24 ≤ length (l .procs)
-  pub cells : varCount (l .head) * 4 ≤ length (l .vars)
+  pub head : length (l .head) ≡ headSize
+  pub rows : procCount (l .head) * rowSize ≤ length (l .procs)
+  pub cells : varCount (l .head) * cellSize ≤ length (l .vars)
   pub cells-known : every (cellKnown (l .vars)) (varCount (l .head)) ≡ true
 
 -- that, where there is something to write
@@ -55,13 +54,13 @@ WritesOf (Ungiven r) l c = Unit {0}
 WritesOf (Given w) l c = Writes l w c
 
 -- Refusals 22: what is decided before anything is written
-pub record DecidedSays (s : List ℕ) (l : Lent) (v c : ℕ) (a : Supplied) : Type 0 where
-  pub call : supplyCall small s l v c ≡ supplyOf a l c
+pub record DecidedSays (lim : Limits) (s : List ℕ) (l : Lent) (v c : ℕ) (a : Supplied) : Type 0 where
+  pub call : supplyCall lim s l v c ≡ supplyOf a l c
   pub writes : WritesOf a l c
 
 -- Turns 6, Refusals 23: the whole call
-pub record SupplySays (s : List ℕ) (l : Lent) (v c : ℕ) (r : Supplied) (h p w : List ℕ) : Type 0 where
-  pub answer : r ≡ supplyCall small s l v c .answer
-  pub head : h ≡ supplyCall small s l v c .lent .head
-  pub procs : p ≡ supplyCall small s l v c .lent .procs
-  pub vars : w ≡ supplyCall small s l v c .lent .vars
+pub record SupplySays (lim : Limits) (s : List ℕ) (l : Lent) (v c : ℕ) (r : Supplied) (h p w : List ℕ) : Type 0 where
+  pub answer : r ≡ supplyCall lim s l v c .answer
+  pub head : h ≡ supplyCall lim s l v c .lent .head
+  pub procs : p ≡ supplyCall lim s l v c .lent .procs
+  pub vars : w ≡ supplyCall lim s l v c .lent .vars

@@ -9,7 +9,7 @@ use parlog::Term;
 use parlog::Valued;
 ghost use mathlib.Core.Path.{_≡_};
 ghost use mathlib.Core.Bool.{cond};
-ghost use Prim.Native.Nat.{_+_, _*_, _≤_, _<_};
+ghost use Prim.Native.Nat.{_*_, _≤_, _<_};
 ghost use lib.Dec.{leb, ltb};
 ghost use lib.ListN.{length};
 ghost use Rattle.parlog.specs.Calls.{valueAnswer, valueCall};
@@ -18,7 +18,7 @@ ghost use Rattle.parlog.specs.Limits.{small};
 ghost use Rattle.parlog.specs.Load.{refusal};
 ghost use Rattle.parlog.specs.Program.{programOf, tagOfGoal};
 ghost use Rattle.parlog.specs.Run.{seen, unseen};
-ghost use Rattle.parlog.specs.Tables.{goalSpot, newProcess, numberCode, startedLent, varCount, varsIn};
+ghost use Rattle.parlog.specs.Tables.{goalSpot, lent, newProcess, numberCode, startedLent, varCount, varsIn};
 ghost use Rattle.parlog.specs.Unify.{value};
 ghost use Rattle.parlog.specs.declared.Binding.the-variants.{Bound};
 ghost use Rattle.parlog.specs.declared.Supplied.the-variants.{Ungiven};
@@ -48,7 +48,7 @@ pub fn refusal(number: u8) -> Refusal
 
 // The image first, then the table rules: the counts of the program, or the refusal.
 pub fn enter(image: &[u8], head: &[u8], procs: &[u8], vars: &[u8]) -> Loaded
-    ensures { λ r. ⌜ EnterSays (now (image .entry)) (record { head = now (head .entry); procs = now (procs .entry); vars = now (vars .entry) }) r ⌝ }
+    ensures { λ r. ⌜ EnterSays small (now (image .entry)) (lent (now (head .entry)) (now (procs .entry)) (now (vars .entry))) r ⌝ }
 {
     let l = load::load(image);
     let Loaded::Accepted(rels, clauses) = l else {
@@ -74,7 +74,7 @@ fn look(
     requires { ⌜ (rels ≤ 32) × (clauses ≤ 64) × (10 ≤ length (now head)) × (varCount (now head) * 4 ≤ length (now vars)) × (programOf (now image) rels clauses .goalVars ≤ varCount (now head)) ⌝ }
     ensures { λ r. ⌜ r ≡ valueAnswer (cond (ltb variable (programOf (now (image .entry)) rels clauses .goalVars)) (seen (value (varsIn (now (vars .entry)) (varCount (now (head .entry)))) (Var variable))) (unseen 12)) ⌝ }
 {
-    let goal = program::goal_vars(image, rels, clauses);
+    let goal = program_clause::goal_vars(image, rels, clauses);
     if goal <= (variable as usize) {
         return Valued::Unvalued(refusal(12));
     }
@@ -85,7 +85,7 @@ fn look(
 
 // The value of a goal variable.
 pub fn value(image: &[u8], head: &[u8], procs: &[u8], vars: &[u8], variable: u32) -> Valued
-    ensures { λ r. ⌜ r ≡ valueCall small (now (image .entry)) (record { head = now (head .entry); procs = now (procs .entry); vars = now (vars .entry) }) variable ⌝ }
+    ensures { λ r. ⌜ r ≡ valueCall small (now (image .entry)) (lent (now (head .entry)) (now (procs .entry)) (now (vars .entry))) variable ⌝ }
 {
     let e = enter(image, head, procs, vars);
     let Loaded::Accepted(rels, clauses) = e else {
@@ -99,7 +99,7 @@ pub fn value(image: &[u8], head: &[u8], procs: &[u8], vars: &[u8], variable: u32
 
 // The image first, then the sizes: the counts of the program, or the refusal.
 fn startable(image: &[u8], head: &[u8], procs: &[u8], vars: &[u8]) -> Loaded
-    ensures { λ r. ⌜ StartableSays (now (image .entry)) (record { head = now (head .entry); procs = now (procs .entry); vars = now (vars .entry) }) r ⌝ }
+    ensures { λ r. ⌜ StartableSays small (now (image .entry)) (lent (now (head .entry)) (now (procs .entry)) (now (vars .entry))) r ⌝ }
 {
     let l = load::load(image);
     let Loaded::Accepted(rels, clauses) = l else {
@@ -116,7 +116,7 @@ fn goal_process(image: &[u8], rels: usize, clauses: usize) -> Process
     requires { ⌜ (rels ≤ 32) × (clauses ≤ 64) ⌝ }
     ensures { λ r. ⌜ r ≡ newProcess (tagOfGoal (programOf (now (image .entry)) rels clauses .goal)) starting 0 (goalSpot the-goal 0 0) ⌝ }
 {
-    let tag = program::tag_of_goal_by(image, rels, clauses, 0, 0);
+    let tag = program_goal::tag_of_goal(image, rels, clauses, 0, 0);
     let spot = Spot {
         kind: 0,
         clause: 0,
@@ -159,9 +159,9 @@ fn begin(
     vars: &mut [u8],
 )
     requires { ⌜ (rels ≤ 32) × (clauses ≤ 64) × (length (now head) ≡ 10) × (length (now procs) ≡ 12288) × (length (now vars) ≡ 4096) ⌝ }
-    ensures { λ _. ⌜ BeginSays (programOf (now (image .entry)) rels clauses) (now (head .exit)) (now (procs .exit)) (now (vars .exit)) ⌝ }
+    ensures { λ _. ⌜ BeginSays small (programOf (now (image .entry)) rels clauses) (now (head .exit)) (now (procs .exit)) (now (vars .exit)) ⌝ }
 {
-    let goal = program::goal_vars(image, rels, clauses);
+    let goal = program_clause::goal_vars(image, rels, clauses);
     begin_procs(image, rels, clauses, procs);
     rows::wipe(vars, 0, VAR_BYTES);
     head::put_head(head, 1, goal, 0, 0);
@@ -169,7 +169,7 @@ fn begin(
 
 // A start: the tables of a run that has not moved yet.
 pub fn start(image: &[u8], head: &mut [u8], procs: &mut [u8], vars: &mut [u8]) -> Started
-    ensures { λ r. ⌜ StartSays (now (image .entry)) (record { head = now (head .entry); procs = now (procs .entry); vars = now (vars .entry) }) r (now (head .exit)) (now (procs .exit)) (now (vars .exit)) ⌝ }
+    ensures { λ r. ⌜ StartSays small (now (image .entry)) (lent (now (head .entry)) (now (procs .entry)) (now (vars .entry))) r (now (head .exit)) (now (procs .exit)) (now (vars .exit)) ⌝ }
 {
     let a = startable(image, head, procs, vars);
     let Loaded::Accepted(rels, clauses) = a else {
@@ -230,7 +230,7 @@ fn asked(
     requires { ⌜ (rels ≤ 32) × (clauses ≤ 64) × (10 ≤ length (now head)) × (varCount (now head) * 4 ≤ length (now vars)) × (programOf (now image) rels clauses .goalVars ≤ varCount (now head)) ⌝ }
     ensures { λ r. ⌜ r ≡ askedOf (programOf (now (image .entry)) rels clauses) (varsIn (now (vars .entry)) (varCount (now (head .entry)))) variable value ⌝ }
 {
-    let goal = program::goal_vars(image, rels, clauses);
+    let goal = program_clause::goal_vars(image, rels, clauses);
     if goal <= (variable as usize) {
         return Supplied::Ungiven(refusal(12));
     }
@@ -248,7 +248,7 @@ fn decided(
     variable: u32,
     value: u32,
 ) -> Supplied
-    ensures { λ r. ⌜ DecidedSays (now (image .entry)) (record { head = now (head .entry); procs = now (procs .entry); vars = now (vars .entry) }) variable value r ⌝ }
+    ensures { λ r. ⌜ DecidedSays small (now (image .entry)) (lent (now (head .entry)) (now (procs .entry)) (now (vars .entry))) variable value r ⌝ }
 {
     let e = enter(image, head, procs, vars);
     let Loaded::Accepted(rels, clauses) = e else {
@@ -267,7 +267,7 @@ pub fn supply(
     variable: u32,
     value: u32,
 ) -> Supplied
-    ensures { λ r. ⌜ SupplySays (now (image .entry)) (record { head = now (head .entry); procs = now (procs .entry); vars = now (vars .entry) }) variable value r (now (head .entry)) (now (procs .entry)) (now (vars .exit)) ⌝ }
+    ensures { λ r. ⌜ SupplySays small (now (image .entry)) (lent (now (head .entry)) (now (procs .entry)) (now (vars .entry))) variable value r (now (head .entry)) (now (procs .entry)) (now (vars .exit)) ⌝ }
 {
     let a = decided(image, head, procs, vars, variable, value);
     let Supplied::Given(v) = a else {

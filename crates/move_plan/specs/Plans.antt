@@ -2,14 +2,14 @@
 use mathlib.Core.Path.{_≡_}
 use mathlib.Core.Bool.{_&&_, Bool, cond, false, true}
 use mathlib.Core.List.{_++_, List}
-use Prim.Native.Nat.{_+_, _<_, ℕ}
+use Prim.Native.Nat.{_*_, _+_, _<_, ℕ}
 use lib.Dec.{leb}
 use lib.ListN.{getD, length, replicate, set, take}
 use Rattle.parlog.specs.Codes.{dormant, Mode, modeCode, Tag, tagCode}
 use Rattle.parlog.specs.Delta.{Delta, rowAfter, withMode}
 use Rattle.parlog.specs.Rules.{Applied, by-rule, no-rule}
 use Rattle.parlog.specs.Scan.{build}
-use Rattle.parlog.specs.Tables.{at, newProcess, numberCode, procsOf, State, varsIn}
+use Rattle.parlog.specs.Tables.{at, newProcess, numberCode, procsOf, rowSize, State, varsIn}
 use Rattle.parlog.specs.Unify.{change, changed}
 use Rattle.parlog.specs.declared.Binding.{Binding}
 use Rattle.parlog.specs.declared.Binding.the-variants.{Bound, Free}
@@ -32,6 +32,14 @@ abbrev pub Born : ℕ → ℕ → ℕ → Spot → Process → Type 0
 Born k j parent z r = (t : Tag) → tagCode t ≡ k → (m : Mode) → modeCode m ≡ j → r ≡ newProcess t m parent z
 
 -- ---- a plan
+
+-- how many new processes a plan has room for
+abbrev pub newMost : ℕ
+newMost = 12
+
+-- the bytes of their rows
+abbrev pub newSize : ℕ
+newSize = newMost * rowSize
 
 -- the bindings that wait, in order
 unfoldable pub changesOf : Changes → List Change

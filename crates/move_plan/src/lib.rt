@@ -6,26 +6,32 @@ ghost use lib.ListN.{getD, length, take};
 ghost use Rattle.parlog.specs.Codes.{kindCode, modeCode, resultCode};
 ghost use Rattle.parlog.specs.Delta.{apply, atBlock, atStage, blockSpot, callSpot, guardSpot, literalSpot, making, only, report, reporting-with, trySpot, withClause, withMode, withNotes, withResult, withSpot, woken};
 ghost use Rattle.parlog.specs.Rules.{by-rule, no-rule};
-ghost use Rattle.parlog.specs.Tables.{goalSpot, procsOf, varsIn};
+ghost use Rattle.parlog.specs.Tables.{cellSize, goalSpot, procsOf, rowSize, varsIn};
 ghost use Rattle.parlog.specs.Unify.{changed};
 ghost use Rattle.rows.specs.Rows.{Table};
 ghost use Rattle.tree.specs.Family.{Falls};
 ghost use Rattle.vars.specs.Cells.{Cells};
-ghost use Rattle.move_plan.specs.Plans.{appliedOf, Born, changesOf, cutBelow, deltaOf, fitsIn, napped, Of, procsAfter, sleptAt, stateIn, varsAfter, Within};
+ghost use Rattle.move_plan.specs.Plans.{appliedOf, Born, changesOf, cutBelow, deltaOf, fitsIn, napped, newMost, Of, procsAfter, sleptAt, stateIn, varsAfter, Within};
 use parlog::Change;
 use parlog::Found;
 use parlog::Move;
 use parlog::Process;
 use parlog::Spot;
 use parlog::Term;
+use parlog::codes;
+
+// How many new processes a plan has room for, and the bytes of their rows.
+pub const NEW_MOST: usize = 12;
+
+pub const NEW_SIZE: usize = NEW_MOST * codes::ROW_SIZE;
 
 // The bindings that wait, in order.
 pub struct Changes {
     pub count: usize,
-    pub list: [Change; 4],
+    pub list: [Change; codes::MOST_ARITY],
 }
 
-// The new processes wait as rows, at most 12.
+// The new processes wait as rows.
 pub struct Plan {
     pub acts: bool,
     pub mv: Move,
@@ -33,7 +39,7 @@ pub struct Plan {
     pub cut: bool,
     pub nap: Found,
     pub count: usize,
-    pub rows: [u8; 288],
+    pub rows: [u8; NEW_SIZE],
     pub changes: Changes,
     pub fresh: usize,
 }
@@ -51,13 +57,13 @@ pub fn with_mode(mut x: Process, mode: u8) -> Process
 pub fn with_result(mut x: Process, result: u8) -> Process
     ensures { λ r. ⌜ Of resultCode result (λ t. withResult t x) r ⌝ }
 {
-    x.mode = 4;
+    x.mode = codes::REPORTING;
     x.result = result;
     x
 }
 
 // Note i of the first `count`; past them, 0.
-fn note_at(notes: [u16; 4], count: u8, i: usize) -> u16
+fn note_at(notes: [u16; codes::MOST_NOTES as usize], count: u8, i: usize) -> u16
     requires { ⌜ i < 4 ⌝ }
     ensures { λ r. ⌜ r ≡ getD (take count notes) i 0 ⌝ }
 {
@@ -69,7 +75,7 @@ fn note_at(notes: [u16; 4], count: u8, i: usize) -> u16
 }
 
 // Suspended, noting the first `count` of these.
-pub fn with_notes(mut x: Process, count: u8, notes: [u16; 4]) -> Process
+pub fn with_notes(mut x: Process, count: u8, notes: [u16; codes::MOST_NOTES as usize]) -> Process
     requires { ⌜ count ≤ 4 ⌝ }
     ensures { λ r. ⌜ r ≡ withNotes (take count notes) x ⌝ }
 {
@@ -79,7 +85,7 @@ pub fn with_notes(mut x: Process, count: u8, notes: [u16; 4]) -> Process
         note_at(notes, count, 2),
         note_at(notes, count, 3),
     ];
-    x.mode = 5;
+    x.mode = codes::SUSPENDED;
     x.count = count;
     x.notes = kept;
     x
@@ -90,7 +96,7 @@ pub fn woken(mut x: Process) -> Process
     ensures { λ r. ⌜ r ≡ woken x ⌝ }
 {
     let notes = [0, 0, 0, 0];
-    x.mode = 2;
+    x.mode = codes::STARTING;
     x.count = 0;
     x.notes = notes;
     x
@@ -167,7 +173,7 @@ pub fn guard_spot(k: u8, v: u16) -> Spot
     ensures { λ r. ⌜ r ≡ guardSpot k v ⌝ }
 {
     Spot {
-        kind: 0,
+        kind: codes::THE_GOAL,
         clause: 0,
         base: 0,
         stage: 0,
@@ -202,7 +208,7 @@ pub fn new_process(tag: u8, mode: u8, parent: usize, z: Spot) -> Process
     Process {
         tag,
         mode,
-        result: 0,
+        result: codes::NONE,
         count: 0,
         parent: parent as u16,
         spot: z,
@@ -225,11 +231,11 @@ pub fn no_changes() -> Changes
 
 // No rule applies.
 pub fn none() -> Plan
-    ensures { λ r. ⌜ (appliedOf r ≡ no-rule) × (r .count ≤ 12) × (r .changes .count ≡ 0) ⌝ }
+    ensures { λ r. ⌜ (appliedOf r ≡ no-rule) × (r .count ≤ newMost) × (r .changes .count ≡ 0) ⌝ }
 {
     let z = guard_spot(0, 0);
-    let x = new_process(0, 0, 0, z);
-    let rows = [0u8; 288];
+    let x = new_process(codes::AND_PAR, codes::DORMANT, 0, z);
+    let rows = [0u8; NEW_SIZE];
     let changes = no_changes();
     Plan {
         acts: false,
@@ -245,9 +251,16 @@ pub fn none() -> Plan
 }
 
 // New processes, and a child that falls asleep.
-pub fn make(mv: Move, x: Process, nap: Found, count: usize, rows: [u8; 288], fresh: usize) -> Plan
-    requires { ⌜ count ≤ 12 ⌝ }
-    ensures { λ r. ⌜ (appliedOf r ≡ by-rule mv (making x nap (procsOf rows count) fresh)) × (r .count ≤ 12) × (r .changes .count ≡ 0) ⌝ }
+pub fn make(
+    mv: Move,
+    x: Process,
+    nap: Found,
+    count: usize,
+    rows: [u8; NEW_SIZE],
+    fresh: usize,
+) -> Plan
+    requires { ⌜ count ≤ newMost ⌝ }
+    ensures { λ r. ⌜ (appliedOf r ≡ by-rule mv (making x nap (procsOf rows count) fresh)) × (r .count ≤ newMost) × (r .changes .count ≡ 0) ⌝ }
 {
     let changes = no_changes();
     Plan {
@@ -265,17 +278,17 @@ pub fn make(mv: Move, x: Process, nap: Found, count: usize, rows: [u8; 288], fre
 
 // The mover alone changes.
 pub fn only(mv: Move, x: Process) -> Plan
-    ensures { λ r. ⌜ (appliedOf r ≡ by-rule mv (only x)) × (r .count ≤ 12) × (r .changes .count ≡ 0) ⌝ }
+    ensures { λ r. ⌜ (appliedOf r ≡ by-rule mv (only x)) × (r .count ≤ newMost) × (r .changes .count ≡ 0) ⌝ }
 {
-    let rows = [0u8; 288];
+    let rows = [0u8; NEW_SIZE];
     make(mv, x, Found::Nothing, 0, rows, 0)
 }
 
 // The mover reports, and binds these.
 pub fn report_with(mv: Move, result: u8, x: Process, changes: Changes) -> Plan
-    ensures { λ r. ⌜ Of resultCode result (λ t. by-rule mv (reporting-with t x (changesOf changes))) (appliedOf r) × (r .count ≤ 12) × (r .changes ≡ changes) × (r .fresh ≡ 0) ⌝ }
+    ensures { λ r. ⌜ Of resultCode result (λ t. by-rule mv (reporting-with t x (changesOf changes))) (appliedOf r) × (r .count ≤ newMost) × (r .changes ≡ changes) × (r .fresh ≡ 0) ⌝ }
 {
-    let rows = [0u8; 288];
+    let rows = [0u8; NEW_SIZE];
     let y = with_result(x, result);
     Plan {
         acts: true,
@@ -291,7 +304,7 @@ pub fn report_with(mv: Move, result: u8, x: Process, changes: Changes) -> Plan
 }
 
 pub fn report(mv: Move, result: u8, x: Process) -> Plan
-    ensures { λ r. ⌜ Of resultCode result (λ t. by-rule mv (report t x)) (appliedOf r) × (r .count ≤ 12) × (r .changes .count ≡ 0) ⌝ }
+    ensures { λ r. ⌜ Of resultCode result (λ t. by-rule mv (report t x)) (appliedOf r) × (r .count ≤ newMost) × (r .changes .count ≡ 0) ⌝ }
 {
     let changes = no_changes();
     report_with(mv, result, x, changes)
@@ -310,15 +323,9 @@ pub fn fits(procs: usize, vars: usize, n: usize, m: usize, plan: Plan) -> bool
 
 // ---- the writers
 
-fn wide(v: u32) -> usize
-    ensures { λ r. ⌜ r ≡ v ⌝ }
-{
-    v as usize
-}
-
 // Where `cut` says so, all below p fall asleep.
 fn cut_below(procs: &mut [u8], n: usize, p: usize, cut: bool)
-    requires { ⌜ (n * 24 ≤ length (now procs)) × (p < n) × Falls (procsOf (now procs) n) ⌝ }
+    requires { ⌜ (n * rowSize ≤ length (now procs)) × (p < n) × Falls (procsOf (now procs) n) ⌝ }
     ensures { λ _. ⌜ Table (now (procs .entry)) (now (procs .exit)) (cutBelow cut (procsOf (now (procs .entry)) n) p) ⌝ }
 {
     if cut {
@@ -327,19 +334,19 @@ fn cut_below(procs: &mut [u8], n: usize, p: usize, cut: bool)
 }
 
 fn sleep_at(procs: &mut [u8], n: usize, c: usize)
-    requires { ⌜ n * 24 ≤ length (now procs) ⌝ }
+    requires { ⌜ n * rowSize ≤ length (now procs) ⌝ }
     ensures { λ _. ⌜ Table (now (procs .entry)) (now (procs .exit)) (sleptAt (procsOf (now (procs .entry)) n) c) ⌝ }
 {
     if c < n {
         let x = rows::get(procs, n, c);
-        let y = with_mode(x, 0);
+        let y = with_mode(x, codes::DORMANT);
         rows::put(procs, n, c, y);
     }
 }
 
 // The child that falls asleep, if there is one.
 fn nap_at(procs: &mut [u8], n: usize, nap: Found)
-    requires { ⌜ n * 24 ≤ length (now procs) ⌝ }
+    requires { ⌜ n * rowSize ≤ length (now procs) ⌝ }
     ensures { λ _. ⌜ Table (now (procs .entry)) (now (procs .exit)) (napped nap (procsOf (now (procs .entry)) n)) ⌝ }
 {
     match nap {
@@ -349,8 +356,8 @@ fn nap_at(procs: &mut [u8], n: usize, nap: Found)
 }
 
 // The first k of these rows follow the first n.
-fn append_all(procs: &mut [u8], n: usize, rows: [u8; 288], k: usize)
-    requires { ⌜ ((n + k) * 24 ≤ length (now procs)) × (k ≤ 12) ⌝ }
+fn append_all(procs: &mut [u8], n: usize, rows: [u8; NEW_SIZE], k: usize)
+    requires { ⌜ ((n + k) * rowSize ≤ length (now procs)) × (k ≤ newMost) ⌝ }
     ensures { λ _. ⌜ Table (now (procs .entry)) (now (procs .exit)) (procsOf (now (procs .entry)) n ++ procsOf rows k) ⌝ }
 {
     let mut i = 0;
@@ -362,14 +369,14 @@ fn append_all(procs: &mut [u8], n: usize, rows: [u8; 288], k: usize)
 }
 
 // The first k of these changes are bound, in order.
-fn bind_all(vars: &mut [u8], m: usize, list: [Change; 4], k: usize)
-    requires { ⌜ (m * 4 ≤ length (now vars)) × (k ≤ 4) × Within m k list ⌝ }
+fn bind_all(vars: &mut [u8], m: usize, list: [Change; codes::MOST_ARITY], k: usize)
+    requires { ⌜ (m * cellSize ≤ length (now vars)) × (k ≤ 4) × Within m k list ⌝ }
     ensures { λ _. ⌜ Cells m (now (vars .entry)) (now (vars .exit)) (changed (varsIn (now (vars .entry)) m) (take k list)) ⌝ }
 {
     let mut i = 0;
     while i < k {
         let c = list[i];
-        let v = wide(c.var);
+        let v = basics::wide_u32(c.var);
         let t = c.to;
         vars::bind(vars, m, v, t);
         i += 1;
@@ -377,7 +384,7 @@ fn bind_all(vars: &mut [u8], m: usize, list: [Change; 4], k: usize)
 }
 
 fn write_procs(procs: &mut [u8], n: usize, p: usize, plan: Plan)
-    requires { ⌜ ((n + plan .count) * 24 ≤ length (now procs)) × (plan .count ≤ 12) × (p < n) × Falls (procsOf (now procs) n) ⌝ }
+    requires { ⌜ ((n + plan .count) * rowSize ≤ length (now procs)) × (plan .count ≤ newMost) × (p < n) × Falls (procsOf (now procs) n) ⌝ }
     ensures { λ _. ⌜ Table (now (procs .entry)) (now (procs .exit)) (procsAfter (procsOf (now (procs .entry)) n) p (deltaOf plan)) ⌝ }
 {
     let me = plan.me;
@@ -390,7 +397,7 @@ fn write_procs(procs: &mut [u8], n: usize, p: usize, plan: Plan)
 }
 
 fn write_vars(vars: &mut [u8], m: usize, plan: Plan)
-    requires { ⌜ ((m + plan .fresh) * 4 ≤ length (now vars)) × (plan .changes .count ≤ 4) × Within (m + plan .fresh) (plan .changes .count) (plan .changes .list) ⌝ }
+    requires { ⌜ ((m + plan .fresh) * cellSize ≤ length (now vars)) × (plan .changes .count ≤ 4) × Within (m + plan .fresh) (plan .changes .count) (plan .changes .list) ⌝ }
     ensures { λ _. ⌜ Cells m (now (vars .entry)) (now (vars .exit)) (varsAfter (varsIn (now (vars .entry)) m) (deltaOf plan)) ⌝ }
 {
     let changes = plan.changes;
@@ -401,7 +408,7 @@ fn write_vars(vars: &mut [u8], m: usize, plan: Plan)
 
 // Carries a plan out.
 pub fn write(procs: &mut [u8], n: usize, vars: &mut [u8], m: usize, p: usize, plan: Plan)
-    requires { ⌜ ((n + plan .count) * 24 ≤ length (now procs)) × (plan .count ≤ 12) × (p < n) × Falls (procsOf (now procs) n) × ((m + plan .fresh) * 4 ≤ length (now vars)) × (plan .changes .count ≤ 4) × Within (m + plan .fresh) (plan .changes .count) (plan .changes .list) ⌝ }
+    requires { ⌜ ((n + plan .count) * rowSize ≤ length (now procs)) × (plan .count ≤ newMost) × (p < n) × Falls (procsOf (now procs) n) × ((m + plan .fresh) * cellSize ≤ length (now vars)) × (plan .changes .count ≤ 4) × Within (m + plan .fresh) (plan .changes .count) (plan .changes .list) ⌝ }
     ensures { λ _. ⌜ Table (now (procs .entry)) (now (procs .exit)) (apply (stateIn (now (procs .entry)) n (now (vars .entry)) m) p (deltaOf plan) .procs) × Cells m (now (vars .entry)) (now (vars .exit)) (apply (stateIn (now (procs .entry)) n (now (vars .entry)) m) p (deltaOf plan) .vars) ⌝ }
 {
     write_procs(procs, n, p, plan);

@@ -10,6 +10,7 @@ use native.Mathlib.Omega.{arith}
 use Rattle.load.proofs.Accepted.{Right}
 use Rattle.load.proofs.Inside.{ask-fields, clause-fields, goal-fields}
 use Rattle.load.proofs.Sizes.{block-small, stage-small}
+use Rattle.move_plan.specs.Plans.{newMost}
 use Rattle.moves.specs.Legal.{Legal}
 use Rattle.parlog.proofs.Along.{along-add, list-at, list-length, list-past}
 use Rattle.parlog.proofs.Assume.{assume-block, assume-known, assume-notes, assume-stage}
@@ -32,7 +33,7 @@ use Rattle.rules_match.specs.Starts.{Headed}
 
 -- how much of a program there is at a place
 pub record Sized (pr : Program) : Type 0 where
-  pub stage : (z : Spot) → length (stageAt pr z) ≤ 12
+  pub stage : (z : Spot) → length (stageAt pr z) ≤ newMost
   pub block : (q b : ℕ) → length (blockOf pr q b) ≤ 8
   pub goal : (z : Spot) → length (goalAt pr z) ≤ 255
   pub clauses : length (pr .clauses) ≤ 255

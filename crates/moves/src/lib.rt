@@ -8,13 +8,14 @@ ghost use Rattle.children.specs.Telling.{Tells};
 ghost use Rattle.parlog.specs.Codes.{tagOf};
 ghost use Rattle.parlog.specs.Program.{programOf, stageAt};
 ghost use Rattle.parlog.specs.Rules.{blockAt, ruleOf, startRule, waitRule};
-ghost use Rattle.parlog.specs.Tables.{at, procsOf, State, varsIn};
+ghost use Rattle.parlog.specs.Tables.{at, cellSize, procsOf, rowSize, State, varsIn};
 ghost use Rattle.parlog.specs.declared.Binding.{Binding};
-ghost use Rattle.move_plan.specs.Plans.{appliedOf, stateIn, Within};
+ghost use Rattle.move_plan.specs.Plans.{appliedOf, newMost, stateIn, Within};
 ghost use Rattle.moves.specs.Legal.{Able, Legal};
 use children::Told;
 use move_plan::Plan;
 use parlog::Process;
+use parlog::codes;
 
 // A process about to start whose rule binds nothing, by its tag.
 fn start_tree(
@@ -26,17 +27,17 @@ fn start_tree(
     p: usize,
     x: Process,
 ) -> Plan
-    requires { ⌜ (rels ≤ 32) × (clauses ≤ 64) × (n ≤ 65535) × (m ≤ 60000) × (p < n) × (x .tag < 9) × (x .tag ≢ 6) × (x .tag ≢ 8) × (length (stageAt (programOf (now image) rels clauses) (x .spot)) ≤ 12) × (length (blockAt (programOf (now image) rels clauses) (x .spot)) ≤ 8) ⌝ }
-    ensures { λ r. ⌜ ((s : State) → length (s .procs) ≡ n → length (s .vars) ≡ m → appliedOf r ≡ startRule (tagOf (x .tag)) (programOf (now (image .entry)) rels clauses) s p x) × (r .count ≤ 12) × (r .changes .count ≡ 0) ⌝ }
+    requires { ⌜ (rels ≤ 32) × (clauses ≤ 64) × (n ≤ 65535) × (m ≤ 60000) × (p < n) × (x .tag < 9) × (x .tag ≢ 6) × (x .tag ≢ 8) × (length (stageAt (programOf (now image) rels clauses) (x .spot)) ≤ newMost) × (length (blockAt (programOf (now image) rels clauses) (x .spot)) ≤ 8) ⌝ }
+    ensures { λ r. ⌜ ((s : State) → length (s .procs) ≡ n → length (s .vars) ≡ m → appliedOf r ≡ startRule (tagOf (x .tag)) (programOf (now (image .entry)) rels clauses) s p x) × (r .count ≤ newMost) × (r .changes .count ≡ 0) ⌝ }
 {
     let t = x.tag;
     match t {
-        0 => rules_and::start_and_par(image, rels, clauses, n, p, x),
-        1 => rules_and::start_and_seq(image, rels, clauses, n, p, x),
-        2 => rules_or::start_or_par(n, p, x),
-        3 => rules_or::start_seq_search(image, rels, clauses, n, p, x),
-        4 => rules_or::start_or_search(image, rels, clauses, n, m, p, x),
-        5 => rules_and::start_try_clause(n, p, x),
+        codes::AND_PAR => rules_and::start_and_par(image, rels, clauses, n, p, x),
+        codes::AND_SEQ => rules_and::start_and_seq(image, rels, clauses, n, p, x),
+        codes::OR_PAR => rules_or::start_or_par(n, p, x),
+        codes::SEQ_SEARCH => rules_or::start_seq_search(image, rels, clauses, n, p, x),
+        codes::OR_SEARCH => rules_or::start_or_search(image, rels, clauses, n, m, p, x),
+        codes::TRY_CLAUSE => rules_and::start_try_clause(n, p, x),
         _ => rules_and::start_guard_eval(image, rels, clauses, n, p, x),
     }
 }
@@ -53,13 +54,13 @@ fn start_rule(
     p: usize,
     x: Process,
 ) -> Plan
-    requires { ⌜ (rels ≤ 32) × (clauses ≤ 64) × (n * 24 ≤ length (now procs)) × (n ≤ 65535) × (m * 4 ≤ length (now vars)) × (m ≤ 60000) × (p < n) × Able (programOf (now image) rels clauses) (varsIn (now vars) m) x ⌝ }
-    ensures { λ r. ⌜ (appliedOf r ≡ startRule (tagOf (x .tag)) (programOf (now (image .entry)) rels clauses) (stateIn (now (procs .entry)) n (now (vars .entry)) m) p x) × (r .count ≤ 12) × (r .changes .count ≤ 4) × Within m (r .changes .count) (r .changes .list) ⌝ }
+    requires { ⌜ (rels ≤ 32) × (clauses ≤ 64) × (n * rowSize ≤ length (now procs)) × (n ≤ 65535) × (m * cellSize ≤ length (now vars)) × (m ≤ 60000) × (p < n) × Able (programOf (now image) rels clauses) (varsIn (now vars) m) x ⌝ }
+    ensures { λ r. ⌜ (appliedOf r ≡ startRule (tagOf (x .tag)) (programOf (now (image .entry)) rels clauses) (stateIn (now (procs .entry)) n (now (vars .entry)) m) p x) × (r .count ≤ newMost) × (r .changes .count ≤ 4) × Within m (r .changes .count) (r .changes .list) ⌝ }
 {
     let t = x.tag;
     match t {
-        6 => rules_match::start_input_match(image, rels, clauses, vars, m, p, x),
-        8 => rules_match::start_equate(image, rels, clauses, procs, n, vars, m, p, x),
+        codes::INPUT_MATCH => rules_match::start_input_match(image, rels, clauses, vars, m, p, x),
+        codes::EQUATE => rules_match::start_equate(image, rels, clauses, procs, n, vars, m, p, x),
         _ => start_tree(image, rels, clauses, n, m, p, x),
     }
 }
@@ -75,18 +76,18 @@ fn wait_rule(
     x: Process,
     told: Told,
 ) -> Plan
-    requires { ⌜ (rels ≤ 32) × (clauses ≤ 64) × (n * 24 ≤ length (now procs)) × (n ≤ 65535) × (p < n) × (x .tag < 9) × (x .tag ≡ 1 → x .spot .stage < 255) × (x .tag ≡ 3 → x .spot .block < 255) × Tells (procsOf (now procs) n) p told ⌝ }
-    ensures { λ r. ⌜ ((vs : List Binding) → appliedOf r ≡ waitRule (tagOf (x .tag)) (programOf (now (image .entry)) rels clauses) (record { procs = procsOf (now (procs .entry)) n; vars = vs }) p x) × (r .count ≤ 12) × (r .changes .count ≡ 0) ⌝ }
+    requires { ⌜ (rels ≤ 32) × (clauses ≤ 64) × (n * rowSize ≤ length (now procs)) × (n ≤ 65535) × (p < n) × (x .tag < 9) × (x .tag ≡ 1 → x .spot .stage < 255) × (x .tag ≡ 3 → x .spot .block < 255) × Tells (procsOf (now procs) n) p told ⌝ }
+    ensures { λ r. ⌜ ((vs : List Binding) → appliedOf r ≡ waitRule (tagOf (x .tag)) (programOf (now (image .entry)) rels clauses) (record { procs = procsOf (now (procs .entry)) n; vars = vs }) p x) × (r .count ≤ newMost) × (r .changes .count ≡ 0) ⌝ }
 {
     let t = x.tag;
     match t {
-        0 => rules_and::wait_and_par(told, p, x),
-        1 => rules_and::wait_and_seq(told, p, x),
-        2 => rules_or::wait_or_par(image, rels, clauses, procs, n, p, x, told),
-        3 => rules_or::wait_seq_search(image, rels, clauses, procs, n, p, x, told),
-        4 => rules_or::wait_or_search(procs, n, p, x, told),
-        5 => rules_and::wait_try_clause(told, p, x),
-        7 => rules_and::wait_guard_eval(told, p, x),
+        codes::AND_PAR => rules_and::wait_and_par(told, p, x),
+        codes::AND_SEQ => rules_and::wait_and_seq(told, p, x),
+        codes::OR_PAR => rules_or::wait_or_par(image, rels, clauses, procs, n, p, x, told),
+        codes::SEQ_SEARCH => rules_or::wait_seq_search(image, rels, clauses, procs, n, p, x, told),
+        codes::OR_SEARCH => rules_or::wait_or_search(procs, n, p, x, told),
+        codes::TRY_CLAUSE => rules_and::wait_try_clause(told, p, x),
+        codes::GUARD_EVAL => rules_and::wait_guard_eval(told, p, x),
         _ => move_plan::none(),
     }
 }
@@ -103,17 +104,17 @@ pub fn rule_of(
     p: usize,
     told: Told,
 ) -> Plan
-    requires { ⌜ (rels ≤ 32) × (clauses ≤ 64) × (n * 24 ≤ length (now procs)) × (n ≤ 65535) × (m * 4 ≤ length (now vars)) × (m ≤ 60000) × (p < n) × Legal (programOf (now image) rels clauses) (stateIn (now procs) n (now vars) m) p × (at (procsOf (now procs) n) p .mode ≡ 3 → Tells (procsOf (now procs) n) p told) ⌝ }
-    ensures { λ r. ⌜ (appliedOf r ≡ ruleOf (programOf (now (image .entry)) rels clauses) (stateIn (now (procs .entry)) n (now (vars .entry)) m) p) × (r .count ≤ 12) × (r .changes .count ≤ 4) × Within m (r .changes .count) (r .changes .list) ⌝ }
+    requires { ⌜ (rels ≤ 32) × (clauses ≤ 64) × (n * rowSize ≤ length (now procs)) × (n ≤ 65535) × (m * cellSize ≤ length (now vars)) × (m ≤ 60000) × (p < n) × Legal (programOf (now image) rels clauses) (stateIn (now procs) n (now vars) m) p × (at (procsOf (now procs) n) p .mode ≡ 3 → Tells (procsOf (now procs) n) p told) ⌝ }
+    ensures { λ r. ⌜ (appliedOf r ≡ ruleOf (programOf (now (image .entry)) rels clauses) (stateIn (now (procs .entry)) n (now (vars .entry)) m) p) × (r .count ≤ newMost) × (r .changes .count ≤ 4) × Within m (r .changes .count) (r .changes .list) ⌝ }
 {
     let x = rows::get(procs, n, p);
     let mode = x.mode;
     match mode {
-        0 => move_plan::none(),
-        1 => rules_and::ready(p, x),
-        2 => start_rule(image, rels, clauses, procs, n, vars, m, p, x),
-        3 => wait_rule(image, rels, clauses, procs, n, p, x, told),
-        4 => rules_and::stop(p, x),
+        codes::DORMANT => move_plan::none(),
+        codes::READY => rules_and::ready(p, x),
+        codes::STARTING => start_rule(image, rels, clauses, procs, n, vars, m, p, x),
+        codes::WAITING => wait_rule(image, rels, clauses, procs, n, p, x, told),
+        codes::REPORTING => rules_and::stop(p, x),
         _ => rules_match::wake(vars, m, p, x),
     }
 }

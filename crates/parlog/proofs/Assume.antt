@@ -24,10 +24,9 @@ use Rattle.parlog.specs.Image.{equality}
 use Rattle.parlog.specs.Limits.{Limits}
 use Rattle.parlog.specs.Notions.{Child, me, Reports}
 use Rattle.parlog.specs.Program.{blockCount, clauseAt, goalAt, literalAt, Program, stageAt, varsOf}
-use Rattle.parlog.specs.Rules.{fits}
 use Rattle.parlog.specs.Scan.{implies}
-use Rattle.parlog.specs.TableRules.{allBelow, blockIn, callIn, clauseIn, equalityIn, foundIn, fullSize, goalIn, goingOk, isEquality, known, literalIn, notesOk, placesOk, stageIn, stateOk, succeeds, tryIn}
-use Rattle.parlog.specs.Tables.{at, Lent, noted, State}
+use Rattle.parlog.specs.TableRules.{allBelow, blockIn, callIn, clauseIn, equalityIn, foundIn, fullSize, goalIn, goingOk, isEquality, literalIn, notesOk, placesOk, stageIn, stateOk, succeeds, tryIn}
+use Rattle.parlog.specs.Tables.{Lent, noted, State}
 use Rattle.parlog.specs.Tree.{reports}
 use Rattle.parlog.specs.declared.Spot.{Spot}
 

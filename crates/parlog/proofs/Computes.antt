@@ -2,38 +2,37 @@
 use mathlib.Core.Path.{_∙_, _≡_, ap, sym}
 use mathlib.Core.Bool.{Bool, false, true}
 use mathlib.Core.List.{[], _∷_, List}
-use Prim.Native.Nat.{_<_, suc, zero, ℕ}
+use Prim.Native.Nat.{_<_, suc, ℕ}
 use lib.Dec.{ltb}
-use lib.ListN.{getD, length}
+use lib.ListN.{length}
 use borrow.Author.Tests.{eq-eqb, le-ltb, lt-ltb, ne-eqb}
-use native.Mathlib.Nat.{le-of-suc-le-suc, not-suc-le-zero}
-use Rattle.parlog.proofs.Bools.{or-right}
 use Rattle.parlog.proofs.Coded.{code-mode, code-tag}
-use Rattle.parlog.proofs.Decided.{binds-decides, fails-decides, input-tells, matches-complete, suspends-decides, Tells}
+use Rattle.parlog.proofs.Decided.{binds-decides, fails-decides, input-tells, suspends-decides, Tells}
 use Rattle.parlog.proofs.Effects.{after-only}
 use Rattle.parlog.proofs.Good.{Good}
 use Rattle.parlog.proofs.Held.{older-tells}
 use Rattle.parlog.proofs.Kin.{all-fail, all-not-any, all-test, any-test, hears-bad, hears-good, lowest-child-is, no-lowest-child}
-use Rattle.parlog.proofs.Placed.{called-only, committed-only, first-only, literal-only, members-only, stage-only, tries-only, works-only}
+use Rattle.parlog.proofs.Matched.{matches-complete}
+use Rattle.parlog.proofs.Noted.{bound-noted}
+use Rattle.parlog.proofs.Openers.{block-counted, block-only, clause-counted, no-block-counted, no-clause-counted}
+use Rattle.parlog.proofs.Placed.{called-only, committed-only, first-only, literal-only, members-only, stage-only, works-only}
 use Rattle.parlog.proofs.Says.{agrees-below, agrees-just, agrees-none, there}
+use Rattle.parlog.proofs.Trying.{tries-only}
 use Rattle.parlog.specs.Codes.{and-par, and-seq, dormant, equate, failure, guard-eval, input-match, or-par, or-search, ready, reporting, seq-search, starting, success, suspended, Tag, tagCode, the-body, the-guard, try-clause, waiting}
 use Rattle.parlog.specs.Delta.{apply, atBlock, atStage, blockSpot, callSpot, Delta, guardSpot, literalSpot, making, only, report, reporting-with, trySpot, withMode, withNotes, withSpot, woken}
-use Rattle.parlog.specs.Notions.{After, Becomes, Below, HasMode, Is, Just, me, Nobody, none-left, Notes, Older}
-use Rattle.parlog.specs.Program.{argument, blockCount, blockOf, clauseAt, Literal, literalAt, modesAt, Program, tagOfGoal, tagOfStage}
+use Rattle.parlog.specs.Notions.{After, Becomes, Below, HasMode, Is, Just, me, Nobody, none-left, NoteBound, Notes, Older}
+use Rattle.parlog.specs.Program.{argument, blockCount, clauseAt, Literal, literalAt, modesAt, Program, tagOfGoal, tagOfStage}
 use Rattle.parlog.specs.Relation.{and-par-failure, and-par-start, and-par-success, and-seq-failure, and-seq-next, and-seq-start, and-seq-success, equate-bind, equate-failure, equate-success, equate-suspend, Equating, guard-eval-empty, guard-eval-failure, guard-eval-start, guard-eval-success, input-match-bind, input-match-failure, input-match-success, input-match-suspend, InputOf, Matching, or-par-failure, or-par-spawn, or-par-start, or-par-success, or-search-commit, or-search-failure, or-search-start, ready-rule, Rule, seq-search-failure, seq-search-next, seq-search-none, seq-search-start, seq-search-success, spotOf, stop-rule, try-clause-failure, try-clause-start, try-clause-success, wake-rule, WithClauseOf}
 use Rattle.parlog.specs.Rules.{andParStart, andParWait, andSeqStart, andSeqWait, blockAt, bodyChild, by-rule, equateAt, equateStart, guardEvalStart, guardEvalWait, inputMatchStart, matchAt, members, orParHeard, orParStart, orParWait, orSearchStart, orSearchWait, ruleIn, ruleOf, searching, seqSearchNext, seqSearchStart, seqSearchWait, startRule, stopRule, tries, triesVars, tryClauseStart, tryClauseWait, waitRule, wakeRule, withFound}
-use Rattle.parlog.specs.Tables.{at, bindingOf, goalSpot, low, newProcess, noted, State}
+use Rattle.parlog.specs.Tables.{goalSpot, newProcess, noted, State}
 use Rattle.parlog.specs.Tree.{enclosing, firstOf}
-use Rattle.parlog.specs.Unify.{binds, decide, Decided, equateOf, fails, inputValue, isBound, matchOf, shift, someBound, suspends}
-use Rattle.parlog.specs.declared.Binding.{Binding}
-use Rattle.parlog.specs.declared.Binding.the-variants.{Bound}
+use Rattle.parlog.specs.Unify.{binds, decide, Decided, equateOf, fails, inputValue, matchOf, shift, someBound, suspends}
 use Rattle.parlog.specs.declared.Change.{Change}
 use Rattle.parlog.specs.declared.Found.the-variants.{At, Nothing}
 use Rattle.parlog.specs.declared.Move.{Move}
 use Rattle.parlog.specs.declared.Move.the-variants.{Ready, Stop, Wake}
 use Rattle.parlog.specs.declared.Pair.{Pair}
 use Rattle.parlog.specs.declared.Process.{Process}
-use Rattle.parlog.specs.declared.Term.{Term}
 
 pub record Computes (pr : Program) (s : State) (p : ℕ) (m : Move) (s′ : State) : Type 0 where
   pub delta : Delta
@@ -89,15 +88,9 @@ module _ (pr : Program) (s : State) (g : Good s) (p : ℕ) where
 
   -- ---- wake
 
-  noted-bound : (vs : List Binding) (ns : List ℕ) (k : ℕ) {t : Term} → k < length ns → bindingOf vs (getD ns k 0) ≡ Bound t → someBound vs ns ≡ true
-  unfolding someBound
-  noted-bound vs [] k h b = absurd (not-suc-le-zero h)
-  noted-bound vs (v ∷ ns) zero h b = rw b
-  noted-bound vs (v ∷ ns) (suc k) h b = or-right (isBound (bindingOf vs v)) (someBound vs ns) (noted-bound vs ns k (le-of-suc-le-suc h) b)
-
-  wake-computes : {s′ : State} (k : ℕ) {t : Term} → HasMode s p suspended → k < length (noted x) → bindingOf (s .vars) (getD (noted x) k 0) ≡ Bound t → Becomes s p (woken x) s′ → Computes pr s p (Wake p) s′
+  wake-computes : {s′ : State} → HasMode s p suspended → NoteBound s p → Becomes s p (woken x) s′ → Computes pr s p (Wake p) s′
   unfolding wakeRule
-  wake-computes k m h b a = record { delta = only (woken x); rule = by-wake m ∙ rw (noted-bound (s .vars) (noted x) k h b); state = only-none (there s p 4 m) a }
+  wake-computes m b a = record { delta = only (woken x); rule = by-wake m ∙ rw (bound-noted s p b); state = only-none (there s p 4 m) a }
 
   stop-computes : {s′ : State} → HasMode s p reporting → p ≡ 0 → Becomes s p (withMode dormant x) s′ → Computes pr s p (Stop 0) s′
   unfolding stopRule
@@ -142,7 +135,7 @@ module _ (pr : Program) (s : State) (g : Good s) (p : ℕ) where
   pub computes : {m : Move} {s′ : State} → Rule pr s p m s′ → Computes pr s p m s′
   unfolding startRule waitRule andParStart andParWait andSeqStart andSeqWait orParStart orParHeard orParWait bodyChild searching seqSearchStart seqSearchNext seqSearchWait withFound orSearchStart orSearchWait blockAt tryClauseStart tryClauseWait inputMatchStart guardEvalStart guardEvalWait equateStart
   computes (ready-rule m a) = record { delta = only (withMode starting x); rule = by-ready m; state = only-none (there s p 0 m) a }
-  computes (wake-rule k m h b a) = wake-computes k m h b a
+  computes (wake-rule m b a) = wake-computes m b a
   computes (stop-rule m e a) = stop-computes m e a
   computes (and-par-start {new = new} i st per f a) =
       let z = stage-only pr (x .spot) st in
@@ -177,29 +170,29 @@ module _ (pr : Program) (s : State) (g : Good s) (p : ℕ) where
   computes (or-par-success {c = c} i h t a) =
       record { delta = report success x; rule = by-wait or-par i ∙ rw (hears-good s p h, ne-eqb (me s c .tag) (tagCode seq-search) t); state = only-below (at-wait or-par i) a }
   computes (or-par-failure i h a) = record { delta = report failure x; rule = by-wait or-par i ∙ rw (hears-bad s p h); state = only-below (at-wait or-par i) a }
-  computes (seq-search-none i k e a) =
-      record { delta = report failure x; rule = by-start seq-search i ∙ rw (called-only pr s p k, e); state = only-below (at-start seq-search i) a }
+  computes (seq-search-none {r = r} i k e a) =
+      record { delta = report failure x; rule = by-start seq-search i ∙ rw (called-only pr s p k, no-clause-counted pr r e); state = only-below (at-start seq-search i) a }
   computes (seq-search-start {r = r} i k h a) =
       record {
         delta = making (withSpot waiting (atBlock 0 (x .spot)) x) Nothing (newProcess or-search starting p (blockSpot (x .spot) 0) ∷ []) 0;
-        rule = by-start seq-search i ∙ rw (called-only pr s p k, lt-ltb 0 (blockCount pr r) h);
+        rule = by-start seq-search i ∙ rw (called-only pr s p k, lt-ltb 0 (blockCount pr r) (clause-counted pr r h));
         state = only-none (at-start seq-search i) a;
       }
   computes (seq-search-next {r = r} {c} i h k l a) =
       record {
         delta = making (withSpot waiting (atBlock (suc (x .spot .block)) (x .spot)) x) (At c) (newProcess or-search starting p (blockSpot (x .spot) (suc (x .spot .block))) ∷ []) 0;
-        rule = by-wait seq-search i ∙ rw (hears-bad s p h, called-only pr s p k, lt-ltb (suc (x .spot .block)) (blockCount pr r) l);
+        rule = by-wait seq-search i ∙ rw (hears-bad s p h, called-only pr s p k, lt-ltb (suc (x .spot .block)) (blockCount pr r) (block-counted pr r (suc (x .spot .block)) l));
         state = only-just (at-wait seq-search i) a;
       }
   computes (seq-search-success {c = c} i h a) =
       record { delta = report success (WithClauseOf s c p); rule = by-wait seq-search i ∙ rw (hears-good s p h); state = only-below (at-wait seq-search i) a }
   computes (seq-search-failure {r = r} i h k l a) =
-      record { delta = report failure x; rule = by-wait seq-search i ∙ rw (hears-bad s p h, called-only pr s p k, le-ltb (suc (x .spot .block)) (blockCount pr r) l); state = only-below (at-wait seq-search i) a }
-  computes (or-search-start {r = r} {new = new} i k t f a) =
+      record { delta = report failure x; rule = by-wait seq-search i ∙ rw (hears-bad s p h, called-only pr s p k, le-ltb (suc (x .spot .block)) (blockCount pr r) (no-block-counted pr r (suc (x .spot .block)) l)); state = only-below (at-wait seq-search i) a }
+  computes (or-search-start {r = r} {ks = ks} {new} i k g t f a) =
       let w = tries-only pr p (x .spot) t in
       record {
-        delta = making (withMode waiting x) Nothing (tries pr p (x .spot) (length (s .vars)) (blockOf pr r (x .spot .block))) (triesVars pr (blockOf pr r (x .spot .block)));
-        rule = by-start or-search i ∙ rw (called-only pr s p k, first-only s p f, w .0);
+        delta = making (withMode waiting x) Nothing (tries pr p (x .spot) (length (s .vars)) ks) (triesVars pr ks);
+        rule = by-start or-search i ∙ rw (called-only pr s p k, block-only pr r (x .spot .block) g, first-only s p f, w .0);
         state = only-none (at-start or-search i) (rw (w .0, w .1) at a);
       }
   computes (or-search-commit {c = c} i l a) =

@@ -2,23 +2,24 @@
 use mathlib.Core.Path.{_∙_, _≡_, ap, refl, sym}
 use mathlib.Core.Logic.{_≢_}
 use mathlib.Core.Bool.{_&&_, _||_, Bool, false, true}
-use mathlib.Core.List.{[], _++_, _∷_, List}
+use mathlib.Core.List.{_++_, List}
 use Prim.Native.Nat.{_+_, _-_, _<_, _≤_, ℕ}
 use lib.Dec.{eqb, ltb}
-use lib.ListN.{getD, length, length-append, length-replicate, length-set, List·getD-append, replicate, set}
+use lib.ListN.{getD, length, length-append, length-replicate, List·getD-append, replicate}
 use lib.Seq.{ext-getD, getD-append-add}
 use borrow.Author.Tests.{eq-eqb, eqb-false, eqb-true, ltb-false, ltb-true, ne-eqb}
 use native.Mathlib.Omega.{arith}
 use Rattle.parlog.proofs.Bools.{not-so, split}
+use Rattle.parlog.proofs.Changing.{changed-is, changed-only}
 use Rattle.parlog.proofs.Scans.{build-at, build-length}
 use Rattle.parlog.specs.Delta.{apply, asleep, Delta, isAt, rowAfter}
 use Rattle.parlog.specs.Notions.{After, me}
 use Rattle.parlog.specs.Scan.{build}
-use Rattle.parlog.specs.Tables.{at, idle, low, State}
+use Rattle.parlog.specs.Tables.{at, idle, State}
 use Rattle.parlog.specs.Tree.{below}
 use Rattle.parlog.specs.Unify.{changed}
 use Rattle.parlog.specs.declared.Binding.{Binding}
-use Rattle.parlog.specs.declared.Binding.the-variants.{Bound, Free}
+use Rattle.parlog.specs.declared.Binding.the-variants.{Free}
 use Rattle.parlog.specs.declared.Change.{Change}
 
 abbrev pub sleepsIn : State → ℕ → Delta → ℕ → Bool
@@ -30,9 +31,7 @@ pub record Agrees (s : State) (p : ℕ) (d : Delta) (Sleeps : ℕ → Type 0) : 
   pub stays : (i : ℕ) → i < length (s .procs) → sleepsIn s p d i ≡ false → Sleeps i → ⊥
 
 pub changed-length : (vs : List Binding) (cs : List Change) → length (changed vs cs) ≡ length vs
-unfolding changed
-changed-length vs [] = refl
-changed-length vs (c ∷ cs) = changed-length (set vs (c .var) (Bound (c .to))) cs ∙ length-set vs (c .var) (Bound (c .to))
+changed-length vs cs = changed-is vs cs .count
 
 module _ (s : State) (p : ℕ) (d : Delta) where
   pub apply-count : length (apply s p d .procs) ≡ length (s .procs) + length (d .new)
@@ -78,7 +77,7 @@ module _ (s : State) (p : ℕ) (d : Delta) where
       slept = λ i h q z. apply-other i h q ∙ rw (slept-by i h z);
       kept = λ i h q n. apply-other i h q ∙ rw (kept-by i h q n);
       created = λ j h. apply-new j;
-      bindings = refl;
+      bindings = changed-is (s .vars ++ replicate (d .fresh) Free) (d .changes);
     }
 
     module _ (s′ : State) (r : After s p (d .me) Sleeps (d .new) (d .changes) (d .fresh) s′) where
@@ -102,7 +101,7 @@ module _ (s : State) (p : ℕ) (d : Delta) where
 
       same-vars : s′ .vars ≡ apply s p d .vars
       unfolding apply
-      same-vars = r .bindings
+      same-vars = changed-only (r .bindings)
 
       pub after-only : s′ ≡ apply s p d
       after-only = λ i. record { procs = same-rows i; vars = same-vars i }

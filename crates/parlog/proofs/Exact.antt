@@ -14,12 +14,11 @@ use Rattle.parlog.proofs.Good.{Good, state-good}
 use Rattle.parlog.proofs.Says.{Says, says, says-rule}
 use Rattle.parlog.specs.Delta.{apply, Delta}
 use Rattle.parlog.specs.Limits.{Limits}
-use Rattle.parlog.specs.Load.{after}
 use Rattle.parlog.specs.Program.{Program}
 use Rattle.parlog.specs.Relation.{Fits, Rule}
 use Rattle.parlog.specs.Rules.{Applied, by-rule, fits, move, moved, no-rule, room, ruleOf, still, withRoom}
 use Rattle.parlog.specs.TableRules.{stateOk}
-use Rattle.parlog.specs.Tables.{at, State}
+use Rattle.parlog.specs.Tables.{State}
 use Rattle.parlog.specs.declared.Move.{Move}
 
 -- the move that a process makes, and the tables after it

@@ -18,7 +18,7 @@ use Rattle.parlog.specs.Limits.{Limits}
 use Rattle.parlog.specs.Notions.{HasMode}
 use Rattle.parlog.specs.Program.{Program}
 use Rattle.parlog.specs.Run.{canMove, given, procsIn, stepped, stepTables, supplied, Supplying, supplyTables, turnFor, turnOf, turnTables, ungiven}
-use Rattle.parlog.specs.Scan.{lowest, orElse, some}
+use Rattle.parlog.specs.Scan.{lowest, orElse}
 use Rattle.parlog.specs.TableRules.{tablesOk}
 use Rattle.parlog.specs.Tables.{Tables}
 use Rattle.parlog.specs.declared.Found.{Found}

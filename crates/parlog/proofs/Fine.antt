@@ -18,7 +18,7 @@ use Rattle.parlog.proofs.Values.{Falling}
 use Rattle.parlog.specs.Codes.{reporting, Result}
 use Rattle.parlog.specs.Delta.{apply, asleep, Delta, making, only, reporting-with, withMode, withResult}
 use Rattle.parlog.specs.Notions.{Below, Child, deeper, HasMode, Hears, me, next-below}
-use Rattle.parlog.specs.Tables.{at, State}
+use Rattle.parlog.specs.Tables.{State}
 use Rattle.parlog.specs.Tree.{below}
 use Rattle.parlog.specs.Unify.{changed}
 use Rattle.parlog.specs.declared.Change.{Change}

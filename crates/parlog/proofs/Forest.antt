@@ -18,7 +18,7 @@ use Rattle.parlog.proofs.Shape.{alone, begins, goes-on, isAwake, isRepo
 use Rattle.parlog.specs.Codes.{dormant, Mode, modeOf, reporting, Result, starting, tagOf, waiting}
 use Rattle.parlog.specs.Delta.{apply, Delta, isAt, withMode, withResult}
 use Rattle.parlog.specs.Notions.{Below, Child, deeper, HasMode, Latest, me, next-below}
-use Rattle.parlog.specs.Tables.{at, State}
+use Rattle.parlog.specs.Tables.{State}
 use Rattle.parlog.specs.Tree.{below, isChild, latest}
 use Rattle.parlog.specs.declared.Found.{Found}
 use Rattle.parlog.specs.declared.Found.the-variants.{At, Nothing}

@@ -17,7 +17,7 @@ use Rattle.parlog.specs.Codes.{and-par, and-seq, equate, guard-eval, inp
 use Rattle.parlog.specs.Notions.{above-parent, deeper, HasTag, is-parent, me, Nearest, next-below, Older, UnderGuard}
 use Rattle.parlog.specs.Relation.{spotOf}
 use Rattle.parlog.specs.TableRules.{makesTag}
-use Rattle.parlog.specs.Tables.{at, State}
+use Rattle.parlog.specs.Tables.{State}
 use Rattle.parlog.specs.Tree.{enclosing, firstOf}
 use Rattle.parlog.specs.declared.Found.{Found}
 use Rattle.parlog.specs.declared.Found.the-variants.{At, Nothing}

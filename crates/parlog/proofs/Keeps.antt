@@ -19,7 +19,7 @@ use Rattle.parlog.specs.Delta.{apply, asleep, Delta, isAt, withMode}
 use Rattle.parlog.specs.Limits.{Limits}
 use Rattle.parlog.specs.Notions.{me}
 use Rattle.parlog.specs.Program.{Program, tagOfGoal}
-use Rattle.parlog.specs.Scan.{each, every, some}
+use Rattle.parlog.specs.Scan.{every}
 use Rattle.parlog.specs.TableRules.{countsOk, kinOk, makesTag, rowOk, stateOk, varOk}
 use Rattle.parlog.specs.Tables.{at, State}
 use Rattle.parlog.specs.Tree.{below, climb}

@@ -22,7 +22,7 @@ use Rattle.parlog.specs.Program.{goalAt, goalBy, Program, tagOfGoal}
 use Rattle.parlog.specs.Rules.{Decision, move, moved, room, still}
 use Rattle.parlog.specs.Run.{given, goalEnded, halt, made, procsIn, runFrom, Running, runStep, runTables, runTest, runTurn, stepBy, stepped, Stepping, stepTables, supplied, supplyTables, supplyValue, turnFor, turnTables, turnTo, ungiven, unmade}
 use Rattle.parlog.specs.TableRules.{goalIn, goalInBy, kinOk, stateOk, tablesOk}
-use Rattle.parlog.specs.Tables.{at, fresh, freshTables, goalSpot, newProcess, Tables}
+use Rattle.parlog.specs.Tables.{fresh, freshTables, goalSpot, newProcess, Tables}
 use Rattle.parlog.specs.Unify.{change, value}
 use Rattle.parlog.specs.declared.Binding.the-variants.{Free}
 use Rattle.parlog.specs.declared.Change.{Change}

@@ -11,13 +11,13 @@ use Rattle.parlog.proofs.Bools.{and-true, implies-true, never, not-so, 
 use Rattle.parlog.proofs.Scans.{every-at, every-is, highest-at, highest-is, lowest-at, lowest-is, lowest-none, lowest-nothing, some-is, some-true}
 use Rattle.parlog.specs.Codes.{failure, isMode, isResult, isTag, modeCode, reporting, Result, resultCode, success, tagCode, try-clause}
 use Rattle.parlog.specs.Notions.{above-parent, AllReport, Below, Child, deeper, Hears, is-parent, Latest, LowestReports, me, Nearest, next-below, Reports, SomeReports}
-use Rattle.parlog.specs.Tables.{at, State}
+use Rattle.parlog.specs.Tables.{rank, State}
 use Rattle.parlog.specs.Tree.{allChildren, anyChild, bad, below, childDone, childReports, climb, enclosing, good, heard, heardFrom, isChild, latest, lowestChild, reports, silent, tryAbove}
 use Rattle.parlog.specs.declared.Found.{Found}
 use Rattle.parlog.specs.declared.Found.the-variants.{At, Nothing}
 
 pub record Kin (s : State) : Type 0 where
-  pub lower : (i : ℕ) → i < length (s .procs) → i ≢ 0 → me s i .parent < i
+  pub lower : (i : ℕ) → i < length (s .procs) → i ≢ 0 → rank (s .procs) (me s i .parent) < rank (s .procs) i
 
 module _ (s : State) (p : ℕ) where
   pub child-at : (i : ℕ) → i < length (s .procs) → isChild (s .procs) p i ≡ true → Child s p i

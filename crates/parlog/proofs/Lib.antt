@@ -1,11 +1,19 @@
 -- Laws of the definitions, and the theorems over them.
 pub mod Bools
 pub mod Scans
+pub mod Limits
 pub mod Along
+pub mod Walk
 pub mod Blocks
+pub mod Listing
+pub mod Openers
+pub mod Trying
+pub mod Outputs
+pub mod Matched
 pub mod Coded
 pub mod Rows
 pub mod Kin
+pub mod Changing
 pub mod Effects
 pub mod Placed
 pub mod Values
@@ -22,6 +30,7 @@ pub mod Moves
 pub mod Kept
 pub mod Assume
 pub mod Held
+pub mod Noted
 pub mod Says
 pub mod Computes
 pub mod Exact

@@ -16,7 +16,7 @@ use Rattle.parlog.specs.Image.{equality}
 use Rattle.parlog.specs.Program.{blockCount, blockOf, clauseAt, committedBody, Goal, goalAt, goalBy, inBlock, Literal, literalAt, noLiteral, Program, stageAt, tagOfGoal, tagOfLiteral, tagOfStage, varsOf}
 use Rattle.parlog.specs.Rules.{bodyChild, member, members, memberTag, tries, triesVars}
 use Rattle.parlog.specs.Scan.{build, those}
-use Rattle.parlog.specs.TableRules.{blockIn, callIn, clauseIn, equalityIn, foundIn, goalIn, goalInBy, isEquality, known, literalIn, makesTag, placesOk, stageIn, tryIn}
+use Rattle.parlog.specs.TableRules.{blockIn, callIn, clauseIn, equalityIn, foundIn, goalIn, goalInBy, isEquality, literalIn, makesTag, placesOk, stageIn, tryIn}
 use Rattle.parlog.specs.Tables.{goalSpot, newProcess}
 use Rattle.parlog.specs.declared.Process.{Process}
 use Rattle.parlog.specs.declared.Spot.{Spot}

@@ -24,10 +24,9 @@ use Rattle.parlog.specs.Limits.{Limits}
 use Rattle.parlog.specs.Notions.{Child, Hears, me, Reports}
 use Rattle.parlog.specs.Program.{blockCount, blockOf, clauseAt, Goal, goalAt, literalAt, Program, stageAt}
 use Rattle.parlog.specs.Rules.{andParStart, andParWait, andSeqStart, andSeqWait, Applied, blockAt, bodyChild, by-rule, equateAt, equateStart, fits, guardEvalStart, guardEvalWait, inputMatchStart, matchAt, members, move, moved, no-rule, orParHeard, orParStart, orParWait, orSearchStart, orSearchWait, room, ruleIn, ruleOf, searching, seqSearchNext, seqSearchStart, seqSearchWait, startRule, stopRule, tries, triesVars, tryClauseStart, tryClauseWait, waitRule, wakeRule, withFound, withRoom}
-use Rattle.parlog.specs.Run.{made}
 use Rattle.parlog.specs.Scan.{implies}
 use Rattle.parlog.specs.TableRules.{allBelow, blockIn, callIn, equalityIn, foundIn, goalIn, goingOk, isEquality, literalIn, makesTag, notesOk, placesOk, resultOk, stageIn, stateOk, succeeds, tryIn}
-use Rattle.parlog.specs.Tables.{at, idle, newProcess, noted, State}
+use Rattle.parlog.specs.Tables.{idle, newProcess, noted, State}
 use Rattle.parlog.specs.Tree.{bad, enclosing, firstOf, good, Heard, heard, lowestChild, reports, silent}
 use Rattle.parlog.specs.Unify.{binds, Decided, fails, suspends}
 use Rattle.parlog.specs.declared.Change.{Change}

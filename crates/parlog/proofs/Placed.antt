@@ -1,45 +1,23 @@
 -- Goals, stages, literals, committed bodies and new processes: the functions give what the relation says, and nothing else is.
-use mathlib.Core.Path.{_∙_, _≡_, ap, refl, sym}
-use mathlib.Core.Bool.{Bool, cond, false, true}
+use mathlib.Core.Path.{_∙_, _≡_, refl, sym}
 use mathlib.Core.List.{[], _∷_, List}
-use Prim.Native.Nat.{_+_, _<_, suc, ℕ}
+use Prim.Native.Nat.{_<_, ℕ}
 use lib.ListN.{length}
 use lib.Seq.{ext-getD}
-use borrow.Author.Tests.{eq-eqb, eqb-false, eqb-true, ne-eqb}
 use native.Mathlib.Omega.{arith}
 use Rattle.parlog.proofs.Coded.{kind-code}
+use Rattle.parlog.proofs.Outputs.{outputs-are, outputs-only}
 use Rattle.parlog.proofs.Scans.{build-at, build-length}
-use Rattle.parlog.specs.Codes.{Kind, kindCode, kindOf, ready, the-body, the-goal, the-guard, try-clause}
-use Rattle.parlog.specs.Delta.{trySpot}
-use Rattle.parlog.specs.Image.{isInput}
-use Rattle.parlog.specs.Notions.{a-new-one, a-trial, an-output, as-it-stands, AtLiteral, AtStage, Committed, FirstMade, in-body, in-front, in-goal, in-guard, itself, no-argument, no-term, no-trial, one-stage, Outputs, OutputsOf, PerLiteral, skip-input, Trials, Works}
-use Rattle.parlog.specs.Program.{before, Clause, clauseAt, committedBody, equation, Goal, goalAt, goalBy, Literal, literalAt, modesAt, outputs, Program, stageAt, varsOf}
+use Rattle.parlog.specs.Codes.{Kind, kindCode, kindOf, the-body, the-goal, the-guard}
+use Rattle.parlog.specs.Notions.{a-new-one, as-it-stands, AtLiteral, AtStage, Committed, FirstMade, in-body, in-front, in-goal, in-guard, itself, one-stage, OutputsOf, PerLiteral, Works}
+use Rattle.parlog.specs.Program.{before, Clause, clauseAt, committedBody, Goal, goalAt, goalBy, Literal, literalAt, modesAt, outputs, Program, stageAt}
 use Rattle.parlog.specs.Relation.{Called, spotOf}
-use Rattle.parlog.specs.Rules.{firstMade, member, members, memberTag, tries, triesVars}
-use Rattle.parlog.specs.Tables.{idle, newProcess, State}
+use Rattle.parlog.specs.Rules.{firstMade, member, members, memberTag}
+use Rattle.parlog.specs.Tables.{idle, State}
 use Rattle.parlog.specs.declared.Process.{Process}
 use Rattle.parlog.specs.declared.Spot.{Spot}
-use Rattle.parlog.specs.declared.Term.{Term}
 
 -- ---- the committed body
-
-outputs-by : (m : ℕ) (ms : List ℕ) (t : Term) (ts : List Term) (v : ℕ) (b : Bool) → isInput m ≡ b → Outputs ms ts v (outputs ms ts v) → Outputs ms ts (suc v) (outputs ms ts (suc v))
-    → Outputs (m ∷ ms) (t ∷ ts) v (cond b (outputs ms ts v) (equation t v ∷ outputs ms ts (suc v)))
-outputs-by m ms t ts v true e a o = skip-input (eqb-true m 0 e) a
-outputs-by m ms t ts v false e a o = an-output (eqb-false m 0 e) o
-
-pub outputs-are : (ms : List ℕ) (ts : List Term) (v : ℕ) → Outputs ms ts v (outputs ms ts v)
-unfolding outputs
-outputs-are [] ts v = no-argument
-outputs-are (m ∷ ms) [] v = no-term
-outputs-are (m ∷ ms) (t ∷ ts) v = outputs-by m ms t ts v (isInput m) refl (outputs-are ms ts v) (outputs-are ms ts (suc v))
-
-pub outputs-only : {ms : List ℕ} {ts : List Term} {v : ℕ} {es : List Literal} → Outputs ms ts v es → outputs ms ts v ≡ es
-unfolding outputs
-outputs-only no-argument = refl
-outputs-only no-term = refl
-outputs-only (skip-input {m} e o) = rw (eq-eqb m 0 e) (outputs-only o)
-outputs-only (an-output {m} {t = t} {v = v} e o) = rw (ne-eqb m 0 e) (ap (λ r. equation t v ∷ r) (outputs-only o))
 
 committed-by : (pr : Program) (c : Clause) (es : List Literal) (g : Goal) → OutputsOf pr c es → c .body ≡ g → Committed pr c (before es g)
 unfolding before
@@ -107,18 +85,6 @@ pub members-only : (pr : Program) (p : ℕ) (z : Spot) {new : List Process} → 
 members-only pr p z {new} a =
     let b = members-are pr p z in
     ext-getD idle new (members pr p z) (a .count ∙ sym (b .count)) (λ i h. let c = a .count in a .child i (omega arith) ∙ sym (b .child i (omega arith)))
-
-pub tries-are : (pr : Program) (p : ℕ) (z : Spot) (v : ℕ) (ks : List ℕ) → Trials pr p z v ks (tries pr p z v ks) (triesVars pr ks)
-unfolding tries triesVars
-tries-are pr p z v [] = no-trial
-tries-are pr p z v (k ∷ ks) = a-trial (tries-are pr p z (v + varsOf pr k) ks)
-
-pub tries-only : (pr : Program) (p : ℕ) (z : Spot) {v : ℕ} {ks : List ℕ} {ys : List Process} {n : ℕ} → Trials pr p z v ks ys n → (ys ≡ tries pr p z v ks) × (n ≡ triesVars pr ks)
-unfolding tries triesVars
-tries-only pr p z no-trial = (refl, refl)
-tries-only pr p z (a-trial {v} {k} {n} t) =
-    let r = tries-only pr p z t in
-    (ap (λ l. newProcess try-clause ready p (trySpot z k v) ∷ l) (r .0), ap (λ m. varsOf pr k + m) (r .1))
 
 pub first-is : (s : State) (p : ℕ) (new : List Process) → FirstMade s p new (firstMade s p new)
 first-is s p [] = itself

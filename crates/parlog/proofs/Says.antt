@@ -1,38 +1,39 @@
 -- What the function answers, the relation has: every rule that `ruleOf` gives holds, with the tables that `apply` makes.
 use mathlib.Core.Path.{_∙_, _≡_, ap, refl, sym}
-use mathlib.Core.Bool.{_||_, Bool, false, true}
+use mathlib.Core.Bool.{Bool, false, true}
 use mathlib.Core.List.{[], _∷_, List}
 use Prim.Native.Nat.{_<_, suc, zero, ℕ}
 use lib.Dec.{ltb}
-use lib.ListN.{getD, length, List·getD-eq-default}
+use lib.ListN.{length, List·getD-eq-default}
 use borrow.Author.Tests.{eqb-false, eqb-true, ltb-false, ltb-true}
 use native.Mathlib.Omega.{arith}
 use Rattle.parlog.proofs.Bools.{never, or-none, split}
 use Rattle.parlog.proofs.Coded.{mode-code, tag-code}
-use Rattle.parlog.proofs.Decided.{decide-binds, decide-fails, decide-suspends, input-tells, matches-sound, Tells}
+use Rattle.parlog.proofs.Decided.{decide-binds, decide-fails, decide-suspends, input-tells, Tells}
 use Rattle.parlog.proofs.Effects.{after-apply, Agrees}
 use Rattle.parlog.proofs.Good.{Good}
 use Rattle.parlog.proofs.Held.{older-tells}
 use Rattle.parlog.proofs.Kin.{all-at, any-at, below-at, below-test, heard-bad, heard-good, Kin, lowest-child-at}
-use Rattle.parlog.proofs.Placed.{called-is, committed-is, first-is, literal-is, members-are, stage-is, tries-are, works-is}
+use Rattle.parlog.proofs.Matched.{matches-sound}
+use Rattle.parlog.proofs.Noted.{note-bound}
+use Rattle.parlog.proofs.Openers.{block-counted, block-is, clause-counted, has-block, has-clause}
+use Rattle.parlog.proofs.Placed.{called-is, committed-is, first-is, literal-is, members-are, stage-is, works-is}
+use Rattle.parlog.proofs.Trying.{tries-are}
 use Rattle.parlog.specs.Codes.{and-par, and-seq, dormant, equate, failure, guard-eval, input-match, isTag, Mode, modeCode, modeOf, or-par, or-search, ready, reporting, Result, seq-search, starting, success, suspended, Tag, tagCode, tagOf, the-guard, try-clause, waiting}
 use Rattle.parlog.specs.Delta.{apply, atBlock, atStage, blockSpot, callSpot, Delta, guardSpot, literalSpot, making, only, reporting-with, trySpot, withMode, withNotes, withResult, withSpot, woken}
 use Rattle.parlog.specs.Notions.{After, Becomes, Below, HasMode, Hears, Is, Just, me, Nobody, Older, ReportsWith}
 use Rattle.parlog.specs.Program.{argument, blockCount, blockOf, callModes, clauseAt, Goal, goalAt, literalAt, Program, stageAt, tagOfGoal, tagOfStage}
 use Rattle.parlog.specs.Relation.{and-par-failure, and-par-start, and-par-success, and-seq-failure, and-seq-next, and-seq-start, and-seq-success, equate-bind, equate-failure, equate-success, equate-suspend, Equating, guard-eval-empty, guard-eval-failure, guard-eval-start, guard-eval-success, input-match-bind, input-match-failure, input-match-success, input-match-suspend, InputOf, Matching, or-par-failure, or-par-spawn, or-par-start, or-par-success, or-search-commit, or-search-failure, or-search-start, ready-rule, Rule, seq-search-failure, seq-search-next, seq-search-none, seq-search-start, seq-search-success, spotOf, stop-rule, try-clause-failure, try-clause-start, try-clause-success, wake-rule, WithClauseOf}
 use Rattle.parlog.specs.Rules.{andParStart, andParWait, andSeqStart, andSeqWait, Applied, blockAt, bodyChild, by-rule, equateAt, equateStart, guardEvalStart, guardEvalWait, inputMatchStart, matchAt, members, no-rule, orParHeard, orParStart, orParWait, orSearchStart, orSearchWait, ruleIn, ruleOf, searching, seqSearchNext, seqSearchStart, seqSearchWait, startRule, stopRule, tries, triesVars, tryClauseStart, tryClauseWait, waitRule, wakeRule, withFound}
-use Rattle.parlog.specs.Tables.{bindingOf, goalSpot, idle, low, newProcess, noted, State}
+use Rattle.parlog.specs.Tables.{goalSpot, idle, newProcess, noted, State}
 use Rattle.parlog.specs.Tree.{allChildren, anyChild, bad, below, enclosing, firstOf, good, Heard, heard, lowestChild, silent}
-use Rattle.parlog.specs.Unify.{binds, decide, Decided, equateOf, fails, inputValue, isBound, matchOf, pairsOf, shift, someBound, suspends}
-use Rattle.parlog.specs.declared.Binding.{Binding}
-use Rattle.parlog.specs.declared.Binding.the-variants.{Bound, Free}
+use Rattle.parlog.specs.Unify.{binds, decide, Decided, equateOf, fails, inputValue, matchOf, pairsOf, shift, someBound, suspends}
 use Rattle.parlog.specs.declared.Change.{Change}
 use Rattle.parlog.specs.declared.Found.{Found}
 use Rattle.parlog.specs.declared.Found.the-variants.{At, Nothing}
 use Rattle.parlog.specs.declared.Move.{Move}
 use Rattle.parlog.specs.declared.Pair.{Pair}
 use Rattle.parlog.specs.declared.Process.{Process}
-use Rattle.parlog.specs.declared.Term.{Term}
 
 pub data Says (pr : Program) (s : State) (p : ℕ) : Applied → Type 0 where
   says-none : Says pr s p no-rule
@@ -135,16 +136,18 @@ module _ (pr : Program) (s : State) (g : Good s) (p : ℕ) where
     unfolding seqSearchStart searching
     says-search-start i false q =
         let l = ltb-false 0 (blockCount pr rel) q in
-        says-rule (seq-search-none i (called-is pr s p kind) (omega arith) (reports-so low failure x []))
+        says-rule (seq-search-none i (called-is pr s p kind) (λ c. let m = clause-counted pr rel c in omega arith) (reports-so low failure x []))
     says-search-start i true q =
-        says-rule (seq-search-start i (called-is pr s p kind) (ltb-true 0 (blockCount pr rel) q)
+        says-rule (seq-search-start i (called-is pr s p kind) (has-clause pr rel (ltb-true 0 (blockCount pr rel) q))
         (creates low (withSpot waiting (atBlock 0 (x .spot)) x) (newProcess or-search starting p (blockSpot (x .spot) 0) ∷ []) 0))
 
     says-search-next : Is s p seq-search waiting → (c : ℕ) → Hears s p c failure → (b : Bool) → ltb (suc (x .spot .block)) (blockCount pr rel) ≡ b → Says pr s p (seqSearchNext b s p x c)
     unfolding seqSearchNext searching
-    says-search-next i c h false q = says-rule (seq-search-failure i h (called-is pr s p kind) (ltb-false (suc (x .spot .block)) (blockCount pr rel) q) (reports-so low failure x []))
+    says-search-next i c h false q =
+        let l = ltb-false (suc (x .spot .block)) (blockCount pr rel) q in
+        says-rule (seq-search-failure i h (called-is pr s p kind) (λ g. let m = block-counted pr rel (suc (x .spot .block)) g in omega arith) (reports-so low failure x []))
     says-search-next i c h true q =
-        says-rule (seq-search-next i h (called-is pr s p kind) (ltb-true (suc (x .spot .block)) (blockCount pr rel) q)
+        says-rule (seq-search-next i h (called-is pr s p kind) (has-block pr rel (suc (x .spot .block)) (ltb-true (suc (x .spot .block)) (blockCount pr rel) q))
         (replaces low c (withSpot waiting (atBlock (suc (x .spot .block)) (x .spot)) x) (newProcess or-search starting p (blockSpot (x .spot) (suc (x .spot .block))) ∷ []) 0))
 
     says-search-wait : Is s p seq-search waiting → (h : Heard) → heard (s .procs) p ≡ h → Says pr s p (seqSearchWait h (blockCount pr rel) s p x)
@@ -239,7 +242,7 @@ module _ (pr : Program) (s : State) (g : Good s) (p : ℕ) where
     says-start or-par i = says-rule (or-par-start i (creates low (withMode waiting x) (newProcess seq-search starting p (callSpot (x .spot)) ∷ []) 0))
     says-start seq-search i = says-search-start i (ltb 0 (blockCount pr rel)) refl
     says-start or-search i =
-        says-rule (or-search-start i (called-is pr s p kind) (tries-are pr p (x .spot) (length (s .vars)) (blockOf pr rel (x .spot .block)))
+        says-rule (or-search-start i (called-is pr s p kind) (block-is pr rel (x .spot .block)) (tries-are pr p (x .spot) (length (s .vars)) (blockOf pr rel (x .spot .block)))
         (first-is s p (tries pr p (x .spot) (length (s .vars)) (blockOf pr rel (x .spot .block))))
         (creates low (withMode waiting x) (tries pr p (x .spot) (length (s .vars)) (blockOf pr rel (x .spot .block))) (triesVars pr (blockOf pr rel (x .spot .block)))))
     says-start try-clause i =
@@ -263,20 +266,9 @@ module _ (pr : Program) (s : State) (g : Good s) (p : ℕ) where
 
   -- ---- wake and stop
 
-  some-noted : (vs : List Binding) (ns : List ℕ) → someBound vs ns ≡ true → (k : ℕ) × (t : Term) × (k < length ns) × (bindingOf vs (getD ns k 0) ≡ Bound t)
-  unfolding someBound
-  some-noted vs [] e = never e
-  some-noted vs (v ∷ ns) e = on (bindingOf vs v) refl e (λ w. some-noted vs ns w)
-    where
-      on : (b : Binding) → bindingOf vs v ≡ b → (isBound b || someBound vs ns) ≡ true
-          → (someBound vs ns ≡ true → (k : ℕ) × (t : Term) × (k < length ns) × (bindingOf vs (getD ns k 0) ≡ Bound t))
-          → (k : ℕ) × (t : Term) × (k < suc (length ns)) × (bindingOf vs (getD (v ∷ ns) k 0) ≡ Bound t)
-      on Free q w rest = let (k, t, h, b) = rest w in (suc k, t, omega arith, b)
-      on (Bound t) q w rest = (0, t, omega arith, q)
-
   says-wake : p < length (s .procs) → HasMode s p suspended → (b : Bool) → someBound (s .vars) (noted x) ≡ b → Says pr s p (wakeRule b p x)
   unfolding wakeRule
-  says-wake low m true q = let (k, t, h, b) = some-noted (s .vars) (noted x) q in says-rule (wake-rule k m h b (becomes low (woken x)))
+  says-wake low m true q = says-rule (wake-rule m (note-bound s p q) (becomes low (woken x)))
   says-wake low m false q = says-none
 
   says-stop : p < length (s .procs) → HasMode s p reporting → (q : ℕ) → p ≡ q → Says pr s p (stopRule q x)

@@ -19,7 +19,6 @@ use Rattle.parlog.specs.Delta.{Delta, literalSpot, making, only, report,
 use Rattle.parlog.specs.Notions.{Hears, me}
 use Rattle.parlog.specs.Program.{Goal, Program, varsOf}
 use Rattle.parlog.specs.Rules.{andParStart, andParWait, andSeqStart, andSeqWait, Applied, bodyChild, by-rule, equateAt, equateStart, guardEvalStart, guardEvalWait, inputMatchStart, matchAt, members, no-rule, orParHeard, orParStart, orParWait, orSearchStart, orSearchWait, ruleIn, ruleOf, searching, seqSearchNext, seqSearchStart, seqSearchWait, startRule, stopRule, tries, tryClauseStart, tryClauseWait, waitRule, wakeRule, withFound}
-use Rattle.parlog.specs.Scan.{some}
 use Rattle.parlog.specs.Tables.{at, newProcess, State}
 use Rattle.parlog.specs.Tree.{bad, good, Heard, heard, silent}
 use Rattle.parlog.specs.Unify.{binds, changed, Decided, equateOf, fails, matchOf, suspends}

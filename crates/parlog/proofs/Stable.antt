@@ -30,7 +30,7 @@ use Rattle.parlog.specs.Program.{Program}
 use Rattle.parlog.specs.Rules.{Applied, by-rule, no-rule, ruleOf}
 use Rattle.parlog.specs.Run.{canMove, given, isRule, supplied, supplyTables, supplyValue, ungiven}
 use Rattle.parlog.specs.TableRules.{stateOk}
-use Rattle.parlog.specs.Tables.{at, idle, noted, State, Tables}
+use Rattle.parlog.specs.Tables.{idle, noted, State, Tables}
 use Rattle.parlog.specs.Tree.{allChildren, anyChild, bad, below, good, Heard, heard, lowestChild, silent}
 use Rattle.parlog.specs.Unify.{value}
 use Rattle.parlog.specs.declared.Binding.{Binding}

@@ -20,7 +20,6 @@ use Rattle.parlog.specs.Codes.{dormant}
 use Rattle.parlog.specs.Delta.{apply, Delta}
 use Rattle.parlog.specs.Demands.{at-start, by-number, by-supply, by-turn, Reached}
 use Rattle.parlog.specs.Limits.{Limits}
-use Rattle.parlog.specs.Load.{after}
 use Rattle.parlog.specs.Notions.{HasMode}
 use Rattle.parlog.specs.Program.{Program}
 use Rattle.parlog.specs.Rules.{Applied, by-rule, fits, move, moved, no-rule, room, ruleOf, withRoom}

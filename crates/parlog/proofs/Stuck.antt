@@ -26,8 +26,7 @@ use Rattle.parlog.specs.Program.{Program}
 use Rattle.parlog.specs.Rules.{by-rule, ruleOf}
 use Rattle.parlog.specs.Run.{canMove, made, procsIn, stepped, stepTables, supplied}
 use Rattle.parlog.specs.Scan.{every, implies}
-use Rattle.parlog.specs.TableRules.{known}
-use Rattle.parlog.specs.Tables.{at, fresh, freshTables, idle, newProcess, State, Tables}
+use Rattle.parlog.specs.Tables.{fresh, freshTables, idle, newProcess, State, Tables}
 use Rattle.parlog.specs.Tree.{allChildren, anyChild, childDone, heard, isChild, latest, lowestChild, reports}
 use Rattle.parlog.specs.declared.Found.{Found}
 use Rattle.parlog.specs.declared.Found.the-variants.{At, Nothing}

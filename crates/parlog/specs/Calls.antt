@@ -27,7 +27,7 @@ pub data Entry : Type 0 where
   turned-away : Refusal → Entry
   entered : Program → Tables → Entry
 
--- Refusals 21: tables that break a rule turn it away
+-- Refusals 18, 21: tables that break a rule turn it away
 abbrev pub enterBy : Bool → Program → Lent → Entry
 enterBy false pr l = turned-away (refusal 8 0)
 enterBy true pr l = entered pr (tablesIn l)
@@ -37,7 +37,7 @@ abbrev pub enterLoaded : Loaded → Limits → List ℕ → Lent → Entry
 enterLoaded (Refused r) lim s l = turned-away r
 enterLoaded (Accepted r c) lim s l = enterBy (lentOk lim (programOf s r c) l) (programOf s r c) l
 
--- what every call but load and start does first
+-- Refusals 20, 21: what every call but load and start does first
 unfoldable pub enter : Limits → List ℕ → Lent → Entry
 enter lim s l = enterLoaded (loadOf s) lim s l
 
@@ -61,12 +61,12 @@ pub record SupplyCall : Type 0 where
   pub answer : Supplied
   pub lent : Lent
 
--- Refusals 21: a start looks at the sizes only
+-- Refusals 18, 21, 23: a start looks at the sizes only
 abbrev pub startBy : Bool → Limits → Program → Lent → StartCall
 startBy false lim pr l = record { answer = Unstarted (refusal 8 0); lent = l }
 startBy true lim pr l = record { answer = Begun; lent = startedLent lim pr }
 
--- Refusals 20: and at the image first
+-- Refusals 20, 23: and at the image first
 abbrev pub startLoaded : Loaded → Limits → List ℕ → Lent → StartCall
 startLoaded (Refused r) lim s l = record { answer = Unstarted r; lent = l }
 startLoaded (Accepted r c) lim s l = startBy (fullSize lim l) lim (programOf s r c) l
@@ -75,12 +75,12 @@ startLoaded (Accepted r c) lim s l = startBy (fullSize lim l) lim (programOf s r
 unfoldable pub startCall : Limits → List ℕ → Lent → StartCall
 startCall lim s l = startLoaded (loadOf s) lim s l
 
--- Refusals 23: a step that is refused writes nothing
+-- Refusals 18, 23: a step that is refused writes nothing
 abbrev pub stepAnswer : Stepping → Lent → StepCall
 stepAnswer (unmade k) l = record { answer = Unmoved (refusal k 0); lent = l }
 stepAnswer (made m t) l = record { answer = Moved m; lent = putTables l t }
 
--- Refusals 22: a call that was let in makes its step
+-- Refusals 22, 23: a call that was let in makes its step
 abbrev pub stepEntry : Entry → Limits → Lent → ℕ → StepCall
 stepEntry (turned-away r) lim l p = record { answer = Unmoved r; lent = l }
 stepEntry (entered pr t) lim l p = stepAnswer (stepTables lim pr t p) l
@@ -89,16 +89,16 @@ stepEntry (entered pr t) lim l p = stepAnswer (stepTables lim pr t p) l
 unfoldable pub stepCall : Limits → List ℕ → Lent → ℕ → StepCall
 stepCall lim s l p = stepEntry (enter lim s l) lim l p
 
--- Turns 2: or the step of whose turn it is
+-- Turns 2, Refusals 23: or the step of whose turn it is
 abbrev pub turnEntry : Entry → Limits → Lent → StepCall
 turnEntry (turned-away r) lim l = record { answer = Unmoved r; lent = l }
 turnEntry (entered pr t) lim l = stepAnswer (turnTables lim pr t) l
 
--- the turn
+-- Turns 2, 4: the turn; the marker stands in the head
 unfoldable pub turnCall : Limits → List ℕ → Lent → StepCall
 turnCall lim s l = turnEntry (enter lim s l) lim l
 
--- Turns 7, 8: or a whole run, with the count of its moves
+-- Turns 7, 8, Refusals 23: or a whole run, with the count of its moves
 abbrev pub runEntry : Entry → Limits → Lent → ℕ → RunCall
 runEntry (turned-away r) lim l limit = record { answer = Unrun r; lent = l }
 runEntry (entered pr t) lim l limit =
@@ -108,12 +108,12 @@ runEntry (entered pr t) lim l limit =
 unfoldable pub runCall : Limits → List ℕ → Lent → ℕ → RunCall
 runCall lim s l limit = runEntry (enter lim s l) lim l limit
 
--- Refusals 23: a supply that is refused writes nothing
+-- Refusals 18, 23: a supply that is refused writes nothing
 abbrev pub supplyAnswer : Supplying → Lent → SupplyCall
 supplyAnswer (ungiven k) l = record { answer = Ungiven (refusal k 0); lent = l }
 supplyAnswer (given v t) l = record { answer = Given v; lent = putTables l t }
 
--- Refusals 22: a call that was let in makes its supply
+-- Refusals 22, 23: a call that was let in makes its supply
 abbrev pub supplyEntry : Entry → Lent → ℕ → ℕ → SupplyCall
 supplyEntry (turned-away r) l v c = record { answer = Ungiven r; lent = l }
 supplyEntry (entered pr t) l v c = supplyAnswer (supplyTables pr t v c) l
@@ -122,7 +122,7 @@ supplyEntry (entered pr t) l v c = supplyAnswer (supplyTables pr t v c) l
 unfoldable pub supplyCall : Limits → List ℕ → Lent → ℕ → ℕ → SupplyCall
 supplyCall lim s l v c = supplyEntry (enter lim s l) l v c
 
--- a look writes nothing at all
+-- Refusals 18: a look writes nothing at all
 abbrev pub valueAnswer : Looking → Valued
 valueAnswer (unseen k) = Unvalued (refusal k 0)
 valueAnswer (seen t) = Value t

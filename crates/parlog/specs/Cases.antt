@@ -11,7 +11,6 @@ use Rattle.parlog.specs.Program.{Program, programOf}
 use Rattle.parlog.specs.Run.{given, made, Running, runTables, Stepping, Supplying, supplyTables, turnTables, ungiven, unmade}
 use Rattle.parlog.specs.Tables.{at, freshTables, noted, Tables}
 use Rattle.parlog.specs.Text.{runnerText}
-use Rattle.parlog.specs.Unify.{value}
 use Rattle.parlog.specs.declared.End.{End}
 use Rattle.parlog.specs.declared.End.the-variants.{Failure, Success, Waiting}
 use Rattle.parlog.specs.declared.Loaded.{Loaded}

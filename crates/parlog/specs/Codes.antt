@@ -11,17 +11,17 @@ pub data Tag : Type 0 where
 pub data Mode : Type 0 where
   dormant ready starting waiting reporting suspended : Mode
 
--- Tables 3: what a process has to tell
+-- Tables 3b: what a process has to tell
 pub data Result : Type 0 where
   none success failure : Result
 
--- Tables 3: where a process finds its goal: in the image, in a clause's guard, or in a body committed to
+-- Tables 3b: where a process finds its goal: in the image, in a clause's guard, or in a body committed to
 pub data Kind : Type 0 where
   the-goal the-guard the-body : Kind
 
 -- ---- the numbers in a row
 
--- Tables 3: the number of each tag in a row
+-- Tables 3b: the number of each tag in a row
 abbrev pub tagCode : Tag → ℕ
 tagCode and-par = 0
 tagCode and-seq = 1
@@ -33,7 +33,7 @@ tagCode input-match = 6
 tagCode guard-eval = 7
 tagCode equate = 8
 
--- Tables 3: the number of each mode in a row
+-- Tables 3b: the number of each mode in a row
 abbrev pub modeCode : Mode → ℕ
 modeCode dormant = 0
 modeCode ready = 1
@@ -42,13 +42,13 @@ modeCode waiting = 3
 modeCode reporting = 4
 modeCode suspended = 5
 
--- Tables 3: the number of each result in a row
+-- Tables 3b: the number of each result in a row
 abbrev pub resultCode : Result → ℕ
 resultCode none = 0
 resultCode success = 1
 resultCode failure = 2
 
--- Tables 3: the number of each kind of goal in a row
+-- Tables 3b: the number of each kind of goal in a row
 abbrev pub kindCode : Kind → ℕ
 kindCode the-goal = 0
 kindCode the-guard = 1

@@ -5,9 +5,8 @@ use Prim.Native.Nat.{ℕ}
 use lib.Dec.{eqb}
 use lib.ListN.{getD, length, replicate}
 use Rattle.parlog.specs.Codes.{dormant, Mode, modeCode, reporting, Result, resultCode, starting, suspended}
-use Rattle.parlog.specs.Load.{cut}
 use Rattle.parlog.specs.Scan.{build}
-use Rattle.parlog.specs.Tables.{at, fresh, noNotes, nowhere, State}
+use Rattle.parlog.specs.Tables.{at, noNotes, nowhere, State}
 use Rattle.parlog.specs.Tree.{below}
 use Rattle.parlog.specs.Unify.{changed}
 use Rattle.parlog.specs.declared.Binding.the-variants.{Free}
@@ -126,7 +125,7 @@ asleep false x = x
 unfoldable pub rowAfter : List Process → ℕ → Delta → ℕ → Process
 rowAfter ps p d i = cond (eqb i p) (d .me) (asleep ((d .cut && below ps p i) || isAt (d .nap) i) (at ps i))
 
--- the tables after the change
+-- Tables 1: the tables after the change; what is made stands behind what was there
 unfoldable pub apply : State → ℕ → Delta → State
 apply s p d = record {
   procs = build (rowAfter (s .procs) p d) (length (s .procs)) ++ d .new;

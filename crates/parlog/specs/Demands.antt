@@ -4,14 +4,13 @@ use mathlib.Core.Path.{_≡_}
 use mathlib.Core.Bool.{false, true}
 use mathlib.Core.List.{[], _∷_, List}
 use Prim.Native.Nat.{_<_, _≤_, suc, ℕ}
-use lib.ListN.{getD, length}
+use lib.ListN.{length}
 use Rattle.parlog.specs.Codes.{dormant, reporting, suspended, waiting}
 use Rattle.parlog.specs.Limits.{Limits}
-use Rattle.parlog.specs.Notions.{Child, HasMode, Leads, me}
+use Rattle.parlog.specs.Notions.{Child, HasMode, Leads}
 use Rattle.parlog.specs.Program.{Program}
 use Rattle.parlog.specs.Run.{given, goalEnded, goalResult, made, Running, stepTables, supplyTables, turnFor, turnTables, ungiven, unmade}
-use Rattle.parlog.specs.Tables.{bindingOf, freshTables, noted, State, Tables}
-use Rattle.parlog.specs.Unify.{bound}
+use Rattle.parlog.specs.Tables.{bindingOf, freshTables, State, Tables}
 use Rattle.parlog.specs.declared.Binding.{Binding}
 use Rattle.parlog.specs.declared.Binding.the-variants.{Bound, Free}
 use Rattle.parlog.specs.declared.End.{End}
@@ -47,15 +46,6 @@ pub data Reached (lim : Limits) (pr : Program) : Tables → Type 0 where
   by-number : {t t′ : Tables} {m : Move} (p : ℕ) → Reached lim pr t → stepTables lim pr t p ≡ made m t′ → Reached lim pr t′
   by-turn : {t t′ : Tables} {m : Move} → Reached lim pr t → turnTables lim pr t ≡ made m t′ → Reached lim pr t′
   by-supply : {t t′ : Tables} {w : ℕ} (v c : ℕ) → Reached lim pr t → supplyTables pr t v c ≡ given w t′ → Reached lim pr t′
-
--- ---- suspension
-
--- one of the variables that p has noted is bound
-pub record NoteBound (s : State) (p : ℕ) : Type 0 where
-  pub which : ℕ
-  pub there : which < length (noted (me s p))
-  pub to : Term
-  pub bound : bindingOf (s .vars) (getD (noted (me s p)) which 0) ≡ Bound to
 
 -- ---- turn order
 

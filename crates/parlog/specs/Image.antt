@@ -1,36 +1,12 @@
--- The image: records, and what stands in them. Reads are total: 0 where there is no byte.
+-- The image: what stands in its records.
 use mathlib.Core.Bool.{Bool, cond}
 use mathlib.Core.List.{List}
 use Prim.Native.Nat.{_*_, _+_, _-_, ℕ}
 use lib.Dec.{eqb, ltb}
-use lib.ListN.{getD}
+pub use Rattle.parlog.specs.Records.{byteAt, kindAt, recordAt, recordEnd, wordAt}
 use Rattle.parlog.specs.Scan.{along}
 use Rattle.parlog.specs.declared.Term.{Term}
 use Rattle.parlog.specs.declared.Term.the-variants.{Const, Var}
-
--- ---- numbers
-
--- Image 2: one byte, 0 where the image has none
-abbrev pub byteAt : List ℕ → ℕ → ℕ
-byteAt s i = getD s i 0
-
--- Image 2: two bytes, the low one first
-abbrev pub wordAt : List ℕ → ℕ → ℕ
-wordAt s i = byteAt s i + 256 * byteAt s (i + 1)
-
--- ---- records
-
--- Image 1: a record begins with its own whole length, so this is where the next begins
-abbrev pub recordEnd : List ℕ → ℕ → ℕ
-recordEnd s at = at + wordAt s at
-
--- Image 1: the two bytes after the length say what the record is
-abbrev pub kindAt : List ℕ → ℕ → ℕ
-kindAt s at = wordAt s (at + 2)
-
--- Image 1: where record k begins, counting lengths from the first
-abbrev pub recordAt : List ℕ → ℕ → ℕ
-recordAt s k = along (recordEnd s) k 0
 
 -- ---- terms
 
@@ -41,6 +17,11 @@ termOf w = cond (ltb w 32768) (Const w) (Var (w - 32768))
 -- Image 9: the term that stands at a place
 abbrev pub termAt : List ℕ → ℕ → Term
 termAt s at = termOf (wordAt s at)
+
+-- the number in a term
+abbrev pub numberOf : Term → ℕ
+numberOf (Const c) = c
+numberOf (Var v) = v
 
 -- Image 9: a term takes two bytes
 abbrev pub termEnd : ℕ → ℕ

@@ -1,7 +1,8 @@
--- What a reader must believe: document 01 as definitions, in its order. A comment names the section and the sentence that a definition fixes:
--- Image, Refusals, Tables, Tags and Turns with the numbers of docs/SENTENCES.md.
+-- What a reader must believe: docs/MACHINE.md as definitions, in its order. A comment names the sentences that a definition fixes by their numbers
+-- there, and the page names the definition at each of them (tests/machine.py).
 pub mod Scan
 pub mod Codes
+pub mod Records
 pub mod Image
 pub mod Program
 pub mod Body
@@ -20,6 +21,9 @@ pub mod Calls
 pub mod Text
 pub mod Opened
 pub mod Cases
+pub mod Stories
+pub mod Listed
+pub mod Clauses
 pub mod Notions
 pub mod Relation
 pub mod Demands

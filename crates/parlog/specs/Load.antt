@@ -1,12 +1,12 @@
 -- The loader's answer, a function of the image's bytes: refusals 1 to 7, or the counts.
 use mathlib.Core.Bool.{_&&_, _||_, Bool, cond, false, not, true}
 use mathlib.Core.List.{List}
-use Prim.Native.Nat.{_+_, suc, zero, ℕ}
+use Prim.Native.Nat.{_+_, ℕ}
 use lib.Dec.{eqb, leb, ltb}
 use lib.ListN.{length}
 use Rattle.parlog.specs.Body.{bodyRight}
-use Rattle.parlog.specs.Image.{byteAt, kindAt, recordEnd, wordAt}
 use Rattle.parlog.specs.Names.{follows, namesRight}
+use Rattle.parlog.specs.Records.{byteAt, kindAt, walk}
 use Rattle.parlog.specs.declared.Loaded.{Loaded}
 use Rattle.parlog.specs.declared.Loaded.the-variants.{Accepted, Refused}
 use Rattle.parlog.specs.declared.Progress.{Progress}
@@ -17,10 +17,6 @@ use Rattle.parlog.specs.declared.Verdict.the-variants.{Goes, Refuses}
 -- Refusals 1: more bytes than an image may have
 unfoldable pub long : List ℕ → Bool
 long s = ltb 32768 (length s)
-
--- Refusals 2: no room for a record's first four bytes, or for the record, or a length that could not hold them
-unfoldable pub cut : List ℕ → ℕ → Bool
-cut s at = ltb (length s) (at + 4) || (ltb (wordAt s at) 4 || ltb (length s) (recordEnd s at))
 
 -- Refusals 3: no kind of ours, or one that steps back, or anything behind the goal
 unfoldable pub kindFault : Progress → ℕ → Bool
@@ -52,22 +48,21 @@ abbrev pub refuseIf : Bool → ℕ → Verdict → Verdict
 refuseIf true n v = Refuses n
 refuseIf false n v = v
 
--- Refusals 16, 17: the tests of one record in their order
+-- Refusals 16, 17: the tests of a whole record in their order
 unfoldable pub verdict : List ℕ → Progress → ℕ → Verdict
 verdict s g at =
-    refuseIf (cut s at) 2
-    (refuseIf (kindFault g (kindAt s at)) 3
+    refuseIf (kindFault g (kindAt s at)) 3
     (refuseIf (tooMany g (kindAt s at)) 6
     (refuseIf (not (bodyRight s at (kindAt s at))) 4
     (refuseIf (not (namesRight s g at (kindAt s at))) 5
     (refuseIf (blockFull s g at (kindAt s at)) 6
-    (Goes (progressed s g at (kindAt s at))))))))
+    (Goes (progressed s g at (kindAt s at)))))))
 
 -- Refusals 18: a number and an offset
 abbrev pub refusal : ℕ → ℕ → Refusal
 refusal n o = record { number = n; offset = o }
 
--- Refusals 7, 19: at the end of the bytes there was a goal, or there was none
+-- Refusals 7, 16, 18, 19: at the end of the bytes there was a goal, or there was none
 abbrev pub loadEnd : List ℕ → Progress → Loaded
 loadEnd s g = cond (eqb (g .kind) 3) (Accepted (g .relations) (g .clauses)) (Refused (refusal 7 (length s)))
 
@@ -76,16 +71,22 @@ abbrev pub after : (Progress → Loaded) → ℕ → Verdict → Loaded
 after rest at (Refuses n) = Refused (refusal n at)
 after rest at (Goes g) = rest g
 
--- Refusals 16: one record after the other. No record that passes is empty, so the image's length is fuel enough
-unfoldable pub records : List ℕ → ℕ → ℕ → Progress → Loaded
-records s zero at g = loadEnd s g
-records s (suc n) at g =
-    cond (ltb at (length s)) (after (records s n (recordEnd s at)) at (verdict s g at)) (loadEnd s g)
+-- Refusals 2, 18: so does one that is cut
+abbrev pub broken : ℕ → Loaded
+broken at = Refused (refusal 2 at)
+
+-- Refusals 16: a whole record with what is known before it, and what the records behind it answer
+abbrev pub judged : List ℕ → (Progress → Loaded) → ℕ → Progress → Loaded
+judged s rest at g = after rest at (verdict s g at)
+
+-- Refusals 16: one record after the other
+abbrev pub records : List ℕ → ℕ → ℕ → Progress → Loaded
+records s n at g = walk s broken (judged s) (loadEnd s) n at g
 
 -- nothing is known before the first record
 abbrev pub nothingRead : Progress
 nothingRead = record { relations = 0; clauses = 0; kind = 0; relation = 0; block = 0 }
 
--- Refusals 15: the length of the whole image is looked at before any record
+-- Refusals 15, 18: the length of the whole image is looked at before any record
 unfoldable pub loadOf : List ℕ → Loaded
 loadOf s = cond (long s) (Refused (refusal 1 0)) (records s (length s) 0 nothingRead)

@@ -31,7 +31,7 @@ arityOf s r = byteAt s (recordAt s r + 4)
 unfoldable pub relationNamed : List ℕ → ℕ → ℕ → ℕ → Bool
 relationNamed s rels r a = ltb r rels && eqb a (arityOf s r)
 
--- Image 11: a call of such a relation, or an equality of two terms
+-- Image 11, Refusals 5: a call of such a relation, or an equality of two terms
 unfoldable pub literalNamed : List ℕ → ℕ → ℕ → ℕ → Bool
 literalNamed s rels vars at =
     cond (eqb (byteAt s at) equality) (eqb (byteAt s (at + 1)) 2) (relationNamed s rels (byteAt s at) (byteAt s (at + 1)))
@@ -57,7 +57,7 @@ goalNamed s rels vars at = stagesNamed s rels vars (byteAt s at) (at + 1)
 abbrev pub follows : Progress → ℕ → Bool
 follows g r = ltb 0 (g .clauses) && eqb (g .relation) r
 
--- Image 7: relations do not go down from clause to clause, and a relation's first clause opens no further block
+-- Image 7, Refusals 5: relations do not go down from clause to clause, and a relation's first clause opens no further block
 unfoldable pub clausePlaced : List ℕ → Progress → ℕ → Bool
 clausePlaced s g at =
     relationNamed s (g .relations) (byteAt s (at + 4)) (byteAt s (at + 5))

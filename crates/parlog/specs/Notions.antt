@@ -4,12 +4,13 @@ use mathlib.Core.Logic.{_≢_}
 use mathlib.Core.List.{[], _++_, _∷_, List}
 use Prim.Native.Nat.{_+_, _<_, _≤_, suc, ℕ}
 use lib.ListN.{getD, length, replicate}
+use Rattle.parlog.specs.Clauses.{HasVars, OutputPlaces}
 use Rattle.parlog.specs.Codes.{dormant, guard-eval, Mode, modeCode, ready, reporting, Result, resultCode, Tag, tagCode, try-clause}
 use Rattle.parlog.specs.Delta.{literalSpot, trySpot, withMode, withResult}
-use Rattle.parlog.specs.Program.{Clause, clauseAt, Goal, Literal, modesAt, noLiteral, Program, tagOfLiteral, varsOf}
-use Rattle.parlog.specs.Tables.{at, bindingOf, fresh, newProcess, State}
-use Rattle.parlog.specs.Tree.{below, latest, reports}
-use Rattle.parlog.specs.Unify.{change, changed, shift}
+use Rattle.parlog.specs.Listed.{Listed}
+use Rattle.parlog.specs.Program.{Clause, clauseAt, Goal, Literal, modesAt, noLiteral, Program, tagOfLiteral}
+use Rattle.parlog.specs.Tables.{at, bindingOf, newProcess, noted, place, State}
+use Rattle.parlog.specs.Unify.{change, shift}
 use Rattle.parlog.specs.declared.Binding.{Binding}
 use Rattle.parlog.specs.declared.Binding.the-variants.{Bound, Free}
 use Rattle.parlog.specs.declared.Change.{Change}
@@ -54,7 +55,7 @@ pub record Reports (s : State) (c : ℕ) (r : Result) : Type 0 where
 -- Tags 6: a child with none higher
 pub record Latest (s : State) (p c : ℕ) : Type 0 where
   pub child : Child s p c
-  pub none-higher : (i : ℕ) → Child s p i → i ≤ c
+  pub none-higher : (i : ℕ) → Child s p i → place (s .procs) i ≤ place (s .procs) c
 
 -- Tags 6: the latest child, and what it reports
 pub record Hears (s : State) (p c : ℕ) (r : Result) : Type 0 where
@@ -75,7 +76,7 @@ pub record SomeReports (s : State) (p : ℕ) (r : Result) : Type 0 where
 pub record LowestReports (s : State) (p c : ℕ) (r : Result) : Type 0 where
   pub child : Child s p c
   pub reports : Reports s c r
-  pub none-lower : (i : ℕ) → Child s p i → Reports s i r → c ≤ i
+  pub none-lower : (i : ℕ) → Child s p i → Reports s i r → place (s .procs) c ≤ place (s .procs) i
 
 -- Tags 5: a chain of parents leads down to it
 pub data Below (s : State) (p : ℕ) : ℕ → Type 0 where
@@ -95,13 +96,12 @@ pub record UnderGuard (s : State) (p : ℕ) : Type 0 where
 
 -- ---- the committed body
 
--- Tags 41: an equation per output argument
-pub data Outputs : List ℕ → List Term → ℕ → List Literal → Type 0 where
-  no-argument : {ts : List Term} {v : ℕ} → Outputs [] ts v []
-  no-term : {m : ℕ} {ms : List ℕ} {v : ℕ} → Outputs (m ∷ ms) [] v []
-  skip-input : {m : ℕ} {ms : List ℕ} {t : Term} {ts : List Term} {v : ℕ} {es : List Literal} → m ≡ 0 → Outputs ms ts v es → Outputs (m ∷ ms) (t ∷ ts) v es
-  an-output : {m : ℕ} {ms : List ℕ} {t : Term} {ts : List Term} {v : ℕ} {es : List Literal} → m ≢ 0 → Outputs ms ts (suc v) es
-      → Outputs (m ∷ ms) (t ∷ ts) v (record { rel = 255; args = t ∷ Var v ∷ [] } ∷ es)
+-- Tags 41: an equation per output argument that the head has a term for, in order; the variables count on from v
+pub record Outputs (ms : List ℕ) (ts : List Term) (v : ℕ) (es : List Literal) : Type 0 where
+  pub places : List ℕ
+  pub outputs : Listed (λ i. (getD ms i 0 ≢ 0) × (i < length ts)) places
+  pub count : length es ≡ length places
+  pub equation : (j : ℕ) → j < length places → getD es j noLiteral ≡ record { rel = 255; args = getD ts (getD places j 0) (Const 0) ∷ Var (v + j) ∷ [] }
 
 -- Tags 41: those of a clause
 abbrev pub OutputsOf : Program → Clause → List Literal → Type 0
@@ -152,27 +152,43 @@ pub data Meets : Term → Term → List Change → Type 0 where
 pub data Clashes : Term → Term → Type 0 where
   different : {a b : ℕ} → a ≢ b → Clashes (Const a) (Const b)
 
+-- what is read past the last change
+abbrev pub noChange : Change
+noChange = change 0 (Const 0)
+
+-- the bindings ws are vs after changes: a variable that was changed is bound as the last of its changes says, any other as it was
+pub record Changed (vs : List Binding) (cs : List Change) (ws : List Binding) : Type 0 where
+  pub count : length ws ≡ length vs
+  pub bound : (v i : ℕ) → v < length vs → i < length cs → getD cs i noChange .var ≡ v → ((k : ℕ) → i < k → k < length cs → getD cs k noChange .var ≢ v)
+      → bindingOf ws v ≡ Bound (getD cs i noChange .to)
+  pub kept : (v : ℕ) → ((i : ℕ) → i < length cs → getD cs i noChange .var ≢ v) → bindingOf ws v ≡ bindingOf vs v
+
 -- Tags 28: pair by pair from the left, each side by where it leads; what is bound, in order
 pub data Unifies : List Binding → List Pair → List Change → Type 0 where
   all-done : {vs : List Binding} → Unifies vs [] []
-  one-done : {vs : List Binding} {e : Pair} {es : List Pair} {a b : Term} {bs cs : List Change}
-      → Leads vs (e .left) a → Leads vs (e .right) b → Meets a b bs → Unifies (changed vs bs) es cs → Unifies vs (e ∷ es) (bs ++ cs)
+  one-done : {vs ws : List Binding} {e : Pair} {es : List Pair} {a b : Term} {bs cs : List Change}
+      → Leads vs (e .left) a → Leads vs (e .right) b → Meets a b bs → Changed vs bs ws → Unifies ws es cs → Unifies vs (e ∷ es) (bs ++ cs)
 
 -- Tags 29: some pair on the way clashes
 pub data Fails : List Binding → List Pair → Type 0 where
   fails-here : {vs : List Binding} {e : Pair} {es : List Pair} {a b : Term} → Leads vs (e .left) a → Leads vs (e .right) b → Clashes a b → Fails vs (e ∷ es)
-  fails-later : {vs : List Binding} {e : Pair} {es : List Pair} {a b : Term} {bs : List Change}
-      → Leads vs (e .left) a → Leads vs (e .right) b → Meets a b bs → Fails (changed vs bs) es → Fails vs (e ∷ es)
+  fails-later : {vs ws : List Binding} {e : Pair} {es : List Pair} {a b : Term} {bs : List Change}
+      → Leads vs (e .left) a → Leads vs (e .right) b → Meets a b bs → Changed vs bs ws → Fails ws es → Fails vs (e ∷ es)
 
--- Tags 28: the call's arguments beside the head's
-pub data Matches (base first : ℕ) : List ℕ → List Term → List Term → ℕ → List Pair → Type 0 where
-  no-mode : {xs ts : List Term} {out : ℕ} → Matches base first [] xs ts out []
-  no-call : {m : ℕ} {ms : List ℕ} {ts : List Term} {out : ℕ} → Matches base first (m ∷ ms) [] ts out []
-  no-head : {m : ℕ} {ms : List ℕ} {a : Term} {xs : List Term} {out : ℕ} → Matches base first (m ∷ ms) (a ∷ xs) [] out []
-  input : {m : ℕ} {ms : List ℕ} {a t : Term} {xs ts : List Term} {out : ℕ} {es : List Pair} → m ≡ 0 → Matches base first ms xs ts out es
-      → Matches base first (m ∷ ms) (a ∷ xs) (t ∷ ts) out (record { left = shift base a; right = shift first t } ∷ es)
-  output : {m : ℕ} {ms : List ℕ} {a t : Term} {xs ts : List Term} {out : ℕ} {es : List Pair} → m ≢ 0 → Matches base first ms xs ts (out + 1) es
-      → Matches base first (m ∷ ms) (a ∷ xs) (t ∷ ts) out (record { left = shift base a; right = Var (first + out) } ∷ es)
+-- what is read past the last pair
+abbrev pub noPair : Pair
+noPair = record { left = Const 0; right = Const 0 }
+
+-- Tags 28: the call's arguments beside the head's, place by place as far as modes, call and head go; output argument j of the head gives way to
+-- the clause's variable out + j
+pub record Matches (base first : ℕ) (ms : List ℕ) (xs ts : List Term) (out : ℕ) (es : List Pair) : Type 0 where
+  pub places : List ℕ
+  pub outputs : OutputPlaces ms places
+  pub within : (i : ℕ) → i < length es → (i < length ms) × (i < length xs) × (i < length ts)
+  pub all : (i : ℕ) → i < length ms → i < length xs → i < length ts → i < length es
+  pub call : (i : ℕ) → i < length es → getD es i noPair .left ≡ shift base (getD xs i (Const 0))
+  pub input : (i : ℕ) → i < length es → getD ms i 0 ≡ 0 → getD es i noPair .right ≡ shift first (getD ts i (Const 0))
+  pub output : (j : ℕ) → j < length places → getD places j 0 < length es → getD es (getD places j 0) noPair .right ≡ Var (first + (out + j))
 
 -- Tags 30: in_var: some input argument leads to v
 pub data InputValue (vs : List Binding) (base v : ℕ) : List ℕ → List Term → Type 0 where
@@ -192,6 +208,13 @@ pub data Notes (Held : ℕ → Type 0) : List Change → List ℕ → Type 0 whe
   a-note : {c : Change} {cs : List Change} {ns : List ℕ} → Held (c .var) → Notes Held cs ns → Notes Held (c ∷ cs) (c .var ∷ ns)
   no-note : {c : Change} {cs : List Change} {ns : List ℕ} → (Held (c .var) → ⊥) → Notes Held cs ns → Notes Held (c ∷ cs) ns
 
+-- Tags 37: one of the variables that p has noted is bound
+pub record NoteBound (s : State) (p : ℕ) : Type 0 where
+  pub which : ℕ
+  pub there : which < length (noted (me s p))
+  pub to : Term
+  pub bound : bindingOf (s .vars) (getD (noted (me s p)) which 0) ≡ Bound to
+
 -- ---- the tables after a move
 
 -- the tables after a move: the mover, who falls asleep, who stays, who is new, what is bound
@@ -201,7 +224,7 @@ pub record After (s : State) (p : ℕ) (self : Process) (Sleeps : ℕ → Type 0
   pub slept : (i : ℕ) → i < length (s .procs) → i ≢ p → Sleeps i → me s′ i ≡ withMode dormant (me s i)
   pub kept : (i : ℕ) → i < length (s .procs) → i ≢ p → (Sleeps i → ⊥) → me s′ i ≡ me s i
   pub created : (j : ℕ) → j < length new → me s′ (length (s .procs) + j) ≡ at new j
-  pub bindings : s′ .vars ≡ changed (s .vars ++ replicate fresh Free) cs
+  pub bindings : Changed (s .vars ++ replicate fresh Free) cs (s′ .vars)
 
 -- nobody falls asleep
 abbrev pub Nobody : ℕ → Type 0
@@ -237,8 +260,12 @@ pub record PerLiteral (p : ℕ) (z : Spot) (st : List Literal) (new : List Proce
   pub count : length new ≡ length st
   pub child : (j : ℕ) → j < length st → at new j ≡ newProcess (tagOfLiteral (getD st j noLiteral)) ready p (literalSpot z j)
 
--- Tags 10, 24: a ready try-clause for each clause, in order, its variables counting on from v; n are made in all
-pub data Trials (pr : Program) (p : ℕ) (z : Spot) : ℕ → List ℕ → List Process → ℕ → Type 0 where
-  no-trial : {v : ℕ} → Trials pr p z v [] [] 0
-  a-trial : {v k n : ℕ} {ks : List ℕ} {ys : List Process} → Trials pr p z (v + varsOf pr k) ks ys n
-      → Trials pr p z v (k ∷ ks) (newProcess try-clause ready p (trySpot z k v) ∷ ys) (varsOf pr k + n)
+-- Tags 10, 24: a ready try-clause for each clause, in order; the variables of the first begin at v, those of each other behind those of the one
+-- before, and n are made in all
+pub record Trials (pr : Program) (p : ℕ) (z : Spot) (v : ℕ) (ks : List ℕ) (new : List Process) (n : ℕ) : Type 0 where
+  pub first : ℕ → ℕ
+  pub count : length new ≡ length ks
+  pub child : (j : ℕ) → j < length ks → at new j ≡ newProcess try-clause ready p (trySpot z (getD ks j 0) (first j))
+  pub begins : first 0 ≡ v
+  pub goes-on : (j m : ℕ) → j < length ks → HasVars pr (getD ks j 0) m → first (suc j) ≡ first j + m
+  pub ends : first (length ks) ≡ v + n

@@ -1,4 +1,4 @@
--- For each kind of answer, this paper's number and values for each of its cases.
+-- For each kind of answer, the number and the values of each of its cases.
 use Prim.Native.Nat.{_*_, _+_, ℕ}
 use Rattle.parlog.specs.declared.End.{End}
 use Rattle.parlog.specs.declared.End.the-variants.{Budget, Failure, Room, Success, Waiting}
@@ -122,7 +122,7 @@ touched (EquateSuspend t) = variable t
 
 -- ---- the numbers of an answer
 
--- the refusal, 0 where there is none; two small values and a large one
+-- Turns 10: the refusal, 0 where there is none; two small values and a large one
 pub record Numbers : Type 0 where
   pub refused : ℕ
   pub a : ℕ
@@ -137,17 +137,17 @@ refusedAs r = record { refused = r .number; a = 0; b = 0; c = r .offset }
 unfoldable pub word : Numbers → ℕ
 word n = n .refused + 256 * n .a + 65536 * n .b + 4294967296 * n .c
 
--- Refusals 19: of a load: relations and clauses
+-- Refusals 19, Turns 10: of a load: relations and clauses
 abbrev pub loadNumbers : Loaded → Numbers
 loadNumbers (Accepted r c) = record { refused = 0; a = r; b = c; c = 0 }
 loadNumbers (Refused r) = refusedAs r
 
--- of a start: nothing to tell
+-- Turns 10: of a start: nothing to tell
 abbrev pub startNumbers : Started → Numbers
 startNumbers Begun = record { refused = 0; a = 0; b = 0; c = 0 }
 startNumbers (Unstarted r) = refusedAs r
 
--- Turns 9: of a step or a turn: the rule, and what it touched
+-- Turns 9, 10: of a step or a turn: the rule, and what it touched
 abbrev pub stepNumbers : Stepped → Numbers
 stepNumbers (Moved m) = record { refused = 0; a = ruleNumber m; b = touched m .sort; c = touched m .number }
 stepNumbers (Unmoved r) = refusedAs r
@@ -160,12 +160,12 @@ endNumber Waiting = 3
 endNumber Room = 4
 endNumber Budget = 5
 
--- Turns 8: of a run: its end, and the moves made
+-- Turns 8, 10: of a run: its end, and the moves made
 abbrev pub runNumbers : Ran → Numbers
 runNumbers (Ended e n) = record { refused = 0; a = endNumber e; b = 0; c = n }
 runNumbers (Unrun r) = refusedAs r
 
--- of a supply: nothing to tell
+-- Turns 10: of a supply: nothing to tell
 abbrev pub supplyNumbers : Supplied → Numbers
 supplyNumbers (Given v) = record { refused = 0; a = 0; b = 0; c = 0 }
 supplyNumbers (Ungiven r) = refusedAs r
@@ -175,12 +175,12 @@ abbrev pub termNumbers : Term → Numbers
 termNumbers (Const c) = record { refused = 0; a = 1; b = 0; c = c }
 termNumbers (Var v) = record { refused = 0; a = 2; b = 0; c = v }
 
--- of a look: what was seen
+-- Turns 10: of a look: what was seen
 abbrev pub valueNumbers : Valued → Numbers
 valueNumbers (Value t) = termNumbers t
 valueNumbers (Unvalued r) = refusedAs r
 
--- Turns 5: of a watch: 1 and the number, where there is one
+-- Turns 5, 10: of a watch: 1 and the number, where there is one
 abbrev pub watchNumbers : Found → Numbers
 watchNumbers (At i) = record { refused = 0; a = 1; b = 0; c = i }
 watchNumbers Nothing = record { refused = 0; a = 0; b = 0; c = 0 }

@@ -16,7 +16,7 @@ pub record Literal : Type 0 where
   pub rel : ℕ
   pub args : List Term
 
--- Image 10: stages one after the other, each of literals side by side
+-- Scope 2, Image 10: stages one after the other, each of literals side by side
 abbrev pub Goal : Type 0
 Goal = List (List Literal)
 
@@ -148,15 +148,15 @@ goalBy the-goal pr k = pr .goal
 goalBy the-guard pr k = clauseAt pr k .guard
 goalBy the-body pr k = committedBody pr (clauseAt pr k)
 
--- Tables 3: the goal that a process names
+-- Tables 3f: the goal that a process names
 unfoldable pub goalAt : Program → Spot → Goal
 goalAt pr z = goalBy (kindOf (z .kind)) pr (z .clause)
 
--- Tables 3: the stage that it names there
+-- Tables 3f: the stage that it names there
 unfoldable pub stageAt : Program → Spot → List Literal
 stageAt pr z = getD (goalAt pr z) (z .stage) []
 
--- Tables 3: the literal that it names there
+-- Tables 3f: the literal that it names there
 unfoldable pub literalAt : Program → Spot → Literal
 literalAt pr z = getD (stageAt pr z) (z .literal) noLiteral
 

@@ -4,21 +4,20 @@ use mathlib.Core.Path.{_≡_}
 use mathlib.Core.List.{[], _∷_, List}
 use Prim.Native.Nat.{_<_, _≤_, suc, ℕ}
 use lib.ListN.{getD, length}
+use Rattle.parlog.specs.Clauses.{Block, HasBlock, HasClause}
 use Rattle.parlog.specs.Codes.{and-par, and-seq, dormant, equate, failure, guard-eval, input-match, or-par, or-search, ready, reporting, seq-search, starting, success, suspended, the-body, the-guard, try-clause, waiting}
 use Rattle.parlog.specs.Delta.{atBlock, atStage, blockSpot, callSpot, guardSpot, literalSpot, trySpot, withClause, withMode, withNotes, withSpot, woken}
 use Rattle.parlog.specs.Limits.{Limits}
-use Rattle.parlog.specs.Notions.{After, AllReport, AtLiteral, AtStage, Becomes, Committed, Creates, Ends, Fails, FirstMade, HasMode, HasTag, Hears, InputValue, Is, Just, LowestReports, Matches, me, Nobody, Notes, Older, PerLiteral, ReportsWith, SomeReports, Trials, Unifies, Works}
-use Rattle.parlog.specs.Program.{argument, blockCount, blockOf, clauseAt, Goal, Literal, modesAt, Program, tagOfGoal, tagOfStage}
-use Rattle.parlog.specs.Tables.{bindingOf, goalSpot, newProcess, noted, State}
+use Rattle.parlog.specs.Notions.{After, AllReport, AtLiteral, AtStage, Becomes, Committed, Creates, Ends, Fails, FirstMade, HasMode, HasTag, Hears, InputValue, Is, Just, LowestReports, Matches, me, Nobody, NoteBound, Notes, Older, PerLiteral, ReportsWith, SomeReports, Trials, Unifies, Works}
+use Rattle.parlog.specs.Program.{argument, clauseAt, Goal, Literal, modesAt, Program, tagOfGoal, tagOfStage}
+use Rattle.parlog.specs.Tables.{goalSpot, newProcess, State}
 use Rattle.parlog.specs.Unify.{shift}
-use Rattle.parlog.specs.declared.Binding.the-variants.{Bound}
 use Rattle.parlog.specs.declared.Change.{Change}
 use Rattle.parlog.specs.declared.Move.{Move}
 use Rattle.parlog.specs.declared.Move.the-variants.{AndParFailure, AndParStart, AndParSuccess, AndSeqFailure, AndSeqNext, AndSeqStart, AndSeqSuccess, EquateBind, EquateFailure, EquateSuccess, EquateSuspend, GuardEvalEmpty, GuardEvalFailure, GuardEvalStart, GuardEvalSuccess, InputMatchBind, InputMatchFailure, InputMatchSuccess, InputMatchSuspend, OrParFailure, OrParSpawn, OrParStart, OrParSuccess, OrSearchCommit, OrSearchFailure, OrSearchStart, Ready, SeqSearchFailure, SeqSearchNext, SeqSearchNone, SeqSearchStart, SeqSearchSuccess, Stop, TryClauseFailure, TryClauseStart, TryClauseSuccess, Wake}
 use Rattle.parlog.specs.declared.Pair.{Pair}
 use Rattle.parlog.specs.declared.Process.{Process}
 use Rattle.parlog.specs.declared.Spot.{Spot}
-use Rattle.parlog.specs.declared.Term.{Term}
 use Rattle.parlog.specs.declared.Term.the-variants.{Var}
 
 -- the places that p names
@@ -51,13 +50,12 @@ pub record Called (pr : Program) (s : State) (p r : ℕ) : Type 0 where
 abbrev pub WithClauseOf : State → ℕ → ℕ → Process
 WithClauseOf s c p = withSpot reporting (withClause (spotOf s c .found) (spotOf s c .first) (spotOf s p)) (me s p)
 
--- which move process p can make, and the tables after it
+-- Tags 8: which move process p can make, and the tables after it
 pub data Rule (pr : Program) (s : State) (p : ℕ) : Move → State → Type 0 where
   -- rule 1, Tags 9
   ready-rule : {s′ : State} → HasMode s p ready → Becomes s p (withMode starting (me s p)) s′ → Rule pr s p (Ready p) s′
   -- rule 2, Tags 37
-  wake-rule : {s′ : State} {t : Term} (k : ℕ) → HasMode s p suspended → k < length (noted (me s p)) → bindingOf (s .vars) (getD (noted (me s p)) k 0) ≡ Bound t
-      → Becomes s p (woken (me s p)) s′ → Rule pr s p (Wake p) s′
+  wake-rule : {s′ : State} → HasMode s p suspended → NoteBound s p → Becomes s p (woken (me s p)) s′ → Rule pr s p (Wake p) s′
   -- rule 3, Tags 38
   stop-rule : {s′ : State} → HasMode s p reporting → p ≡ 0 → Becomes s p (withMode dormant (me s p)) s′ → Rule pr s p (Stop 0) s′
   -- rule 4, Tags 12
@@ -88,22 +86,22 @@ pub data Rule (pr : Program) (s : State) (p : ℕ) : Move → State → Type 0 w
   -- rule 14, Tags 20
   or-par-failure : {s′ : State} {c : ℕ} → Is s p or-par waiting → Hears s p c failure → Ends s p failure s′ → Rule pr s p (OrParFailure p) s′
   -- rule 15, Tags 21
-  seq-search-none : {s′ : State} {r : ℕ} → Is s p seq-search starting → Called pr s p r → blockCount pr r ≡ 0 → Ends s p failure s′ → Rule pr s p (SeqSearchNone p) s′
+  seq-search-none : {s′ : State} {r : ℕ} → Is s p seq-search starting → Called pr s p r → (HasClause pr r → ⊥) → Ends s p failure s′ → Rule pr s p (SeqSearchNone p) s′
   -- rule 16, Tags 21
-  seq-search-start : {s′ : State} {r : ℕ} → Is s p seq-search starting → Called pr s p r → 0 < blockCount pr r
+  seq-search-start : {s′ : State} {r : ℕ} → Is s p seq-search starting → Called pr s p r → HasClause pr r
       → Creates s p (withSpot waiting (atBlock 0 (spotOf s p)) (me s p)) Nobody (newProcess or-search starting p (blockSpot (spotOf s p) 0)) s′ → Rule pr s p (SeqSearchStart (length (s .procs))) s′
   -- rule 17, Tags 22
-  seq-search-next : {s′ : State} {r c : ℕ} → Is s p seq-search waiting → Hears s p c failure → Called pr s p r → suc (spotOf s p .block) < blockCount pr r
+  seq-search-next : {s′ : State} {r c : ℕ} → Is s p seq-search waiting → Hears s p c failure → Called pr s p r → HasBlock pr r (suc (spotOf s p .block))
       → Creates s p (withSpot waiting (atBlock (suc (spotOf s p .block)) (spotOf s p)) (me s p)) (Just c) (newProcess or-search starting p (blockSpot (spotOf s p) (suc (spotOf s p .block)))) s′
       → Rule pr s p (SeqSearchNext (length (s .procs))) s′
   -- rule 18, Tags 23
   seq-search-success : {s′ : State} {c : ℕ} → Is s p seq-search waiting → Hears s p c success → ReportsWith s p success (WithClauseOf s c p) [] s′ → Rule pr s p (SeqSearchSuccess p) s′
   -- rule 19, Tags 22
-  seq-search-failure : {s′ : State} {r c : ℕ} → Is s p seq-search waiting → Hears s p c failure → Called pr s p r → blockCount pr r ≤ suc (spotOf s p .block)
+  seq-search-failure : {s′ : State} {r c : ℕ} → Is s p seq-search waiting → Hears s p c failure → Called pr s p r → (HasBlock pr r (suc (spotOf s p .block)) → ⊥)
       → Ends s p failure s′ → Rule pr s p (SeqSearchFailure p) s′
   -- rule 20, Tags 24
-  or-search-start : {s′ : State} {r n q : ℕ} {new : List Process} → Is s p or-search starting → Called pr s p r
-      → Trials pr p (spotOf s p) (length (s .vars)) (blockOf pr r (spotOf s p .block)) new n → FirstMade s p new q
+  or-search-start : {s′ : State} {r n q : ℕ} {ks : List ℕ} {new : List Process} → Is s p or-search starting → Called pr s p r
+      → Block pr r (spotOf s p .block) ks → Trials pr p (spotOf s p) (length (s .vars)) ks new n → FirstMade s p new q
       → After s p (withMode waiting (me s p)) Nobody new [] n s′ → Rule pr s p (OrSearchStart q) s′
   -- rule 21, Tags 25
   or-search-commit : {s′ : State} {c : ℕ} → Is s p or-search waiting → LowestReports s p c success → ReportsWith s p success (WithClauseOf s c p) [] s′ → Rule pr s p (OrSearchCommit p) s′

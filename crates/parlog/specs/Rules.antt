@@ -69,7 +69,7 @@ andParWait false false p x = no-rule
 
 -- ---- and-seq
 
--- Tags 14: starts the stage that is next, if there is one
+-- Tags 11, 14: starts the stage that is next, if there is one
 unfoldable pub andSeqStart : Bool → Program → State → ℕ → Process → Applied
 andSeqStart false pr s p x = by-rule (AndSeqSuccess p) (report success x)
 andSeqStart true pr s p x =
@@ -83,11 +83,11 @@ andSeqWait (bad c) p x = by-rule (AndSeqFailure p) (report failure x)
 
 -- ---- or-par
 
--- Tags 17: has a clause looked for
+-- Tags 11, 17: has a clause looked for
 unfoldable pub orParStart : State → ℕ → Process → Applied
 orParStart s p x = by-rule (OrParStart (nextRow s)) (making (withMode waiting x) Nothing (newProcess seq-search starting p (callSpot (x .spot)) ∷ []) 0)
 
--- Tags 18: the process for what the clause leaves to do
+-- Tags 11, 18: the process for what the clause leaves to do
 unfoldable pub bodyChild : Program → ℕ → ℕ → ℕ → Process
 bodyChild pr p k v = newProcess (tagOfGoal (committedBody pr (clauseAt pr k))) starting p (goalSpot the-body k v)
 
@@ -105,7 +105,7 @@ orParWait (bad c) pr s p x = by-rule (OrParFailure p) (report failure x)
 
 -- ---- seq-search
 
--- Tags 21, 22: at block b, with a process that tries it
+-- Tags 11, 21, 22: at block b, with a process that tries it
 unfoldable pub searching : ℕ → ℕ → Process → Found → Delta
 searching b p x nap = making (withSpot waiting (atBlock b (x .spot)) x) nap (newProcess or-search starting p (blockSpot (x .spot) b) ∷ []) 0
 
@@ -131,7 +131,7 @@ seqSearchWait (bad c) blocks s p x = seqSearchNext (ltb (suc (x .spot .block)) b
 
 -- ---- or-search
 
--- Tags 24: a process for each clause, the variables of each behind those of the one before
+-- Tags 10, 24: a process for each clause, the variables of each behind those of the one before
 unfoldable pub tries : Program → ℕ → Spot → ℕ → List ℕ → List Process
 tries pr p z v [] = []
 tries pr p z v (k ∷ ks) = newProcess try-clause ready p (trySpot z k v) ∷ tries pr p z (v + varsOf pr k) ks
@@ -159,7 +159,7 @@ orSearchWait Nothing false s p x = no-rule
 
 -- ---- try-clause
 
--- Tags 27: matches the head and runs the guard side by side
+-- Tags 10, 27: matches the head and runs the guard side by side
 unfoldable pub tryClauseStart : State → ℕ → Process → Applied
 tryClauseStart s p x =
     by-rule (TryClauseStart (nextRow s))
@@ -189,7 +189,7 @@ inputMatchStart (binds (c ∷ cs)) p x = by-rule (InputMatchBind (Var (c .var)))
 
 -- ---- guard-eval
 
--- Tags 32: runs the guard, if there is one
+-- Tags 11, 32: runs the guard, if there is one
 unfoldable pub guardEvalStart : Goal → State → ℕ → Process → Applied
 guardEvalStart [] s p x = by-rule (GuardEvalEmpty p) (report success x)
 guardEvalStart (st ∷ g) s p x =
@@ -250,7 +250,7 @@ ruleIn waiting pr s p x = waitRule (tagOf (x .tag)) pr s p x
 ruleIn reporting pr s p x = stopRule p x
 ruleIn suspended pr s p x = wakeRule (someBound (s .vars) (noted x)) p x
 
--- the rule that applies to process p
+-- Tags 8: the rule that applies to process p
 unfoldable pub ruleOf : Program → State → ℕ → Applied
 ruleOf pr s p = ruleIn (modeOf (at (s .procs) p .mode)) pr s p (at (s .procs) p)
 
@@ -270,6 +270,6 @@ abbrev pub withRoom : Limits → State → Applied → Decision
 withRoom lim s no-rule = still
 withRoom lim s (by-rule m d) = cond (fits lim s d) (moved m d) room
 
--- the move that process p makes
+-- Refusals 10, 11: the move that process p makes
 unfoldable pub move : Limits → Program → State → ℕ → Decision
 move lim pr s p = withRoom lim s (ruleOf pr s p)

@@ -23,7 +23,7 @@ use Rattle.parlog.specs.declared.Term.the-variants.{Const, Var}
 
 -- ---- whose turn it is
 
--- a rule applies
+-- Turns 1: a rule applies
 abbrev pub isRule : Applied → Bool
 isRule no-rule = false
 isRule (by-rule m d) = true
@@ -48,7 +48,7 @@ turnFor pr t = turnOf (canMove pr (t .state)) (procsIn t) (t .last)
 abbrev pub counted : ℕ → ℕ
 counted steps = cond (ltb steps 4294967295) (suc steps) steps
 
--- Turns 3: the tables after a step, its process marked
+-- Scope 3, Turns 3: the tables after a step, its process marked
 unfoldable pub stepped : Tables → ℕ → Delta → Tables
 stepped t p d = record { state = apply (t .state) p d; last = p; steps = counted (t .steps) }
 
@@ -59,7 +59,7 @@ pub data Stepping : Type 0 where
   unmade : ℕ → Stepping
   made : Move → Tables → Stepping
 
--- Refusals 10, 11: by the decision
+-- Refusals 10, 11, 22: by the decision
 unfoldable pub stepBy : Decision → Tables → ℕ → Stepping
 stepBy still t p = unmade 10
 stepBy room t p = unmade 11
@@ -91,7 +91,7 @@ pub data Supplying : Type 0 where
 unfoldable pub supplied : Tables → ℕ → ℕ → Tables
 supplied t v c = record { state = record { procs = t .state .procs; vars = changed (t .state .vars) (change v (Const c) ∷ []) }; last = t .last; steps = t .steps }
 
--- Turns 6, Refusals 13: what is bound is the variable's value
+-- Turns 6, Refusals 13, 22: what is bound is the variable's value
 unfoldable pub supplyValue : Term → Tables → ℕ → Supplying
 supplyValue (Const k) t c = ungiven 13
 supplyValue (Var v) t c = given v (supplied t v c)
@@ -108,7 +108,7 @@ pub data Looking : Type 0 where
   unseen : ℕ → Looking
   seen : Term → Looking
 
--- the value of the goal's variable v
+-- Tables 5, Refusals 12: the value of the goal's variable v
 unfoldable pub valueTables : Program → Tables → ℕ → Looking
 valueTables pr t v = cond (ltb v (pr .goalVars)) (seen (value (t .state .vars) (Var v))) (unseen 12)
 
@@ -134,7 +134,7 @@ endOf failure = Failure
 abbrev pub goalEnded : Tables → Bool
 goalEnded t = not (isLive (at (t .state .procs) 0 .mode))
 
--- Tags 38: what it had to tell
+-- Tags 38, Turns 7: what it had to tell
 abbrev pub goalResult : Tables → End
 goalResult t = endOf (resultOf (at (t .state .procs) 0 .result))
 

@@ -1,4 +1,4 @@
--- The table rules: what refusal 8 tests, a definition for each part of the sentence. n is the variable count.
+-- The table rules, Tables 3a to 3l: what refusal 8 tests. n is the variable count.
 use mathlib.Core.Bool.{_&&_, _||_, Bool, false, not, true}
 use mathlib.Core.List.{[], _∷_, List}
 use Prim.Native.Nat.{_*_, _+_, suc, zero, ℕ}
@@ -9,7 +9,7 @@ use Rattle.parlog.specs.Image.{equality}
 use Rattle.parlog.specs.Limits.{Limits}
 use Rattle.parlog.specs.Program.{blockCount, clauseAt, goalAt, Literal, literalAt, Program, stageAt, tagOfGoal, varsOf}
 use Rattle.parlog.specs.Scan.{every, implies}
-use Rattle.parlog.specs.Tables.{at, bindingOf, cellSize, headSize, Lent, noted, numberAt, rowSize, sortAt, State, Tables, tablesIn, varCount}
+use Rattle.parlog.specs.Tables.{at, bindingOf, cellSize, headSize, Lent, noted, numberAt, rank, rowSize, sortAt, State, Tables, tablesIn, varCount}
 use Rattle.parlog.specs.declared.Binding.{Binding}
 use Rattle.parlog.specs.declared.Binding.the-variants.{Bound, Free}
 use Rattle.parlog.specs.declared.Process.{Process}
@@ -18,7 +18,7 @@ use Rattle.parlog.specs.declared.Term.the-variants.{Const, Var}
 
 -- ---- counts
 
--- Tables 3: how many processes and variables
+-- Tables 3a: how many processes and variables
 unfoldable pub countsOk : Limits → Program → State → Bool
 countsOk lim pr s =
     leb 1 (length (s .procs))
@@ -26,13 +26,13 @@ countsOk lim pr s =
 
 -- ---- known numbers
 
--- Tables 3: every number in a row stands for something
+-- Tables 3b: every number in a row stands for something
 unfoldable pub known : Process → Bool
 known x = ltb (x .tag) 9 && (ltb (x .mode) 6 && (ltb (x .result) 3 && ltb (x .spot .kind) 3))
 
 -- ---- results
 
--- Tables 3: who reports has something to tell, and so has the goal's process once it sleeps
+-- Tables 3c: who reports has something to tell, and so has the goal's process once it sleeps
 unfoldable pub resultOk : ℕ → Process → Bool
 resultOk i x = implies (isMode reporting (x .mode) || (eqb i 0 && isMode dormant (x .mode))) (not (isResult none (x .result)))
 
@@ -58,7 +58,7 @@ isStageTag t = isLiteralTag t || isTag and-par (tagCode t)
 abbrev pub isGoalTag : Tag → Bool
 isGoalTag t = isStageTag t || isTag and-seq (tagCode t)
 
--- Tables 3: the tags of the processes that a tag's rules make
+-- Tables 3e: the tags of the processes that a tag's rules make
 abbrev pub makesTag : Tag → Tag → Bool
 makesTag and-par t = isLiteralTag t
 makesTag and-seq t = isStageTag t
@@ -70,32 +70,32 @@ makesTag input-match t = false
 makesTag guard-eval t = isGoalTag t
 makesTag equate t = false
 
--- Tables 3: process 0 stands for the image's goal; every other has a parent before it that could have made it
+-- Tables 3d, 3e: process 0 stands for the image's goal; every other has a parent before it that could have made it
 unfoldable pub kinOk : Program → List Process → ℕ → Process → Bool
 kinOk pr ps zero x = isTag (tagOfGoal (pr .goal)) (x .tag) && (eqb (x .parent) 0 && eqb (x .spot .kind) (kindCode the-goal))
-kinOk pr ps (suc i) x = ltb (x .parent) (suc i) && makesTag (tagOf (at ps (x .parent) .tag)) (tagOf (x .tag))
+kinOk pr ps (suc i) x = ltb (rank ps (x .parent)) (rank ps (suc i)) && makesTag (tagOf (at ps (x .parent) .tag)) (tagOf (x .tag))
 
 -- ---- places
 
--- Tables 3: a clause that is there, its variables too
+-- Tables 3j: a clause that is there, its variables too
 unfoldable pub clauseIn : Program → ℕ → ℕ → ℕ → Bool
 clauseIn pr n k v = ltb k (length (pr .clauses)) && leb (v + varsOf pr k) n
 
--- Tables 3: a goal that is there, its variables too; those of the image's goal come first of all
+-- Tables 3j: a goal that is there, its variables too; those of the image's goal come first of all
 unfoldable pub goalInBy : Kind → Program → ℕ → Spot → Bool
 goalInBy the-goal pr n z = eqb (z .base) 0 && leb (pr .goalVars) n
 goalInBy the-guard pr n z = clauseIn pr n (z .clause) (z .base)
 goalInBy the-body pr n z = clauseIn pr n (z .clause) (z .base)
 
--- the goal that z names
+-- Tables 3j: the goal that z names
 unfoldable pub goalIn : Program → ℕ → Spot → Bool
 goalIn pr n z = goalInBy (kindOf (z .kind)) pr n z
 
--- the stage that z names is there
+-- Tables 3j: the stage that z names is there
 abbrev pub stageIn : Program → Spot → Bool
 stageIn pr z = ltb (z .stage) (length (goalAt pr z))
 
--- the literal that z names is there
+-- Tables 3j: the literal that z names is there
 unfoldable pub literalIn : Program → ℕ → Spot → Bool
 literalIn pr n z = goalIn pr n z && ltb (z .literal) (length (stageAt pr z))
 
@@ -103,27 +103,27 @@ literalIn pr n z = goalIn pr n z && ltb (z .literal) (length (stageAt pr z))
 abbrev pub isEquality : Literal → Bool
 isEquality l = eqb (l .rel) equality
 
--- it is a call
+-- Tables 3g: it is a call
 unfoldable pub callIn : Program → ℕ → Spot → Bool
 callIn pr n z = literalIn pr n z && not (isEquality (literalAt pr z))
 
--- it is an equality
+-- Tables 3g: it is an equality
 unfoldable pub equalityIn : Program → ℕ → Spot → Bool
 equalityIn pr n z = literalIn pr n z && isEquality (literalAt pr z)
 
--- a block that the relation called has
+-- Tables 3g: a block that the relation called has
 abbrev pub blockIn : Program → Spot → Bool
 blockIn pr z = ltb (z .block) (blockCount pr (literalAt pr z .rel))
 
--- the clause found or tried is there
+-- Tables 3j: the clause found or tried is there
 abbrev pub foundIn : Program → ℕ → Spot → Bool
 foundIn pr n z = clauseIn pr n (z .found) (z .first)
 
--- it is a clause of the relation called
+-- Tables 3g: it is a clause of the relation called
 unfoldable pub tryIn : Program → ℕ → Spot → Bool
 tryIn pr n z = foundIn pr n z && eqb (clauseAt pr (z .found) .rel) (literalAt pr z .rel)
 
--- Tables 3: what the rules of a tag read
+-- Tables 3f: what the rules of a tag read
 unfoldable pub placesOk : Tag → Program → ℕ → Spot → Bool
 placesOk and-par pr n z = goalIn pr n z && stageIn pr z
 placesOk and-seq pr n z = goalIn pr n z && leb (z .stage) (length (goalAt pr z))
@@ -139,7 +139,7 @@ placesOk equate pr n z = equalityIn pr n z
 abbrev pub succeeds : Process → Bool
 succeeds x = isMode reporting (x .mode) && isResult success (x .result)
 
--- Tables 3: what they read besides in some modes: the stage that an and-seq waits for, the block that a search waits for, the clause that a search tells
+-- Tables 3h: what they read besides in some modes: the stage that an and-seq waits for, the block that a search waits for, the clause that a search tells
 unfoldable pub goingOk : Tag → Program → ℕ → Process → Bool
 goingOk and-par pr n x = true
 goingOk and-seq pr n x = implies (isMode waiting (x .mode)) (stageIn pr (x .spot))
@@ -158,7 +158,7 @@ unfoldable pub allBelow : ℕ → List ℕ → Bool
 allBelow n [] = true
 allBelow n (v ∷ vs) = ltb v n && allBelow n vs
 
--- Tables 3: notes of a suspended process
+-- Tables 3k: notes of a suspended process
 unfoldable pub notesOk : ℕ → Process → Bool
 notesOk n x = implies (isMode suspended (x .mode)) (leb (x .count) 4 && allBelow n (noted x))
 
@@ -174,13 +174,13 @@ rowOk pr ps n i =
     && (goingOk (tagOf (at ps i .tag)) pr n (at ps i)
     && notesOk n (at ps i)))))
 
--- Tables 3: bindings lead to constants of an image or downward
+-- Tables 3i: bindings lead to constants of an image or downward
 abbrev pub bindingOk : ℕ → Binding → Bool
 bindingOk v Free = true
 bindingOk v (Bound (Const c)) = leb c 32767
 bindingOk v (Bound (Var w)) = ltb w v
 
--- Tables 3: that for variable v
+-- Tables 3i: that for variable v
 unfoldable pub varOk : List Binding → ℕ → Bool
 varOk vs v = bindingOk v (bindingOf vs v)
 
@@ -190,7 +190,7 @@ stateOk lim pr s =
     countsOk lim pr s
     && (every (rowOk pr (s .procs) (length (s .vars))) (length (s .procs)) && every (varOk (s .vars)) (length (s .vars)))
 
--- Tables 3: and the marker
+-- Tables 3, 3l, 4: and the marker; steps and supplies keep all of it
 unfoldable pub tablesOk : Limits → Program → Tables → Bool
 tablesOk lim pr t = stateOk lim pr (t .state) && ltb (t .last) (length (t .state .procs))
 
@@ -202,7 +202,7 @@ fullSize lim l =
     eqb (length (l .head)) headSize
     && (eqb (length (l .procs)) (lim .procs * rowSize) && eqb (length (l .vars)) (lim .vars * cellSize))
 
--- Tables 3: a sort that there is, and no number where nothing is bound
+-- Tables 3b: a sort that there is, and no number where nothing is bound
 unfoldable pub cellKnown : List ℕ → ℕ → Bool
 cellKnown l v = ltb (sortAt l v) 3 && implies (eqb (sortAt l v) 0) (eqb (numberAt l v) 0)
 

@@ -43,11 +43,19 @@ idle = record { tag = 0; mode = 0; result = 0; count = 0; parent = 0; spot = now
 abbrev pub at : List Process → ℕ → Process
 at ps i = getD ps i idle
 
+-- Tables 3e: what a parent has less of than its children: its number; it stands behind a name, since rows may be used again
+abbrev pub rank : List Process → ℕ → ℕ
+rank ps i = i
+
+-- Tags 6, 25: what puts the children of one process in order: their numbers; a name for the same reason
+abbrev pub place : List Process → ℕ → ℕ
+place ps i = i
+
 -- variable number v
 abbrev pub bindingOf : List Binding → ℕ → Binding
 bindingOf vs v = getD vs v Free
 
--- Tables 3: the notes that count
+-- Tables 3k: the notes that count
 unfoldable pub noted : Process → List ℕ
 noted x = take (x .count) (x .notes)
 
@@ -194,6 +202,10 @@ pub record Lent : Type 0 where
   pub procs : List ℕ
   pub vars : List ℕ
 
+-- these rows together
+abbrev pub lent : List ℕ → List ℕ → List ℕ → Lent
+lent h p v = record { head = h; procs = p; vars = v }
+
 -- the tables that these bytes hold
 unfoldable pub tablesIn : Lent → Tables
 tablesIn l = record {
@@ -211,7 +223,7 @@ rowsBytes bytes (x ∷ xs) = bytes x ++ rowsBytes bytes xs
 unfoldable pub written : List ℕ → List ℕ → List ℕ
 written rows old = rows ++ drop (length rows) old
 
--- the lent bytes once they hold these tables
+-- Refusals 23: the lent bytes once they hold these tables
 unfoldable pub putTables : Lent → Tables → Lent
 putTables l t = record {
   head = headBytes (length (t .state .procs)) (length (t .state .vars)) (t .last) (t .steps);

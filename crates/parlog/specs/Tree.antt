@@ -19,7 +19,7 @@ isChild ps p i = not (eqb i 0) && eqb (at ps i .parent) p
 unfoldable pub latest : List Process → ℕ → Found
 latest ps p = highest (isChild ps p) (length ps)
 
--- Tags 13: it tells this result, and has not been heard yet
+-- Tags 8, 13: it tells this result, and has not been heard yet
 unfoldable pub reports : Result → Process → Bool
 reports r x = isMode reporting (x .mode) && isResult r (x .result)
 

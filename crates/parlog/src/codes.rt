@@ -1,4 +1,4 @@
-// The numbers of document 01 by their names: what rows and images hold, and what refusals are called.
+// The numbers of docs/MACHINE.md by their names: what rows and images hold, and what refusals are called.
 
 // ---- tags of a process
 
@@ -141,6 +141,48 @@ pub const CLAUSE_KIND: usize = 2;
 pub const GOAL_KIND: usize = 3;
 
 pub const EQUALITY: usize = 255;
+
+// ---- fields of records: where they stand
+
+pub const RECORD_KIND: usize = 2;
+
+pub const RECORD_BODY: usize = 4;
+
+pub const RELATION_ARITY: usize = 4;
+
+pub const RELATION_MODES: usize = 5;
+
+pub const CLAUSE_RELATION: usize = 4;
+
+pub const CLAUSE_ARITY: usize = 5;
+
+pub const CLAUSE_MARK: usize = 6;
+
+pub const CLAUSE_VARS: usize = 7;
+
+pub const CLAUSE_HEAD: usize = 8;
+
+pub const GOAL_VARS: usize = 4;
+
+pub const GOAL_AT: usize = 5;
+
+pub const LITERAL_ARITY: usize = 1;
+
+pub const LITERAL_TERMS: usize = 2;
+
+pub const TERM_SIZE: usize = 2;
+
+pub const FIRST_VARIABLE: usize = 32768;
+
+pub const EQUALITY_ARITY: usize = 2;
+
+pub const MOST_MODE: usize = 1;
+
+pub const MOST_MARK: usize = 1;
+
+// ---- the loader's row of arities: a byte for each relation, and one to spare
+
+pub const ARITIES: usize = 33;
 
 // ---- refusals
 

@@ -1,7 +1,7 @@
 // The types that every crate shares: terms, bindings, the record of a process, and the answers of the calls.
 pub mod codes;
 
-// A term is a constant or a variable, nothing else.
+// Scope 1, Image 9: a constant or a variable.
 pub enum Term {
     Const(u32),
     Var(u32),
@@ -32,7 +32,7 @@ pub enum Met {
     Bind(u32, Term),
 }
 
-// The places that a process names: its goal with the first variable there, a stage, a literal, a block,
+// Tables 3f: the places that a process names: its goal with the first variable there, a stage, a literal, a block,
 // and a clause that it found or tries, with the first variable of that.
 pub struct Spot {
     pub kind: u8,
@@ -56,7 +56,7 @@ pub struct Process {
     pub notes: [u16; 4],
 }
 
-// The turn marker: the last process stepped, and the steps taken so far.
+// Turns 4: the turn marker: the last process stepped, and the steps taken so far.
 pub struct Marker {
     pub last: u16,
     pub steps: u32,
@@ -68,13 +68,13 @@ pub enum Found {
     Nothing,
 }
 
-// Why a call is refused: the number, and the offset of a record for 1 to 7, else 0.
+// Refusals 18: why a call is refused: the number, and the offset of a record for 1 to 7, else 0.
 pub struct Refusal {
     pub number: u8,
     pub offset: usize,
 }
 
-// The answer of a load: the relation and clause counts, or a refusal.
+// Refusals 19: the answer of a load: the relation and clause counts, or a refusal.
 pub enum Loaded {
     Accepted(usize, usize),
     Refused(Refusal),
@@ -95,7 +95,7 @@ pub enum Verdict {
     Refuses(u8),
 }
 
-// A move: the rule, and the process or the variable that it touched.
+// Turns 9: a move: the rule, and the process or the variable that it touched.
 pub enum Move {
     Ready(usize),
     Wake(usize),
@@ -148,7 +148,7 @@ pub enum Stepped {
     Unmoved(Refusal),
 }
 
-// The ends of a run.
+// Turns 7: the ends of a run.
 pub enum End {
     Success,
     Failure,

@@ -1,22 +1,16 @@
 // Reads of an image by places, total: a byte past the end is 0, and a place is where the fields lead.
 use parlog::Term;
+use parlog::codes;
 ghost use mathlib.Core.Path.{_≡_};
 ghost use Prim.Native.Nat.{_+_, _*_, _≤_, _<_};
 ghost use lib.ListN.{length};
-ghost use Rattle.parlog.specs.Image.{byteAt, wordAt, recordAt, termAt, literalsEnd, stageEnd, stagesEnd, goalEnd};
+ghost use Rattle.parlog.specs.Image.{byteAt, wordAt, recordAt, termOf, termAt, numberOf, literalsEnd, stageEnd, stagesEnd, goalEnd};
 
 // The byte at i, or 0 past the end.
 pub fn byte_at(s: &[u8], i: usize) -> usize
     ensures { λ r. ⌜ (r ≡ byteAt (now (s .entry)) i) × (r ≤ 255) ⌝ }
 {
     if i < s.len() { s[i] as usize } else { 0 }
-}
-
-// A byte as a number.
-pub fn wide(x: u8) -> usize
-    ensures { λ r. ⌜ (r ≡ x) × (r ≤ 255) ⌝ }
-{
-    x as usize
 }
 
 // Two bytes, little-endian; the usual case takes one test of the length.
@@ -26,7 +20,7 @@ pub fn word_at(s: &[u8], i: usize) -> usize
 {
     let next = i + 1;
     if next < s.len() {
-        wide(s[i]) + 256 * wide(s[next])
+        basics::wide(s[i]) + 256 * basics::wide(s[next])
     } else {
         byte_at(s, i)
     }
@@ -37,27 +31,43 @@ pub fn byte_in(s: &[u8], i: usize) -> usize
     requires { ⌜ i < length (now s) ⌝ }
     ensures { λ r. ⌜ (r ≡ byteAt (now (s .entry)) i) × (r ≤ 255) ⌝ }
 {
-    wide(s[i])
+    basics::wide(s[i])
 }
 
+// The same, of bytes that are there: no test.
 pub fn word_in(s: &[u8], i: usize) -> usize
     requires { ⌜ (i ≤ 4294967296) × (i + 1 < length (now s)) ⌝ }
     ensures { λ r. ⌜ (r ≡ wordAt (now (s .entry)) i) × (r ≤ 65535) ⌝ }
 {
-    wide(s[i]) + 256 * wide(s[i + 1])
+    basics::wide(s[i]) + 256 * basics::wide(s[i + 1])
+}
+
+// The term that a number is.
+fn term_of(w: usize) -> Term
+    requires { ⌜ w ≤ 65535 ⌝ }
+    ensures { λ r. ⌜ (r ≡ termOf w) × (numberOf r ≤ 32767) ⌝ }
+{
+    if w < codes::FIRST_VARIABLE {
+        Term::Const(w as u32)
+    } else {
+        Term::Var((w - codes::FIRST_VARIABLE) as u32)
+    }
 }
 
 // The term at a place.
 pub fn term_at(s: &[u8], at: usize) -> Term
     requires { ⌜ at ≤ 4294967296 ⌝ }
-    ensures { λ r. ⌜ r ≡ termAt (now (s .entry)) at ⌝ }
+    ensures { λ r. ⌜ (r ≡ termAt (now (s .entry)) at) × (numberOf r ≤ 32767) ⌝ }
 {
-    let w = word_at(s, at);
-    if w < 32768 {
-        Term::Const(w as u32)
-    } else {
-        Term::Var((w - 32768) as u32)
-    }
+    term_of(word_at(s, at))
+}
+
+// The same, of bytes that are there: no test.
+pub fn term_in(s: &[u8], at: usize) -> Term
+    requires { ⌜ (at ≤ 4294967296) × (at + 1 < length (now s)) ⌝ }
+    ensures { λ r. ⌜ (r ≡ termAt (now (s .entry)) at) × (numberOf r ≤ 32767) ⌝ }
+{
+    term_of(word_in(s, at))
 }
 
 // Where record k begins.
@@ -82,7 +92,7 @@ pub fn literals_end(s: &[u8], n: usize, from: usize) -> usize
     let mut at = from;
     let mut left = n;
     while 0 < left {
-        at = at + 2 + 2 * byte_at(s, at + 1);
+        at = at + codes::LITERAL_TERMS + codes::TERM_SIZE * byte_at(s, at + codes::LITERAL_ARITY);
         left -= 1;
     }
     at

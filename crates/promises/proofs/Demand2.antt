@@ -13,7 +13,7 @@ use Rattle.parlog.proofs.Kept.{run-keeps, step-keeps, supply-keeps}
 use Rattle.parlog.proofs.Repeated.{runs, runs-only}
 use Rattle.parlog.proofs.Rows.{rows-length, written-past}
 use Rattle.parlog.proofs.Sane.{Sane}
-use Rattle.parlog.specs.Limits.{small}
+use Rattle.parlog.specs.Limits.{Limits, Usable}
 use Rattle.parlog.specs.Load.{loadOf, refusal}
 use Rattle.parlog.specs.Program.{Program, programOf}
 use Rattle.parlog.specs.Relation.{Fits, Rule}
@@ -36,45 +36,45 @@ use Rattle.promises.specs.Refusals.{CanMove, LacksRoom, LetIn, stateIn, 
 use Rattle.rows.proofs.Laws.{row-length}
 use Rattle.vars.proofs.Laws.{cell-length}
 
-module _ (s : List ℕ) (l : Lent) {r c : ℕ} (i : LetIn s l r c) where
+module _ (lim : Limits) (s : List ℕ) (l : Lent) {r c : ℕ} (i : LetIn lim s l r c) where
   abbrev pr : Program
   pr = programOf s r c
 
-  kept : stateOk small pr (stateIn l) ≡ true
-  kept = tables-state small pr (tablesIn l) (let-ok s l i)
+  kept : stateOk lim pr (stateIn l) ≡ true
+  kept = tables-state lim pr (tablesIn l) (let-ok lim s l i)
 
   pub image-sane : Sane pr
   image-sane = accepted-sane s r c (i .image)
 
   -- bytes that became those of t
-  pub holds-in : (t : Tables) (l′ : Lent) → Fours (t .state) → tablesOk small pr t ≡ true → l′ ≡ putTables l t → Holds l t l′
-  holds-in t l′ f ok e = rw e (put-holds s l i t f ok)
+  pub holds-in : (t : Tables) (l′ : Lent) → Fours (t .state) → tablesOk lim pr t ≡ true → l′ ≡ putTables l t → Holds l t l′
+  holds-in t l′ f ok e = rw e (put-holds lim s l i t f ok)
 
   -- ---- a step
 
-  module _ (p w : ℕ) (l′ : Lent) (meets : StepMeets s l p w l′) (h : p < procCount (l .head)) where
-    refused-as : (k : ℕ) → k ≤ 255 → stepTables small pr (tablesIn l) p ≡ unmade k → refusalIn w ≡ k
-    refused-as k small-k e = refused-told w (refusal k 0) small-k (meets .contract .answer ∙ rw (step-as s l p i e)) .0
+  module _ (p w : ℕ) (l′ : Lent) (meets : StepMeets lim s l p w l′) (h : p < procCount (l .head)) where
+    refused-as : (k : ℕ) → k ≤ 255 → stepTables lim pr (tablesIn l) p ≡ unmade k → refusalIn w ≡ k
+    refused-as k small-k e = refused-told w (refusal k 0) small-k (meets .contract .answer ∙ rw (step-as lim s l p i e)) .0
 
-    shows-made : {m : Move} {s′ : State} → Rule pr (stateIn l) p m s′ → Fits small s′ → stepTables small pr (tablesIn l) p ≡ made m (afterStep (tablesIn l) p s′) → Shows pr l p m s′ w l′
+    shows-made : {m : Move} {s′ : State} → Rule pr (stateIn l) p m s′ → Fits lim s′ → stepTables lim pr (tablesIn l) p ≡ made m (afterStep (tablesIn l) p s′) → Shows lim pr l p m s′ w l′
     shows-made {m} {s′} x f e =
         let t : Tables = afterStep (tablesIn l) p s′ in
-        let q = step-as s l p i e in
+        let q = step-as lim s l p i e in
         record {
           holds = x;
           fits = f;
           tells = moved-told w m (meets .contract .answer ∙ rw q);
-          tables = holds-in t l′ (fours-step small pr (tablesIn l) (fours-in l) p m t e) (step-keeps small pr image-sane (tablesIn l) t p m (let-ok s l i) e)
+          tables = holds-in t l′ (fours-step lim pr (tablesIn l) (fours-in l) p m t e) (step-keeps lim pr image-sane (tablesIn l) t p m (let-ok lim s l i) e)
               (same-lent l′ (putTables l t) (meets .contract .head ∙ rw q) (meets .contract .procs ∙ rw q) (meets .contract .vars ∙ rw q));
         }
 
-    full-not : {m : Move} {s′ : State} → Rule pr (stateIn l) p m s′ → Fits small s′ → LacksRoom pr (stateIn l) p → ⊥
-    full-not x f q = let z = at-most-one small pr (stateIn l) kept p x (q .holds) .1 in q .full (rw z at f)
+    full-not : {m : Move} {s′ : State} → Rule pr (stateIn l) p m s′ → Fits lim s′ → LacksRoom lim pr (stateIn l) p → ⊥
+    full-not x f q = let z = at-most-one lim pr (stateIn l) kept p x (q .holds) .1 in q .full (rw z at f)
 
     can-of : {m : Move} {s′ : State} → Rule pr (stateIn l) p m s′ → CanMove pr (stateIn l) p
     can-of {m} {s′} x = record { rule = m; after = s′; holds = x }
 
-    by-trial : {a : Stepping} → Trial pr (tablesIn l) (let-ok s l i) p a → stepTables small pr (tablesIn l) p ≡ a → MovesExactly pr l p w l′
+    by-trial : {a : Stepping} → Trial lim pr (tablesIn l) (let-ok lim s l i) p a → stepTables lim pr (tablesIn l) p ≡ a → MovesExactly lim pr l p w l′
     by-trial (too-high g) e = absurd (omega (arith, count-procs l))
     by-trial (is-still g n) e =
         let k : refusalIn w ≡ 10 = refused-as 10 (omega arith) e in
@@ -98,7 +98,7 @@ module _ (s : List ℕ) (l : Lent) {r c : ℕ} (i : LetIn s l r c) where
         let k = shows-made x f e in
         let o : refusalIn w ≡ 0 = k .tells .accepted in
         record {
-          does = λ y u. let z = at-most-one small pr (stateIn l) kept p x y in rw (z .0, z .1) at k;
+          does = λ y u. let z = at-most-one lim pr (stateIn l) kept p x y in rw (z .0, z .1) at k;
           only = λ z. record { rule = m; after = s′; shows = k };
           still = (λ z. absurd (omega arith), λ n. absurd (n (can-of x)));
           room = (λ z. absurd (omega arith), λ q. absurd (full-not x f q));
@@ -106,68 +106,68 @@ module _ (s : List ℕ) (l : Lent) {r c : ℕ} (i : LetIn s l r c) where
         }
 
     -- demand 2: the step of p is exactly the move of the rules
-    pub demand-2-step : MovesExactly pr l p w l′
-    demand-2-step = by-trial (trial pr (tablesIn l) (let-ok s l i) p) refl
+    pub demand-2-step : MovesExactly lim pr l p w l′
+    demand-2-step = by-trial (trial lim pr (tablesIn l) (let-ok lim s l i) p) refl
 
   -- demand 2: a turn is that of the process whose turn it is
-  pub demand-2-turn : (w : ℕ) (l′ : Lent) → TurnMeets s l w l′ → {p : ℕ} → Turn pr (tablesIn l) p → MovesExactly pr l p w l′
-  demand-2-turn w l′ meets {p} u = demand-2-step p w l′ (turn-meets-step s l w l′ meets i u) (turn-there s l i u)
+  pub demand-2-turn : (w : ℕ) (l′ : Lent) → TurnMeets lim s l w l′ → {p : ℕ} → Turn pr (tablesIn l) p → MovesExactly lim pr l p w l′
+  demand-2-turn w l′ meets {p} u = demand-2-step p w l′ (turn-meets-step lim s l w l′ meets i u) (turn-there lim s l i u)
 
   -- ---- a run
 
-  module _ (limit w : ℕ) (l′ : Lent) (meets : RunMeets s l limit w l′) where
-    ran-so : Ran-to l (runTables limit small pr (tablesIn l)) w l′
+  module _ (limit w : ℕ) (l′ : Lent) (meets : RunMeets lim s l limit w l′) where
+    ran-so : Ran-to l (runTables limit lim pr (tablesIn l)) w l′
     ran-so =
-        let x : Running = runTables limit small pr (tablesIn l) in
-        let q = run-let s l i limit in
+        let x : Running = runTables limit lim pr (tablesIn l) in
+        let q = run-let lim s l i limit in
         let a = ended-told w (x .end) (x .moves) (meets .contract .answer ∙ rw q) in
         record {
           accepted = a .0;
           end = a .1;
           count = a .2;
-          tables = holds-in (x .tables) l′ (fours-run small pr (tablesIn l) (fours-in l) limit) (run-keeps small pr image-sane limit (tablesIn l) (let-ok s l i))
+          tables = holds-in (x .tables) l′ (fours-run lim pr (tablesIn l) (fours-in l) limit) (run-keeps lim pr image-sane limit (tablesIn l) (let-ok lim s l i))
               (same-lent l′ (putTables l (x .tables)) (meets .contract .head ∙ rw q) (meets .contract .procs ∙ rw q) (meets .contract .vars ∙ rw q));
         }
 
     -- demand 2: a run is repeated moves, with their count, and stops where it must
-    pub demand-2-run : RunsExactly pr l limit w l′
+    pub demand-2-run : RunsExactly lim pr l limit w l′
     demand-2-run = record {
-      run = runTables limit small pr (tablesIn l);
-      runs = runs small pr limit (tablesIn l);
+      run = runTables limit lim pr (tablesIn l);
+      runs = runs lim pr limit (tablesIn l);
       ran = ran-so;
-      only = λ x y. let z = runs-only small pr limit (tablesIn l) x y in rw z ran-so;
+      only = λ x y. let z = runs-only lim pr limit (tablesIn l) x y in rw z ran-so;
     }
 
   -- ---- a supply and a look
 
-  module _ (v k w : ℕ) (l′ : Lent) (meets : SupplyMeets s l v k w l′) where
-    by-offer : {a : Supplying} → Offer pr (tablesIn l) (let-ok s l i) v k a → supplyTables pr (tablesIn l) v k ≡ a → refusalIn w ≡ 0 → Supplies l v k w l′
-    by-offer (not-there h) e z = let g = refused-told w (refusal 12 0) (omega arith) (meets .contract .answer ∙ rw (supply-as s l v k i e)) .0 in absurd (omega arith)
-    by-offer (too-large h g) e z = let g = refused-told w (refusal 14 0) (omega arith) (meets .contract .answer ∙ rw (supply-as s l v k i e)) .0 in absurd (omega arith)
-    by-offer (is-constant h g x) e z = let g = refused-told w (refusal 13 0) (omega arith) (meets .contract .answer ∙ rw (supply-as s l v k i e)) .0 in absurd (omega arith)
+  module _ (v k w : ℕ) (l′ : Lent) (meets : SupplyMeets lim s l v k w l′) where
+    by-offer : {a : Supplying} → Offer lim pr (tablesIn l) (let-ok lim s l i) v k a → supplyTables pr (tablesIn l) v k ≡ a → refusalIn w ≡ 0 → Supplies l v k w l′
+    by-offer (not-there h) e z = let g = refused-told w (refusal 12 0) (omega arith) (meets .contract .answer ∙ rw (supply-as lim s l v k i e)) .0 in absurd (omega arith)
+    by-offer (too-large h g) e z = let g = refused-told w (refusal 14 0) (omega arith) (meets .contract .answer ∙ rw (supply-as lim s l v k i e)) .0 in absurd (omega arith)
+    by-offer (is-constant h g x) e z = let g = refused-told w (refusal 13 0) (omega arith) (meets .contract .answer ∙ rw (supply-as lim s l v k i e)) .0 in absurd (omega arith)
     by-offer (is-taken {u} h g x f) e z =
         let t : Tables = supplied (tablesIn l) u k in
-        let q = supply-as s l v k i e in
+        let q = supply-as lim s l v k i e in
         record {
           accepted = z;
           unbound = u;
           value = x;
           free = f;
-          tables = holds-in t l′ (fours-supply (tablesIn l) t (fours-in l) u k refl) (supply-keeps small pr (tablesIn l) t v k u (let-ok s l i) e)
+          tables = holds-in t l′ (fours-supply (tablesIn l) t (fours-in l) u k refl) (supply-keeps lim pr (tablesIn l) t v k u (let-ok lim s l i) e)
               (same-lent l′ (putTables l t) (meets .contract .head ∙ rw q) (meets .contract .procs ∙ rw q) (meets .contract .vars ∙ rw q));
         }
 
     -- a supply that is not refused binds the value of v
     pub demand-2-supply : refusalIn w ≡ 0 → Supplies l v k w l′
-    demand-2-supply = by-offer (offer pr (tablesIn l) (let-ok s l i) v k) refl
+    demand-2-supply = by-offer (offer lim pr (tablesIn l) (let-ok lim s l i) v k) refl
 
-  module _ (v w : ℕ) (meets : ValueMeets s l v w) where
+  module _ (v w : ℕ) (meets : ValueMeets lim s l v w) where
     -- a look that is not refused tells the value of v
     pub demand-2-value : v < pr .goalVars → Sees l v w
     demand-2-value h =
-        let a = look-value pr (tablesIn l) (let-ok s l i) v in
-        let q = value-as s l v i (look-sees pr (tablesIn l) (let-ok s l i) v h) in
-        let b = term-told w (a .to) (meets .contract ∙ rw (q, look-is pr (tablesIn l) (let-ok s l i) v)) in
+        let a = look-value lim pr (tablesIn l) (let-ok lim s l i) v in
+        let q = value-as lim s l v i (look-sees lim pr (tablesIn l) (let-ok lim s l i) v h) in
+        let b = term-told w (a .to) (meets .contract ∙ rw (q, look-is lim pr (tablesIn l) (let-ok lim s l i) v)) in
         record { accepted = b .0; value = a .to; leads = a .leads; ends = a .ends; sort = b .1; number = b .2 }
 
 -- ---- a start
@@ -176,19 +176,19 @@ module _ (s : List ℕ) {r c : ℕ} (e : loadOf s ≡ Accepted r c) where
   goal-few : programOf s r c .goalVars ≤ 255
   goal-few = omega (arith, accepted-few s e .2)
 
-  pub started-let : LetIn s (startedLent small (programOf s r c)) r c
-  started-let = record { image = e; tables = started-good (programOf s r c) goal-few }
+  pub started-let : (lim : Limits) → Usable lim → LetIn lim s (startedLent lim (programOf s r c)) r c
+  started-let lim usable = record { image = e; tables = started-good lim usable (programOf s r c) goal-few }
 
 -- a start that is not refused leaves a fresh start
-pub demand-2-start : (s : List ℕ) (l : Lent) (w : ℕ) (l′ : Lent) → StartMeets s l w l′ → refusalIn w ≡ 0 → Begins s l′
-demand-2-start s l w l′ meets z = go (starting-so s l)
+pub demand-2-start : (lim : Limits) → Usable lim → (s : List ℕ) (l : Lent) (w : ℕ) (l′ : Lent) → StartMeets lim s l w l′ → refusalIn w ≡ 0 → Begins lim s l′
+demand-2-start lim usable s l w l′ meets z = go (starting-so lim s l)
   where
-    go : Start s l → Begins s l′
-    go (is-refused y) = let g = demand-1-start s l w l′ meets .by in let a = g .given y .0 in let b = g .numbered y .0 in absurd (omega arith)
+    go : Start lim s l → Begins lim s l′
+    go (is-refused y) = let g = demand-1-start lim s l w l′ meets .by in let a = g .given y .0 in let b = g .numbered y .0 in absurd (omega arith)
     go (is-begun {r} {c} e h) =
-        let q = start-begun s l e h in
-        let k : l′ ≡ startedLent small (programOf s r c) = same-lent l′ (startedLent small (programOf s r c)) (meets .contract .head ∙ rw q) (meets .contract .procs ∙ rw q) (meets .contract .vars ∙ rw q) in
-        record { relations = r; clauses = c; image = e; read = rw k (started-read (programOf s r c) (goal-few s e)); bytes = k }
+        let q = start-begun lim s l e h in
+        let k : l′ ≡ startedLent lim (programOf s r c) = same-lent l′ (startedLent lim (programOf s r c)) (meets .contract .head ∙ rw q) (meets .contract .procs ∙ rw q) (meets .contract .vars ∙ rw q) in
+        record { relations = r; clauses = c; image = e; read = rw k (started-read lim usable (programOf s r c) (goal-few s e)); bytes = k }
 
 -- ---- bytes past what a call writes
 

@@ -7,7 +7,7 @@ use native.Mathlib.Omega.{arith}
 use Rattle.machine.proofs.Held.{put-good, put-read}
 use Rattle.parlog.proofs.Bools.{and-true}
 use Rattle.parlog.specs.Calls.{enter, enterBy, entered, enterLoaded, Entry, runCall, runEntry, stepAnswer, stepCall, supplyAnswer, supplyCall, turnCall, turned-away, valueAnswer, valueCall}
-use Rattle.parlog.specs.Limits.{small}
+use Rattle.parlog.specs.Limits.{Limits}
 use Rattle.parlog.specs.Load.{loadOf, refusal}
 use Rattle.parlog.specs.Program.{Program, programOf}
 use Rattle.parlog.specs.Run.{stepTables, supplyTables, turnTables, valueTables}
@@ -28,116 +28,116 @@ use Rattle.promises.specs.Refusals.{bad-image, for-image, for-tables, Le
 
 -- ---- the first tests
 
-pub data Entering (s : List ℕ) (l : Lent) : Entry → Type 0 where
-  is-turned : {f : Refusal} → TurnedAway s l (f .number) (f .offset) → Entering s l (turned-away f)
-  is-let : {r c : ℕ} → LetIn s l r c → Entering s l (entered (programOf s r c) (tablesIn l))
+pub data Entering (lim : Limits) (s : List ℕ) (l : Lent) : Entry → Type 0 where
+  is-turned : {f : Refusal} → TurnedAway lim s l (f .number) (f .offset) → Entering lim s l (turned-away f)
+  is-let : {r c : ℕ} → LetIn lim s l r c → Entering lim s l (entered (programOf s r c) (tablesIn l))
 
-module _ (s : List ℕ) (l : Lent) where
-  entering : Entering s l (enter small s l)
+module _ (lim : Limits) (s : List ℕ) (l : Lent) where
+  entering : Entering lim s l (enter lim s l)
   unfolding enter
   entering = go (loadOf s) refl
     where
-      on : (r c : ℕ) → loadOf s ≡ Accepted r c → (b : Bool) → lentOk small (programOf s r c) l ≡ b → Entering s l (enterBy b (programOf s r c) l)
+      on : (r c : ℕ) → loadOf s ≡ Accepted r c → (b : Bool) → lentOk lim (programOf s r c) l ≡ b → Entering lim s l (enterBy b (programOf s r c) l)
       on r c e true h = is-let (record { image = e; tables = h })
       on r c e false h = is-turned {f = refusal 8 0} (for-tables e h)
 
-      go : (a : Loaded) → loadOf s ≡ a → Entering s l (enterLoaded a small s l)
+      go : (a : Loaded) → loadOf s ≡ a → Entering lim s l (enterLoaded a lim s l)
       go (Refused f) e = is-turned (for-image (bad-image e))
-      go (Accepted r c) e = on r c e (lentOk small (programOf s r c) l) refl
+      go (Accepted r c) e = on r c e (lentOk lim (programOf s r c) l) refl
 
-  pub enter-away : {n o : ℕ} → TurnedAway s l n o → enter small s l ≡ turned-away (refusal n o)
+  pub enter-away : {n o : ℕ} → TurnedAway lim s l n o → enter lim s l ≡ turned-away (refusal n o)
   unfolding enter
   enter-away (for-image (bad-image e)) = rw e
   enter-away (for-tables e h) = rw (e, h)
 
-  pub enter-let : {r c : ℕ} → LetIn s l r c → enter small s l ≡ entered (programOf s r c) (tablesIn l)
+  pub enter-let : {r c : ℕ} → LetIn lim s l r c → enter lim s l ≡ entered (programOf s r c) (tablesIn l)
   unfolding enter
   enter-let i = rw (i .image, i .tables)
 
   -- a call is turned away or let in
   pub data Door : Type 0 where
-    away : {n o : ℕ} → TurnedAway s l n o → Door
-    inside : {r c : ℕ} → LetIn s l r c → Door
+    away : {n o : ℕ} → TurnedAway lim s l n o → Door
+    inside : {r c : ℕ} → LetIn lim s l r c → Door
 
   pub door : Door
   door = go entering
     where
-      go : {e : Entry} → Entering s l e → Door
+      go : {e : Entry} → Entering lim s l e → Door
       go (is-turned a) = away a
       go (is-let i) = inside i
 
-pub let-in-same : {s : List ℕ} {l l′ : Lent} {r c r′ c′ : ℕ} → LetIn s l r c → LetIn s l′ r′ c′ → (r ≡ r′) × (c ≡ c′)
+pub let-in-same : {lim : Limits} {s : List ℕ} {l l′ : Lent} {r c r′ c′ : ℕ} → LetIn lim s l r c → LetIn lim s l′ r′ c′ → (r ≡ r′) × (c ≡ c′)
 let-in-same {r = r} {c} {r′} {c′} a b =
     let e : Accepted r c ≡ Accepted r′ c′ = sym (a .image) ∙ b .image in
     let x : r ≡ r′ = cc in
     let y : c ≡ c′ = cc in
     (x, y)
 
-pub away-numbered : {s : List ℕ} {l : Lent} {n o : ℕ} → TurnedAway s l n o → (1 ≤ n) × (n ≤ 8)
-away-numbered {s} (for-image (bad-image e)) = let a = refused-number s e in (a .0, omega (arith, a .1))
+pub away-numbered : {lim : Limits} {s : List ℕ} {l : Lent} {n o : ℕ} → TurnedAway lim s l n o → (1 ≤ n) × (n ≤ 8)
+away-numbered {s = s} (for-image (bad-image e)) = let a = refused-number s e in (a .0, omega (arith, a .1))
 away-numbered (for-tables e h) = (omega arith, omega arith)
 
 -- ---- the calls
 
-module _ (s : List ℕ) (l : Lent) where
-  module _ {n o : ℕ} (a : TurnedAway s l n o) where
-    pub step-turned : (p : ℕ) → stepCall small s l p ≡ record { answer = Unmoved (refusal n o); lent = l }
+module _ (lim : Limits) (s : List ℕ) (l : Lent) where
+  module _ {n o : ℕ} (a : TurnedAway lim s l n o) where
+    pub step-turned : (p : ℕ) → stepCall lim s l p ≡ record { answer = Unmoved (refusal n o); lent = l }
     unfolding stepCall
-    step-turned p = rw (enter-away s l a)
+    step-turned p = rw (enter-away lim s l a)
 
-    pub turn-turned : turnCall small s l ≡ record { answer = Unmoved (refusal n o); lent = l }
+    pub turn-turned : turnCall lim s l ≡ record { answer = Unmoved (refusal n o); lent = l }
     unfolding turnCall
-    turn-turned = rw (enter-away s l a)
+    turn-turned = rw (enter-away lim s l a)
 
-    pub run-turned : (limit : ℕ) → runCall small s l limit ≡ record { answer = Unrun (refusal n o); lent = l }
+    pub run-turned : (limit : ℕ) → runCall lim s l limit ≡ record { answer = Unrun (refusal n o); lent = l }
     unfolding runCall
-    run-turned limit = rw (enter-away s l a)
+    run-turned limit = rw (enter-away lim s l a)
 
-    pub supply-turned : (v k : ℕ) → supplyCall small s l v k ≡ record { answer = Ungiven (refusal n o); lent = l }
+    pub supply-turned : (v k : ℕ) → supplyCall lim s l v k ≡ record { answer = Ungiven (refusal n o); lent = l }
     unfolding supplyCall
-    supply-turned v k = rw (enter-away s l a)
+    supply-turned v k = rw (enter-away lim s l a)
 
-    pub value-turned : (v : ℕ) → valueCall small s l v ≡ Unvalued (refusal n o)
+    pub value-turned : (v : ℕ) → valueCall lim s l v ≡ Unvalued (refusal n o)
     unfolding valueCall
-    value-turned v = rw (enter-away s l a)
+    value-turned v = rw (enter-away lim s l a)
 
-  module _ {r c : ℕ} (i : LetIn s l r c) where
-    pub step-let : (p : ℕ) → stepCall small s l p ≡ stepAnswer (stepTables small (programOf s r c) (tablesIn l) p) l
+  module _ {r c : ℕ} (i : LetIn lim s l r c) where
+    pub step-let : (p : ℕ) → stepCall lim s l p ≡ stepAnswer (stepTables lim (programOf s r c) (tablesIn l) p) l
     unfolding stepCall
-    step-let p = rw (enter-let s l i)
+    step-let p = rw (enter-let lim s l i)
 
-    pub turn-let : turnCall small s l ≡ stepAnswer (turnTables small (programOf s r c) (tablesIn l)) l
+    pub turn-let : turnCall lim s l ≡ stepAnswer (turnTables lim (programOf s r c) (tablesIn l)) l
     unfolding turnCall
-    turn-let = rw (enter-let s l i)
+    turn-let = rw (enter-let lim s l i)
 
-    pub run-let : (limit : ℕ) → runCall small s l limit ≡ runEntry (entered (programOf s r c) (tablesIn l)) small l limit
+    pub run-let : (limit : ℕ) → runCall lim s l limit ≡ runEntry (entered (programOf s r c) (tablesIn l)) lim l limit
     unfolding runCall
-    run-let limit = rw (enter-let s l i)
+    run-let limit = rw (enter-let lim s l i)
 
-    pub supply-let : (v k : ℕ) → supplyCall small s l v k ≡ supplyAnswer (supplyTables (programOf s r c) (tablesIn l) v k) l
+    pub supply-let : (v k : ℕ) → supplyCall lim s l v k ≡ supplyAnswer (supplyTables (programOf s r c) (tablesIn l) v k) l
     unfolding supplyCall
-    supply-let v k = rw (enter-let s l i)
+    supply-let v k = rw (enter-let lim s l i)
 
-    pub value-let : (v : ℕ) → valueCall small s l v ≡ valueAnswer (valueTables (programOf s r c) (tablesIn l) v)
+    pub value-let : (v : ℕ) → valueCall lim s l v ≡ valueAnswer (valueTables (programOf s r c) (tablesIn l) v)
     unfolding valueCall
-    value-let v = rw (enter-let s l i)
+    value-let v = rw (enter-let lim s l i)
 
     -- ---- what was let in has good tables, and so has what is written over it
 
-    pub let-ok : tablesOk small (programOf s r c) (tablesIn l) ≡ true
+    pub let-ok : tablesOk lim (programOf s r c) (tablesIn l) ≡ true
     unfolding lentOk
     let-ok =
         let pr : Program = programOf s r c in
-        and-true (every (cellKnown (l .vars)) (varCount (l .head))) (tablesOk small pr (tablesIn l))
-        (and-true (fullSize small l) (every (cellKnown (l .vars)) (varCount (l .head)) && tablesOk small pr (tablesIn l)) (i .tables) .1) .1
+        and-true (every (cellKnown (l .vars)) (varCount (l .head))) (tablesOk lim pr (tablesIn l))
+        (and-true (fullSize lim l) (every (cellKnown (l .vars)) (varCount (l .head)) && tablesOk lim pr (tablesIn l)) (i .tables) .1) .1
 
-    pub let-full : fullSize small l ≡ true
+    pub let-full : fullSize lim l ≡ true
     unfolding lentOk
-    let-full = and-true (fullSize small l) (every (cellKnown (l .vars)) (varCount (l .head)) && tablesOk small (programOf s r c) (tablesIn l)) (i .tables) .0
+    let-full = and-true (fullSize lim l) (every (cellKnown (l .vars)) (varCount (l .head)) && tablesOk lim (programOf s r c) (tablesIn l)) (i .tables) .0
 
-    module _ (t : Tables) (f : Fours (t .state)) (ok : tablesOk small (programOf s r c) t ≡ true) where
-      pub put-let : LetIn s (putTables l t) r c
-      put-let = record { image = i .image; tables = put-good small (programOf s r c) l t let-full ok (λ j h. f j) }
+    module _ (t : Tables) (f : Fours (t .state)) (ok : tablesOk lim (programOf s r c) t ≡ true) where
+      pub put-let : LetIn lim s (putTables l t) r c
+      put-let = record { image = i .image; tables = put-good lim (programOf s r c) l t let-full ok (λ j h. f j) }
 
       pub put-holds : Holds l t (putTables l t)
-      put-holds = record { read = put-read small (programOf s r c) l t let-full ok (λ j h. f j); bytes = refl }
+      put-holds = record { read = put-read lim (programOf s r c) l t let-full ok (λ j h. f j); bytes = refl }

@@ -9,20 +9,20 @@ use Rattle.parlog.proofs.OneValue.{has-value}
 use Rattle.parlog.proofs.Steps.{steady-kept}
 use Rattle.parlog.proofs.Values.{Falling, leads-is, leads-value, value-free}
 use Rattle.parlog.specs.Demands.{HasValue}
-use Rattle.parlog.specs.Limits.{small}
+use Rattle.parlog.specs.Limits.{Limits}
 use Rattle.parlog.specs.Notions.{Leads}
 use Rattle.parlog.specs.Program.{Program}
 use Rattle.parlog.specs.Run.{given, seen, supplied, Supplying, supplyTables, supplyValue, ungiven, unseen, valueTables}
 use Rattle.parlog.specs.TableRules.{tablesOk}
-use Rattle.parlog.specs.Tables.{at, bindingOf, Tables}
+use Rattle.parlog.specs.Tables.{bindingOf, Tables}
 use Rattle.parlog.specs.Unify.{value}
 use Rattle.parlog.specs.declared.Binding.the-variants.{Free}
 use Rattle.parlog.specs.declared.Term.{Term}
 use Rattle.parlog.specs.declared.Term.the-variants.{Const, Var}
 
-module _ (pr : Program) (t : Tables) (ok : tablesOk small pr t ≡ true) (v k : ℕ) where
+module _ (lim : Limits) (pr : Program) (t : Tables) (ok : tablesOk lim pr t ≡ true) (v k : ℕ) where
   falls : Falling (t .state .vars)
-  falls = steady-kept small pr t ok .0 .falls
+  falls = steady-kept lim pr t ok .0 .falls
 
   pub supply-twelve : pr .goalVars ≤ v → supplyTables pr t v k ≡ ungiven 12
   unfolding supplyTables
@@ -65,7 +65,7 @@ module _ (pr : Program) (t : Tables) (ok : tablesOk small pr t ≡ true) (v k : 
           let l : Leads (t .state .vars) (Var v) (Var u) = rw e at (leads-value (t .state .vars) falls (Var v)) in
           rw (supply-gives h g l) (is-taken h g l (value-free (t .state .vars) falls (Var v) u e))
 
-module _ (pr : Program) (t : Tables) (ok : tablesOk small pr t ≡ true) (v : ℕ) where
+module _ (lim : Limits) (pr : Program) (t : Tables) (ok : tablesOk lim pr t ≡ true) (v : ℕ) where
   pub look-twelve : pr .goalVars ≤ v → valueTables pr t v ≡ unseen 12
   unfolding valueTables
   look-twelve h = rw (le-ltb v (pr .goalVars) h)
@@ -75,7 +75,7 @@ module _ (pr : Program) (t : Tables) (ok : tablesOk small pr t ≡ true) (v : �
   look-sees h = rw (lt-ltb v (pr .goalVars) h)
 
   pub look-value : HasValue (t .state .vars) (Var v)
-  look-value = has-value (t .state .vars) (steady-kept small pr t ok .0 .falls) (Var v)
+  look-value = has-value (t .state .vars) (steady-kept lim pr t ok .0 .falls) (Var v)
 
   pub look-is : look-value .to ≡ value (t .state .vars) (Var v)
-  look-is = sym (look-value .alone (value (t .state .vars) (Var v)) (leads-value (t .state .vars) (steady-kept small pr t ok .0 .falls) (Var v)))
+  look-is = sym (look-value .alone (value (t .state .vars) (Var v)) (leads-value (t .state .vars) (steady-kept lim pr t ok .0 .falls) (Var v)))

@@ -10,6 +10,7 @@ pub mod Demand2
 pub mod Keeping
 pub mod Arrive
 pub mod Demand3
+pub mod Exports
 pub mod Once
 pub mod RunTurns
 pub mod Watching

@@ -3,6 +3,7 @@ use mathlib.Core.Path.{_∙_, _≡_, ap, sym}
 use mathlib.Core.List.{List}
 use Prim.Native.Nat.{ℕ}
 use Rattle.machine.proofs.Held.{same-lent}
+use Rattle.parlog.specs.Limits.{Limits}
 use Rattle.parlog.specs.Run.{watchOf}
 use Rattle.parlog.specs.Tables.{Lent}
 use Rattle.parlog.specs.declared.Found.{Found}
@@ -17,24 +18,24 @@ module _ (s : List ℕ) where
   pub once-load : {w w′ : ℕ} → LoadMeets s w → LoadMeets s w′ → w ≡ w′
   once-load a b = a .contract ∙ sym (b .contract)
 
-module _ (s : List ℕ) (l : Lent) {w w′ : ℕ} {l′ l″ : Lent} where
-  pub once-start : StartMeets s l w l′ → StartMeets s l w′ l″ → (w ≡ w′) × (l′ ≡ l″)
+module _ (lim : Limits) (s : List ℕ) (l : Lent) {w w′ : ℕ} {l′ l″ : Lent} where
+  pub once-start : StartMeets lim s l w l′ → StartMeets lim s l w′ l″ → (w ≡ w′) × (l′ ≡ l″)
   once-start a b = (a .contract .answer ∙ sym (b .contract .answer), same-lent l′ l″ (a .contract .head ∙ sym (b .contract .head)) (a .contract .procs ∙ sym (b .contract .procs)) (a .contract .vars ∙ sym (b .contract .vars)))
 
-  pub once-step : {p : ℕ} → StepMeets s l p w l′ → StepMeets s l p w′ l″ → (w ≡ w′) × (l′ ≡ l″)
+  pub once-step : {p : ℕ} → StepMeets lim s l p w l′ → StepMeets lim s l p w′ l″ → (w ≡ w′) × (l′ ≡ l″)
   once-step a b = (a .contract .answer ∙ sym (b .contract .answer), same-lent l′ l″ (a .contract .head ∙ sym (b .contract .head)) (a .contract .procs ∙ sym (b .contract .procs)) (a .contract .vars ∙ sym (b .contract .vars)))
 
-  pub once-turn : TurnMeets s l w l′ → TurnMeets s l w′ l″ → (w ≡ w′) × (l′ ≡ l″)
+  pub once-turn : TurnMeets lim s l w l′ → TurnMeets lim s l w′ l″ → (w ≡ w′) × (l′ ≡ l″)
   once-turn a b = (a .contract .answer ∙ sym (b .contract .answer), same-lent l′ l″ (a .contract .head ∙ sym (b .contract .head)) (a .contract .procs ∙ sym (b .contract .procs)) (a .contract .vars ∙ sym (b .contract .vars)))
 
-  pub once-run : {limit : ℕ} → RunMeets s l limit w l′ → RunMeets s l limit w′ l″ → (w ≡ w′) × (l′ ≡ l″)
+  pub once-run : {limit : ℕ} → RunMeets lim s l limit w l′ → RunMeets lim s l limit w′ l″ → (w ≡ w′) × (l′ ≡ l″)
   once-run a b = (a .contract .answer ∙ sym (b .contract .answer), same-lent l′ l″ (a .contract .head ∙ sym (b .contract .head)) (a .contract .procs ∙ sym (b .contract .procs)) (a .contract .vars ∙ sym (b .contract .vars)))
 
-  pub once-supply : {v k : ℕ} → SupplyMeets s l v k w l′ → SupplyMeets s l v k w′ l″ → (w ≡ w′) × (l′ ≡ l″)
+  pub once-supply : {v k : ℕ} → SupplyMeets lim s l v k w l′ → SupplyMeets lim s l v k w′ l″ → (w ≡ w′) × (l′ ≡ l″)
   once-supply a b = (a .contract .answer ∙ sym (b .contract .answer), same-lent l′ l″ (a .contract .head ∙ sym (b .contract .head)) (a .contract .procs ∙ sym (b .contract .procs)) (a .contract .vars ∙ sym (b .contract .vars)))
 
-module _ (s : List ℕ) (l : Lent) (v : ℕ) where
-  pub once-value : {w w′ : ℕ} → ValueMeets s l v w → ValueMeets s l v w′ → w ≡ w′
+module _ (lim : Limits) (s : List ℕ) (l : Lent) (v : ℕ) where
+  pub once-value : {w w′ : ℕ} → ValueMeets lim s l v w → ValueMeets lim s l v w′ → w ≡ w′
   once-value a b = a .contract ∙ sym (b .contract)
 
 module _ (rows : List ℕ) where
@@ -43,8 +44,8 @@ module _ (rows : List ℕ) where
 
 -- ---- the two calls that no C program reaches: the turn with its marker lent, and the watch over records
 
-module _ (s cs ps vs : List ℕ) (m : Marker) {a b : Stepped} {m′ m″ : Marker} {cs′ ps′ vs′ cs″ ps″ vs″ : List ℕ} where
-  pub once-marker : TurnedSays s cs ps vs m (turnedFrom m′ a) cs′ ps′ vs′ → TurnedSays s cs ps vs m (turnedFrom m″ b) cs″ ps″ vs″
+module _ (lim : Limits) (s cs ps vs : List ℕ) (m : Marker) {a b : Stepped} {m′ m″ : Marker} {cs′ ps′ vs′ cs″ ps″ vs″ : List ℕ} where
+  pub once-marker : TurnedSays lim s cs ps vs m (turnedFrom m′ a) cs′ ps′ vs′ → TurnedSays lim s cs ps vs m (turnedFrom m″ b) cs″ ps″ vs″
       → (a ≡ b) × (m′ ≡ m″) × (cs′ ≡ cs″) × (ps′ ≡ ps″) × (vs′ ≡ vs″)
   once-marker x y =
       let e : turnedFrom m′ a ≡ turnedFrom m″ b = x .turned ∙ sym (y .turned) in (

@@ -13,7 +13,7 @@ use Rattle.parlog.proofs.Kept.{turn-keeps}
 use Rattle.parlog.proofs.Sane.{Sane}
 use Rattle.parlog.proofs.Steps.{step-made, turn-made}
 use Rattle.parlog.specs.Demands.{no-more, once-more, Repeats}
-use Rattle.parlog.specs.Limits.{Limits, small}
+use Rattle.parlog.specs.Limits.{Limits}
 use Rattle.parlog.specs.Numbers.{stepNumbers, word}
 use Rattle.parlog.specs.Program.{Program, programOf}
 use Rattle.parlog.specs.Run.{goalEnded, made, stepped, stepTables, turnTables}
@@ -60,43 +60,43 @@ keeps-repeats lim pr sane {t} (once-more {t′ = x} {m = m} g e k) ok = keeps-re
 
 -- ---- as turn calls
 
-module _ (s : List ℕ) (r c : ℕ) where
+module _ (lim : Limits) (s : List ℕ) (r c : ℕ) where
   abbrev pr : Program
   pr = programOf s r c
 
-  turn-outcome : (l : Lent) → LetIn s l r c → {m : Move} {u : Tables} → turnTables small pr (tablesIn l) ≡ made m u → TurnMeets s l (word (stepNumbers (Moved m))) (putTables l u)
-  turn-outcome l i e = let q = turn-as s l i e in record { contract = record { answer = rw q; head = rw q; procs = rw q; vars = rw q } }
+  turn-outcome : (l : Lent) → LetIn lim s l r c → {m : Move} {u : Tables} → turnTables lim pr (tablesIn l) ≡ made m u → TurnMeets lim s l (word (stepNumbers (Moved m))) (putTables l u)
+  turn-outcome l i e = let q = turn-as lim s l i e in record { contract = record { answer = rw q; head = rw q; procs = rw q; vars = rw q } }
 
-  turns-from : {t t′ : Tables} {n : ℕ} → Repeats small pr t n t′ → (l : Lent) → LetIn s l r c → tablesIn l ≡ t → putTables l t ≡ l → Turns s l n (putTables l t′)
+  turns-from : {t t′ : Tables} {n : ℕ} → Repeats lim pr t n t′ → (l : Lent) → LetIn lim s l r c → tablesIn l ≡ t → putTables l t ≡ l → Turns lim s l n (putTables l t′)
   turns-from no-more l i e same = rw same no-turn
   turns-from {t} {t′} (once-more {t′ = u} {m = m} {n = n} g q k) l i e same =
-      let z : turnTables small pr (tablesIn l) ≡ made m u = rw e q in
-      let ok : tablesOk small pr t ≡ true = rw e at (let-ok s l i) in
-      let f : Fours (u .state) = fours-turn small pr (tablesIn l) (fours-in l) m u z in
-      let v : tablesOk small pr u ≡ true = turn-keeps small pr (image-sane s l i) t u m ok q in
-      let x : tablesOk small pr t′ ≡ true = keeps-repeats small pr (image-sane s l i) k v in
-      let full = let-full s l i in
+      let z : turnTables lim pr (tablesIn l) ≡ made m u = rw e q in
+      let ok : tablesOk lim pr t ≡ true = rw e at (let-ok lim s l i) in
+      let f : Fours (u .state) = fours-turn lim pr (tablesIn l) (fours-in l) m u z in
+      let v : tablesOk lim pr u ≡ true = turn-keeps lim pr (image-sane lim s l i) t u m ok q in
+      let x : tablesOk lim pr t′ ≡ true = keeps-repeats lim pr (image-sane lim s l i) k v in
+      let full = let-full lim s l i in
       let one : putTables (putTables l u) u ≡ putTables l u =
-      put-over l u u (omega arith) (omega arith) (rows-fit small pr l u full v) (cells-fit small pr l u full v) in
-      let more = grown-repeats small pr k in
+      put-over l u u (omega arith) (omega arith) (rows-fit lim pr l u full v) (cells-fit lim pr l u full v) in
+      let more = grown-repeats lim pr k in
       let all : putTables (putTables l u) t′ ≡ putTables l t′ =
-      put-over l u t′ (more .procs) (more .vars) (rows-fit small pr l t′ full x) (cells-fit small pr l t′ full x) in
-      let rest = turns-from k (putTables l u) (put-let s l i u f v) (put-holds s l i u f v .read) one in
+      put-over l u t′ (more .procs) (more .vars) (rows-fit lim pr l t′ full x) (cells-fit lim pr l t′ full x) in
+      let rest = turns-from k (putTables l u) (put-let lim s l i u f v) (put-holds lim s l i u f v .read) one in
       let w : ℕ = word (stepNumbers (Moved m)) in
       let live : goalEnded (tablesIn l) ≡ false = rw e g in
       one-turn live (turn-outcome l i z) (moved-told w m refl .accepted) (rw all at rest)
 
 -- bytes that hold good tables are those that the tables are written to
-put-same : (s : List ℕ) (l : Lent) {r c : ℕ} → LetIn s l r c → AllBytes l → putTables l (tablesIn l) ≡ l
-put-same s l {r} {c} i b =
+put-same : (lim : Limits) (s : List ℕ) (l : Lent) {r c : ℕ} → LetIn lim s l r c → AllBytes l → putTables l (tablesIn l) ≡ l
+put-same lim s l {r} {c} i b =
     let a = accepted s r c (i .image) in
-    let k = lent-inside s r c l (i .image) (a .relations) (a .clauses) (i .tables) in
+    let k = lent-inside lim s r c l (i .image) (a .relations) (a .clauses) (i .tables) in
     let g = grown-same l k (b .head) (b .procs) (b .vars) in
     same-lent (putTables l (tablesIn l)) l (sym (g .head)) (sym (g .procs)) (sym (g .vars))
 
 -- demand 2: the count of a run is the number of turn calls that come to the same bytes
-pub demand-2-run-turns : (s : List ℕ) (l : Lent) {r c : ℕ} → LetIn s l r c → AllBytes l → (limit w : ℕ) (l′ : Lent) → RunMeets s l limit w l′ → Turns s l (largeIn w) l′
-demand-2-run-turns s l {r} {c} i b limit w l′ meets =
-    let x = demand-2-run s l i limit w l′ meets in
-    let t = turns-from s r c (x .runs .moves) l i refl (put-same s l i b) in
-    subst (λ (m : Lent). Turns s l (largeIn w) m) (sym (x .ran .tables .bytes)) (subst (λ (n : ℕ). Turns s l n (putTables l (x .run .tables))) (sym (x .ran .count)) t)
+pub demand-2-run-turns : (lim : Limits) (s : List ℕ) (l : Lent) {r c : ℕ} → LetIn lim s l r c → AllBytes l → (limit w : ℕ) (l′ : Lent) → RunMeets lim s l limit w l′ → Turns lim s l (largeIn w) l′
+demand-2-run-turns lim s l {r} {c} i b limit w l′ meets =
+    let x = demand-2-run lim s l i limit w l′ meets in
+    let t = turns-from lim s r c (x .runs .moves) l i refl (put-same lim s l i b) in
+    subst (λ (m : Lent). Turns lim s l (largeIn w) m) (sym (x .ran .tables .bytes)) (subst (λ (n : ℕ). Turns lim s l n (putTables l (x .run .tables))) (sym (x .ran .count)) t)

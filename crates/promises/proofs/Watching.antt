@@ -14,7 +14,7 @@ use Rattle.parlog.specs.Codes.{isMode, modeCode, suspended}
 use Rattle.parlog.specs.Numbers.{watchNumbers, word}
 use Rattle.parlog.specs.Run.{watchOf}
 use Rattle.parlog.specs.Scan.{lowest}
-use Rattle.parlog.specs.Tables.{at, processAt, procsOf}
+use Rattle.parlog.specs.Tables.{at, processAt, procsOf, rowSize}
 use Rattle.parlog.specs.declared.Found.{Found}
 use Rattle.parlog.specs.declared.Found.the-variants.{At, Nothing}
 use Rattle.parlog.specs.declared.Process.{Process}
@@ -25,7 +25,7 @@ use Rattle.rows.proofs.Tables.{procs-at, procs-length}
 
 module _ (rows : List ℕ) where
   abbrev n : ℕ
-  n = length rows / 24
+  n = length rows / rowSize
 
   abbrev waits : ℕ → Bool
   waits i = isMode suspended (at (procsOf rows n) i .mode)

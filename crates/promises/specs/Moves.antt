@@ -5,23 +5,15 @@ use mathlib.Core.Bool.{false}
 use mathlib.Core.List.{List}
 use Prim.Native.Nat.{_/_, _<_, suc, ℕ}
 use lib.ListN.{length}
-use Rattle.load.proofs.Accepted.{accepted}
-use Rattle.load.proofs.Turn.{ends}
-use Rattle.parlog.proofs.Repeated.{runs}
-use Rattle.parlog.proofs.Shape.{tells}
 use Rattle.parlog.specs.Codes.{modeCode, suspended}
-use Rattle.parlog.specs.Delta.{only}
 use Rattle.parlog.specs.Demands.{Ended-at, Runs}
-use Rattle.parlog.specs.Limits.{small}
-use Rattle.parlog.specs.Load.{after}
-use Rattle.parlog.specs.Notions.{Leads, unbound}
+use Rattle.parlog.specs.Limits.{Limits}
+use Rattle.parlog.specs.Notions.{Leads}
 use Rattle.parlog.specs.Numbers.{endNumber, ruleNumber, termNumbers, touched}
 use Rattle.parlog.specs.Program.{Program}
 use Rattle.parlog.specs.Relation.{Fits, Rule}
-use Rattle.parlog.specs.Rules.{fits, room, still}
 use Rattle.parlog.specs.Run.{counted, goalEnded, Running, supplied}
-use Rattle.parlog.specs.Tables.{bindingOf, Lent, processAt, putTables, State, Tables, tablesIn}
-use Rattle.parlog.specs.Unify.{value}
+use Rattle.parlog.specs.Tables.{bindingOf, Lent, processAt, putTables, rowSize, State, Tables, tablesIn}
 use Rattle.parlog.specs.declared.Binding.the-variants.{Free}
 use Rattle.parlog.specs.declared.Move.{Move}
 use Rattle.parlog.specs.declared.Term.{Term}
@@ -47,25 +39,25 @@ pub record MoveTold (m : Move) (w : ℕ) : Type 0 where
   pub number : largeIn w ≡ touched m .number
 
 -- the rule m moved p, with room, to the state s′; word and bytes tell it
-pub record Shows (pr : Program) (l : Lent) (p : ℕ) (m : Move) (s′ : State) (w : ℕ) (l′ : Lent) : Type 0 where
+pub record Shows (lim : Limits) (pr : Program) (l : Lent) (p : ℕ) (m : Move) (s′ : State) (w : ℕ) (l′ : Lent) : Type 0 where
   pub holds : Rule pr (stateIn l) p m s′
-  pub fits : Fits small s′
+  pub fits : Fits lim s′
   pub tells : MoveTold m w
   pub tables : Holds l (afterStep (tablesIn l) p s′) l′
 
 -- some rule moved p
-pub record Moves (pr : Program) (l : Lent) (p w : ℕ) (l′ : Lent) : Type 0 where
+pub record Moves (lim : Limits) (pr : Program) (l : Lent) (p w : ℕ) (l′ : Lent) : Type 0 where
   pub rule : Move
   pub after : State
-  pub shows : Shows pr l p rule after w l′
+  pub shows : Shows lim pr l p rule after w l′
 
 -- the step of p is exactly the move of the rules: the one that holds and has room is made, what is made is one that holds and has room,
 -- STILL is given exactly where no rule applies, ROOM exactly where one applies without room
-pub record MovesExactly (pr : Program) (l : Lent) (p w : ℕ) (l′ : Lent) : Type 0 where
-  pub does : {m : Move} {s′ : State} → Rule pr (stateIn l) p m s′ → Fits small s′ → Shows pr l p m s′ w l′
-  pub only : refusalIn w ≡ 0 → Moves pr l p w l′
+pub record MovesExactly (lim : Limits) (pr : Program) (l : Lent) (p w : ℕ) (l′ : Lent) : Type 0 where
+  pub does : {m : Move} {s′ : State} → Rule pr (stateIn l) p m s′ → Fits lim s′ → Shows lim pr l p m s′ w l′
+  pub only : refusalIn w ≡ 0 → Moves lim pr l p w l′
   pub still : (refusalIn w ≡ 10) ↔ (CanMove pr (stateIn l) p → ⊥)
-  pub room : (refusalIn w ≡ 11) ↔ LacksRoom pr (stateIn l) p
+  pub room : (refusalIn w ≡ 11) ↔ LacksRoom lim pr (stateIn l) p
   pub nothing-else : (refusalIn w ≡ 0) ⊎ (refusalIn w ≡ 10) ⊎ (refusalIn w ≡ 11)
 
 -- ---- a run
@@ -78,11 +70,11 @@ pub record Ran-to (l : Lent) (x : Running) (w : ℕ) (l′ : Lent) : Type 0 wher
   pub tables : Holds l (x .tables) l′
 
 -- a run is repeated moves: there is one with this word and these bytes, and every run from there has them
-pub record RunsExactly (pr : Program) (l : Lent) (limit w : ℕ) (l′ : Lent) : Type 0 where
+pub record RunsExactly (lim : Limits) (pr : Program) (l : Lent) (limit w : ℕ) (l′ : Lent) : Type 0 where
   pub run : Running
-  pub runs : Runs limit small pr (tablesIn l) run
+  pub runs : Runs limit lim pr (tablesIn l) run
   pub ran : Ran-to l run w l′
-  pub only : (x : Running) → Runs limit small pr (tablesIn l) x → Ran-to l x w l′
+  pub only : (x : Running) → Runs limit lim pr (tablesIn l) x → Ran-to l x w l′
 
 -- each number that is lent is a byte: what the type of a lent row says
 pub record AllBytes (l : Lent) : Type 0 where
@@ -91,9 +83,9 @@ pub record AllBytes (l : Lent) : Type 0 where
   pub vars : Bytes (l .vars)
 
 -- n turn calls one after the other, each of them made, none of them after the goal's end
-pub data Turns (s : List ℕ) : Lent → ℕ → Lent → Type 0 where
-  no-turn : {l : Lent} → Turns s l 0 l
-  one-turn : {l l′ l″ : Lent} {w n : ℕ} → goalEnded (tablesIn l) ≡ false → TurnMeets s l w l′ → refusalIn w ≡ 0 → Turns s l′ n l″ → Turns s l (suc n) l″
+pub data Turns (lim : Limits) (s : List ℕ) : Lent → ℕ → Lent → Type 0 where
+  no-turn : {l : Lent} → Turns lim s l 0 l
+  one-turn : {l l′ l″ : Lent} {w n : ℕ} → goalEnded (tablesIn l) ≡ false → TurnMeets lim s l w l′ → refusalIn w ≡ 0 → Turns lim s l′ n l″ → Turns lim s l (suc n) l″
 
 -- ---- a supply and a look
 
@@ -118,6 +110,6 @@ pub record Sees (l : Lent) (v w : ℕ) : Type 0 where
 
 -- Turns 5: the lowest number of a row that is suspended, or none; whatever the rows hold
 pub data Watched (rows : List ℕ) (w : ℕ) : Type 0 where
-  one-waits : {i : ℕ} → i < length rows / 24 → processAt rows i .mode ≡ modeCode suspended → ((j : ℕ) → j < i → processAt rows j .mode ≢ modeCode suspended)
+  one-waits : {i : ℕ} → i < length rows / rowSize → processAt rows i .mode ≡ modeCode suspended → ((j : ℕ) → j < i → processAt rows j .mode ≢ modeCode suspended)
       → firstIn w ≡ 1 → largeIn w ≡ i → Watched rows w
-  none-waits : ((j : ℕ) → j < length rows / 24 → processAt rows j .mode ≢ modeCode suspended) → firstIn w ≡ 0 → Watched rows w
+  none-waits : ((j : ℕ) → j < length rows / rowSize → processAt rows j .mode ≢ modeCode suspended) → firstIn w ≡ 0 → Watched rows w

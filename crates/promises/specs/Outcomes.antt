@@ -3,6 +3,7 @@ use mathlib.Core.Path.{_≡_}
 use mathlib.Core.List.{List}
 use Prim.Native.Nat.{_%_, _/_, ℕ}
 use Rattle.capi.specs.Tells.{RunTells, StartTells, StepTells, SupplyTells, TurnTells, ValueTells, WatchTells}
+use Rattle.parlog.specs.Limits.{Limits}
 use Rattle.parlog.specs.Load.{loadOf}
 use Rattle.parlog.specs.Numbers.{loadNumbers, word}
 use Rattle.parlog.specs.Tables.{Lent}
@@ -32,28 +33,28 @@ pub record LoadMeets (s : List ℕ) (w : ℕ) : Type 0 where
   pub contract : w ≡ word (loadNumbers (loadOf s))
 
 -- of rissobarm_start
-pub record StartMeets (s : List ℕ) (l : Lent) (w : ℕ) (l′ : Lent) : Type 0 where
-  pub contract : StartTells s l w (l′ .head) (l′ .procs) (l′ .vars)
+pub record StartMeets (lim : Limits) (s : List ℕ) (l : Lent) (w : ℕ) (l′ : Lent) : Type 0 where
+  pub contract : StartTells lim s l w (l′ .head) (l′ .procs) (l′ .vars)
 
 -- of rissobarm_step, for process p
-pub record StepMeets (s : List ℕ) (l : Lent) (p w : ℕ) (l′ : Lent) : Type 0 where
-  pub contract : StepTells s l p w (l′ .head) (l′ .procs) (l′ .vars)
+pub record StepMeets (lim : Limits) (s : List ℕ) (l : Lent) (p w : ℕ) (l′ : Lent) : Type 0 where
+  pub contract : StepTells lim s l p w (l′ .head) (l′ .procs) (l′ .vars)
 
 -- of rissobarm_turn
-pub record TurnMeets (s : List ℕ) (l : Lent) (w : ℕ) (l′ : Lent) : Type 0 where
-  pub contract : TurnTells s l w (l′ .head) (l′ .procs) (l′ .vars)
+pub record TurnMeets (lim : Limits) (s : List ℕ) (l : Lent) (w : ℕ) (l′ : Lent) : Type 0 where
+  pub contract : TurnTells lim s l w (l′ .head) (l′ .procs) (l′ .vars)
 
 -- of rissobarm_run, with a step limit
-pub record RunMeets (s : List ℕ) (l : Lent) (limit w : ℕ) (l′ : Lent) : Type 0 where
-  pub contract : RunTells s l limit w (l′ .head) (l′ .procs) (l′ .vars)
+pub record RunMeets (lim : Limits) (s : List ℕ) (l : Lent) (limit w : ℕ) (l′ : Lent) : Type 0 where
+  pub contract : RunTells lim s l limit w (l′ .head) (l′ .procs) (l′ .vars)
 
 -- of rissobarm_supply, of the constant k to the goal variable v
-pub record SupplyMeets (s : List ℕ) (l : Lent) (v k w : ℕ) (l′ : Lent) : Type 0 where
-  pub contract : SupplyTells s l v k w (l′ .head) (l′ .procs) (l′ .vars)
+pub record SupplyMeets (lim : Limits) (s : List ℕ) (l : Lent) (v k w : ℕ) (l′ : Lent) : Type 0 where
+  pub contract : SupplyTells lim s l v k w (l′ .head) (l′ .procs) (l′ .vars)
 
 -- of rissobarm_value, for the goal variable v: it is lent the bytes to read only
-pub record ValueMeets (s : List ℕ) (l : Lent) (v w : ℕ) : Type 0 where
-  pub contract : ValueTells s l v w
+pub record ValueMeets (lim : Limits) (s : List ℕ) (l : Lent) (v w : ℕ) : Type 0 where
+  pub contract : ValueTells lim s l v w
 
 -- of rissobarm_watch, over rows of processes: it is lent the bytes to read only
 pub record WatchMeets (rows : List ℕ) (w : ℕ) : Type 0 where

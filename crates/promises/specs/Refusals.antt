@@ -1,17 +1,14 @@
--- When a call is refused, in the words of document 01: the number, and the offset that it carries.
+-- When a call is refused, in the words of docs/MACHINE.md: the number, and the offset that it carries.
 use mathlib.Core.Path.{_≡_}
 use mathlib.Core.Logic.{_≢_}
 use mathlib.Core.Bool.{false, true}
 use mathlib.Core.List.{List}
 use Prim.Native.Nat.{_<_, _≤_, ℕ}
-use Rattle.load.proofs.Accepted.{kept}
-use Rattle.parlog.specs.Delta.{only}
-use Rattle.parlog.specs.Limits.{small}
-use Rattle.parlog.specs.Load.{after, loadOf}
+use Rattle.parlog.specs.Limits.{Limits}
+use Rattle.parlog.specs.Load.{loadOf}
 use Rattle.parlog.specs.Notions.{Leads}
 use Rattle.parlog.specs.Program.{Program, programOf}
 use Rattle.parlog.specs.Relation.{Fits, Rule}
-use Rattle.parlog.specs.Run.{given}
 use Rattle.parlog.specs.TableRules.{fullSize, lentOk}
 use Rattle.parlog.specs.Tables.{Lent, procCount, State, Tables, tablesIn}
 use Rattle.parlog.specs.declared.Loaded.the-variants.{Accepted, Refused}
@@ -33,11 +30,11 @@ pub record CanMove (pr : Program) (s : State) (p : ℕ) : Type 0 where
   pub holds : Rule pr s p rule after
 
 -- Refusals 11: a rule applies that needs more processes or variables than are left
-pub record LacksRoom (pr : Program) (s : State) (p : ℕ) : Type 0 where
+pub record LacksRoom (lim : Limits) (pr : Program) (s : State) (p : ℕ) : Type 0 where
   pub rule : Move
   pub after : State
   pub holds : Rule pr s p rule after
-  pub full : Fits small after → ⊥
+  pub full : Fits lim after → ⊥
 
 -- Turns 2: the first that can move behind the one last stepped, or, where there is none, the first of all, up to that one itself
 pub data Turn (pr : Program) (t : Tables) (p : ℕ) : Type 0 where
@@ -52,50 +49,50 @@ pub data BadImage (s : List ℕ) : ℕ → ℕ → Type 0 where
   bad-image : {f : Refusal} → loadOf s ≡ Refused f → BadImage s (f .number) (f .offset)
 
 -- Refusals 20, 21: what a call may count on that was let in, r relations and c clauses being in its image
-pub record LetIn (s : List ℕ) (l : Lent) (r c : ℕ) : Type 0 where
+pub record LetIn (lim : Limits) (s : List ℕ) (l : Lent) (r c : ℕ) : Type 0 where
   pub image : loadOf s ≡ Accepted r c
-  pub tables : lentOk small (programOf s r c) l ≡ true
+  pub tables : lentOk lim (programOf s r c) l ≡ true
 
 -- Refusals 20, 21: the image is refused, or the tables break a rule
-pub data TurnedAway (s : List ℕ) (l : Lent) : ℕ → ℕ → Type 0 where
-  for-image : {n o : ℕ} → BadImage s n o → TurnedAway s l n o
-  for-tables : {r c : ℕ} → loadOf s ≡ Accepted r c → lentOk small (programOf s r c) l ≡ false → TurnedAway s l 8 0
+pub data TurnedAway (lim : Limits) (s : List ℕ) (l : Lent) : ℕ → ℕ → Type 0 where
+  for-image : {n o : ℕ} → BadImage s n o → TurnedAway lim s l n o
+  for-tables : {r c : ℕ} → loadOf s ≡ Accepted r c → lentOk lim (programOf s r c) l ≡ false → TurnedAway lim s l 8 0
 
 -- ---- of each call
 
 -- Refusals 21: a start is refused for its image or for the sizes of what is lent
-pub data StartRefused (s : List ℕ) (l : Lent) : ℕ → ℕ → Type 0 where
-  start-image : {n o : ℕ} → BadImage s n o → StartRefused s l n o
-  start-sizes : {r c : ℕ} → loadOf s ≡ Accepted r c → fullSize small l ≡ false → StartRefused s l 8 0
+pub data StartRefused (lim : Limits) (s : List ℕ) (l : Lent) : ℕ → ℕ → Type 0 where
+  start-image : {n o : ℕ} → BadImage s n o → StartRefused lim s l n o
+  start-sizes : {r c : ℕ} → loadOf s ≡ Accepted r c → fullSize lim l ≡ false → StartRefused lim s l 8 0
 
 -- Refusals 9, 10, 11, 22: the step of process p
-pub data StepRefused (s : List ℕ) (l : Lent) (p : ℕ) : ℕ → ℕ → Type 0 where
-  step-away : {n o : ℕ} → TurnedAway s l n o → StepRefused s l p n o
-  no-process : {r c : ℕ} → LetIn s l r c → procCount (l .head) ≤ p → StepRefused s l p 9 0
-  no-rule-for : {r c : ℕ} → LetIn s l r c → p < procCount (l .head) → (CanMove (programOf s r c) (stateIn l) p → ⊥) → StepRefused s l p 10 0
-  no-room-for : {r c : ℕ} → LetIn s l r c → p < procCount (l .head) → LacksRoom (programOf s r c) (stateIn l) p → StepRefused s l p 11 0
+pub data StepRefused (lim : Limits) (s : List ℕ) (l : Lent) (p : ℕ) : ℕ → ℕ → Type 0 where
+  step-away : {n o : ℕ} → TurnedAway lim s l n o → StepRefused lim s l p n o
+  no-process : {r c : ℕ} → LetIn lim s l r c → procCount (l .head) ≤ p → StepRefused lim s l p 9 0
+  no-rule-for : {r c : ℕ} → LetIn lim s l r c → p < procCount (l .head) → (CanMove (programOf s r c) (stateIn l) p → ⊥) → StepRefused lim s l p 10 0
+  no-room-for : {r c : ℕ} → LetIn lim s l r c → p < procCount (l .head) → LacksRoom lim (programOf s r c) (stateIn l) p → StepRefused lim s l p 11 0
 
 -- Refusals 10, 11, Turns 2: a turn
-pub data TurnRefused (s : List ℕ) (l : Lent) : ℕ → ℕ → Type 0 where
-  turn-away : {n o : ℕ} → TurnedAway s l n o → TurnRefused s l n o
-  nobody : {r c : ℕ} → LetIn s l r c → ((p : ℕ) → CanMove (programOf s r c) (stateIn l) p → ⊥) → TurnRefused s l 10 0
-  no-room-in-turn : {r c p : ℕ} → LetIn s l r c → Turn (programOf s r c) (tablesIn l) p → LacksRoom (programOf s r c) (stateIn l) p → TurnRefused s l 11 0
+pub data TurnRefused (lim : Limits) (s : List ℕ) (l : Lent) : ℕ → ℕ → Type 0 where
+  turn-away : {n o : ℕ} → TurnedAway lim s l n o → TurnRefused lim s l n o
+  nobody : {r c : ℕ} → LetIn lim s l r c → ((p : ℕ) → CanMove (programOf s r c) (stateIn l) p → ⊥) → TurnRefused lim s l 10 0
+  no-room-in-turn : {r c p : ℕ} → LetIn lim s l r c → Turn (programOf s r c) (tablesIn l) p → LacksRoom lim (programOf s r c) (stateIn l) p → TurnRefused lim s l 11 0
 
 -- Turns 7: a run is turned away or it ends; room is an end, no refusal
-pub data RunRefused (s : List ℕ) (l : Lent) : ℕ → ℕ → Type 0 where
-  run-away : {n o : ℕ} → TurnedAway s l n o → RunRefused s l n o
+pub data RunRefused (lim : Limits) (s : List ℕ) (l : Lent) : ℕ → ℕ → Type 0 where
+  run-away : {n o : ℕ} → TurnedAway lim s l n o → RunRefused lim s l n o
 
 -- Refusals 12, 14, 13: a supply of the constant k to the goal variable v
-pub data SupplyRefused (s : List ℕ) (l : Lent) (v k : ℕ) : ℕ → ℕ → Type 0 where
-  supply-away : {n o : ℕ} → TurnedAway s l n o → SupplyRefused s l v k n o
-  no-variable : {r c : ℕ} → LetIn s l r c → programOf s r c .goalVars ≤ v → SupplyRefused s l v k 12 0
-  no-constant : {r c : ℕ} → LetIn s l r c → v < programOf s r c .goalVars → 32767 < k → SupplyRefused s l v k 14 0
-  has-constant : {r c j : ℕ} → LetIn s l r c → v < programOf s r c .goalVars → k ≤ 32767 → Leads (stateIn l .vars) (Var v) (Const j) → SupplyRefused s l v k 13 0
+pub data SupplyRefused (lim : Limits) (s : List ℕ) (l : Lent) (v k : ℕ) : ℕ → ℕ → Type 0 where
+  supply-away : {n o : ℕ} → TurnedAway lim s l n o → SupplyRefused lim s l v k n o
+  no-variable : {r c : ℕ} → LetIn lim s l r c → programOf s r c .goalVars ≤ v → SupplyRefused lim s l v k 12 0
+  no-constant : {r c : ℕ} → LetIn lim s l r c → v < programOf s r c .goalVars → 32767 < k → SupplyRefused lim s l v k 14 0
+  has-constant : {r c j : ℕ} → LetIn lim s l r c → v < programOf s r c .goalVars → k ≤ 32767 → Leads (stateIn l .vars) (Var v) (Const j) → SupplyRefused lim s l v k 13 0
 
 -- Refusals 12: a look at the goal variable v
-pub data ValueRefused (s : List ℕ) (l : Lent) (v : ℕ) : ℕ → ℕ → Type 0 where
-  value-away : {n o : ℕ} → TurnedAway s l n o → ValueRefused s l v n o
-  no-variable-seen : {r c : ℕ} → LetIn s l r c → programOf s r c .goalVars ≤ v → ValueRefused s l v 12 0
+pub data ValueRefused (lim : Limits) (s : List ℕ) (l : Lent) (v : ℕ) : ℕ → ℕ → Type 0 where
+  value-away : {n o : ℕ} → TurnedAway lim s l n o → ValueRefused lim s l v n o
+  no-variable-seen : {r c : ℕ} → LetIn lim s l r c → programOf s r c .goalVars ≤ v → ValueRefused lim s l v 12 0
 
 -- ---- demand 1 of a word
 

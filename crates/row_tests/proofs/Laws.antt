@@ -1,13 +1,12 @@
 -- The tests on numbers are the definitions' tests on what the numbers stand for.
 use mathlib.Core.Path.{_∙_, _≡_, ap, refl, sym}
-use mathlib.Core.Bool.{_&&_, _||_, Bool, false, true}
+use mathlib.Core.Bool.{_&&_, _||_, Bool, cond, false, true}
 use mathlib.Core.List.{[], _∷_, List}
 use Prim.Native.Nat.{_<_, suc, zero, ℕ}
 use lib.Dec.{eqb, leb, ltb}
 use lib.ListN.{getD, length, take}
 use borrow.Author.Tests.{le-ltb, lt-leb, lt-ltb, ne-eqb}
 use native.Mathlib.Omega.{arith}
-use Rattle.row_tests.specs.Tests.{choose}
 use Rattle.parlog.proofs.Bools.{or-right}
 use Rattle.parlog.specs.Codes.{tagCode, tagOf}
 use Rattle.parlog.specs.Scan.{implies}
@@ -26,13 +25,13 @@ goalCode t = ltb t 3 || ltb 7 t
 
 -- who makes whom, in numbers
 abbrev pub searchedCode : ℕ → ℕ → Bool
-searchedCode up t = choose (eqb up 4) (eqb t 5) (choose (eqb up 5) (eqb t 6 || eqb t 7) (eqb up 7 && goalCode t))
+searchedCode up t = cond (eqb up 4) (eqb t 5) (cond (eqb up 5) (eqb t 6 || eqb t 7) (eqb up 7 && goalCode t))
 
 abbrev pub calledCode : ℕ → ℕ → Bool
-calledCode up t = choose (eqb up 2) (eqb t 3 || goalCode t) (choose (eqb up 3) (eqb t 4) (searchedCode up t))
+calledCode up t = cond (eqb up 2) (eqb t 3 || goalCode t) (cond (eqb up 3) (eqb t 4) (searchedCode up t))
 
 abbrev pub makesCode : ℕ → ℕ → Bool
-makesCode up t = choose (eqb up 0) (literalCode t) (choose (eqb up 1) (literalCode t || eqb t 0) (calledCode up t))
+makesCode up t = cond (eqb up 0) (literalCode t) (cond (eqb up 1) (literalCode t || eqb t 0) (calledCode up t))
 
 -- a number from 8 on is none below it
 off : (n k : ℕ) → k < 8 → eqb (suc (suc (suc (suc (suc (suc (suc (suc n)))))))) k ≡ false
@@ -125,7 +124,7 @@ notes-code n k ns h = four-code n k (getD ns 0 0) (getD ns 1 0) (getD ns 2 0) (g
 
 -- the row of variable v, in numbers
 abbrev pub cellCode : ℕ → ℕ → ℕ → Bool
-cellCode v sort k = choose (eqb sort 0) (eqb k 0) (choose (eqb sort 1) (leb k 32767) (eqb sort 2 && ltb k v))
+cellCode v sort k = cond (eqb sort 0) (eqb k 0) (cond (eqb sort 1) (leb k 32767) (eqb sort 2 && ltb k v))
 
 pub cell-code : (v sort k : ℕ) → cellCode v sort k ≡ ((ltb sort 3 && implies (eqb sort 0) (eqb k 0)) && bindingOk v (bindingBy sort k))
 unfolding bindingBy

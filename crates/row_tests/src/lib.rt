@@ -7,32 +7,24 @@ ghost use Rattle.parlog.specs.Codes.{dormant, isMode, isResult, none, reporting
 ghost use Rattle.parlog.specs.Scan.{implies};
 ghost use Rattle.parlog.specs.TableRules.{allBelow, bindingOk, makesTag};
 ghost use Rattle.parlog.specs.Tables.{bindingBy};
-ghost use Rattle.row_tests.specs.Tests.{choose};
+use parlog::codes;
 
-// ---- tests put together
+// How many tags, modes, results and kinds of goals there are.
+const TAGS: u8 = codes::EQUATE + 1;
 
-pub fn and(a: bool, b: bool) -> bool
-    ensures { λ r. ⌜ r ≡ (a && b) ⌝ }
-{
-    if a { b } else { false }
-}
+const MODES: u8 = codes::SUSPENDED + 1;
 
-pub fn or(a: bool, b: bool) -> bool
-    ensures { λ r. ⌜ r ≡ (a || b) ⌝ }
-{
-    if a { true } else { b }
-}
+const RESULTS: u8 = codes::FAILURE + 1;
 
+const KINDS: u8 = codes::THE_BODY + 1;
+
+const MOST_CONSTANT: usize = codes::MOST_CONSTANT as usize;
+
+// Where the first holds, the second does.
 pub fn implies(a: bool, b: bool) -> bool
     ensures { λ r. ⌜ r ≡ implies a b ⌝ }
 {
     if a { b } else { true }
-}
-
-pub fn choose(a: bool, b: bool, c: bool) -> bool
-    ensures { λ r. ⌜ r ≡ choose a b c ⌝ }
-{
-    if a { b } else { c }
 }
 
 // ---- a process
@@ -41,29 +33,54 @@ pub fn choose(a: bool, b: bool, c: bool) -> bool
 pub fn known(tag: u8, mode: u8, result: u8, kind: u8) -> bool
     ensures { λ r. ⌜ r ≡ (ltb tag 9 && (ltb mode 6 && (ltb result 3 && ltb kind 3))) ⌝ }
 {
-    and(tag < 9, and(mode < 6, and(result < 3, kind < 3)))
+    basics::and(
+        tag < TAGS,
+        basics::and(mode < MODES, basics::and(result < RESULTS, kind < KINDS)),
+    )
 }
 
 // Who reports has something to tell, and so has the goal's process once it sleeps.
 pub fn result_ok(i: usize, mode: u8, result: u8) -> bool
     ensures { λ r. ⌜ r ≡ implies (isMode reporting mode || (eqb i 0 && isMode dormant mode)) (not (isResult none result)) ⌝ }
 {
-    implies(or(mode == 4, and(i == 0, mode == 0)), !(result == 0))
+    implies(
+        basics::or(
+            mode == codes::REPORTING,
+            basics::and(i == 0, mode == codes::DORMANT),
+        ),
+        !(result == codes::NONE),
+    )
 }
 
 // The rules of a process with tag `up` make one with tag t.
 pub fn makes(up: u8, t: u8) -> bool
     ensures { λ r. ⌜ r ≡ makesTag (tagOf up) (tagOf t) ⌝ }
 {
-    let literal = or(t == 2, 7 < t);
-    let goal = or(t < 3, 7 < t);
-    let tried = or(t == 6, t == 7);
-    let searched = choose(up == 4, t == 5, choose(up == 5, tried, and(up == 7, goal)));
-    let called = choose(up == 2, or(t == 3, goal), choose(up == 3, t == 4, searched));
-    choose(
-        up == 0,
+    let literal = basics::or(t == codes::OR_PAR, codes::GUARD_EVAL < t);
+    let goal = basics::or(t < codes::SEQ_SEARCH, codes::GUARD_EVAL < t);
+    let tried = basics::or(t == codes::INPUT_MATCH, t == codes::GUARD_EVAL);
+    let searched = basics::choose(
+        up == codes::OR_SEARCH,
+        t == codes::TRY_CLAUSE,
+        basics::choose(
+            up == codes::TRY_CLAUSE,
+            tried,
+            basics::and(up == codes::GUARD_EVAL, goal),
+        ),
+    );
+    let called = basics::choose(
+        up == codes::OR_PAR,
+        basics::or(t == codes::SEQ_SEARCH, goal),
+        basics::choose(up == codes::SEQ_SEARCH, t == codes::OR_SEARCH, searched),
+    );
+    basics::choose(
+        up == codes::AND_PAR,
         literal,
-        choose(up == 1, or(literal, t == 0), called),
+        basics::choose(
+            up == codes::AND_SEQ,
+            basics::or(literal, t == codes::AND_PAR),
+            called,
+        ),
     )
 }
 
@@ -75,14 +92,20 @@ fn note_ok(k: u8, count: u8, v: u16, n: usize) -> bool
 }
 
 // The notes of a suspended process: at most four, all of them variables.
-pub fn notes_ok(n: usize, mode: u8, count: u8, notes: [u16; 4]) -> bool
+pub fn notes_ok(n: usize, mode: u8, count: u8, notes: [u16; codes::MOST_NOTES as usize]) -> bool
     ensures { λ r. ⌜ r ≡ implies (isMode suspended mode) (leb count 4 && allBelow n (take count notes)) ⌝ }
 {
     let a = note_ok(0, count, notes[0], n);
     let b = note_ok(1, count, notes[1], n);
     let c = note_ok(2, count, notes[2], n);
     let d = note_ok(3, count, notes[3], n);
-    implies(mode == 5, and(count <= 4, and(a, and(b, and(c, d)))))
+    implies(
+        mode == codes::SUSPENDED,
+        basics::and(
+            count <= codes::MOST_NOTES,
+            basics::and(a, basics::and(b, basics::and(c, d))),
+        ),
+    )
 }
 
 // ---- a variable
@@ -91,8 +114,12 @@ pub fn notes_ok(n: usize, mode: u8, count: u8, notes: [u16; 4]) -> bool
 pub fn cell_ok(v: usize, sort: u8, number: usize) -> bool
     ensures { λ r. ⌜ r ≡ ((ltb sort 3 && implies (eqb sort 0) (eqb number 0)) && bindingOk v (bindingBy sort number)) ⌝ }
 {
-    let bound = choose(sort == 1, number <= 32767, and(sort == 2, number < v));
-    choose(sort == 0, number == 0, bound)
+    let bound = basics::choose(
+        sort == codes::CONSTANT,
+        number <= MOST_CONSTANT,
+        basics::and(sort == codes::VARIABLE, number < v),
+    );
+    basics::choose(sort == codes::UNBOUND, number == 0, bound)
 }
 
 // ---- the tables
@@ -108,9 +135,9 @@ pub fn counts_ok(
 ) -> bool
     ensures { λ r. ⌜ r ≡ ((leb 1 procs && (leb procs most && (leb vars cap && leb goal vars))) && ltb last procs) ⌝ }
 {
-    let counts = and(
+    let counts = basics::and(
         1 <= procs,
-        and(procs <= most, and(vars <= cap, goal <= vars)),
+        basics::and(procs <= most, basics::and(vars <= cap, goal <= vars)),
     );
-    and(counts, last < procs)
+    basics::and(counts, last < procs)
 }

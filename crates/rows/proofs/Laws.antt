@@ -10,19 +10,19 @@ use native.Mathlib.Omega.{arith}
 use native.Mathlib.Nat.{add-assoc, add-zero, zero-add}
 use native.Mathlib.Numerals.{add-one}
 use Rattle.parlog.proofs.Rows.{apart, halves, splice-after, splice-before, splice-in, splice-length}
-use Rattle.parlog.specs.Tables.{notesAt, processAt, processBytes, spotAt, u16At, zeros}
+use Rattle.parlog.specs.Tables.{notesAt, processAt, processBytes, rowSize, spotAt, u16At, zeros}
 use Rattle.parlog.specs.declared.Process.{Process}
 use Rattle.rows.specs.Rows.{Four, putProcess, putRow, wiped}
 
 -- two tables whose rows i and j have the same bytes have the same process there
-module _ (l m : List ℕ) (i j : ℕ) (h : (k : ℕ) → k < 24 → getD l (i * 24 + k) 0 ≡ getD m (j * 24 + k) 0) where
-  first : getD l (i * 24) 0 ≡ getD m (j * 24) 0
+module _ (l m : List ℕ) (i j : ℕ) (h : (k : ℕ) → k < rowSize → getD l (i * rowSize + k) 0 ≡ getD m (j * rowSize + k) 0) where
+  first : getD l (i * rowSize) 0 ≡ getD m (j * rowSize) 0
   first = simp add-zero at (h 0 (lit< tt))
 
-  word : (k : ℕ) → k + 1 < 24 → u16At l (i * 24 + k) ≡ u16At m (j * 24 + k)
+  word : (k : ℕ) → k + 1 < rowSize → u16At l (i * rowSize + k) ≡ u16At m (j * rowSize + k)
   word k p =
-      let a : getD l (i * 24 + k) 0 ≡ getD m (j * 24 + k) 0 = h k (omega arith) in
-      let b : getD l (i * 24 + k + 1) 0 ≡ getD m (j * 24 + k + 1) 0 = simp add-assoc (h (k + 1) p) in
+      let a : getD l (i * rowSize + k) 0 ≡ getD m (j * rowSize + k) 0 = h k (omega arith) in
+      let b : getD l (i * rowSize + k + 1) 0 ≡ getD m (j * rowSize + k + 1) 0 = simp add-assoc (h (k + 1) p) in
       cc
 
   spot-cong : spotAt l i ≡ spotAt m j
@@ -37,33 +37,33 @@ module _ (l m : List ℕ) (i j : ℕ) (h : (k : ℕ) → k < 24 → getD l (i * 
   unfolding processAt
   process-cong = cc (first, h 1 (lit< tt), h 2 (lit< tt), h 3 (lit< tt), word 4 (lit< tt), spot-cong, notes-cong)
 
-pub row-length : (x : Process) → length (processBytes x) ≡ 24
+pub row-length : (x : Process) → length (processBytes x) ≡ rowSize
 unfolding processBytes
 row-length x = refl
 
-module _ (l : List ℕ) (i : ℕ) (x : Process) (enough : i * 24 + 24 ≤ length l) where
+module _ (l : List ℕ) (i : ℕ) (x : Process) (enough : i * rowSize + rowSize ≤ length l) where
   pub put-length : length (putProcess l i x) ≡ length l
   unfolding putProcess putRow
-  put-length = splice-length l (i * 24) (processBytes x) 24 (row-length x) enough
+  put-length = splice-length l (i * rowSize) (processBytes x) rowSize (row-length x) enough
 
   -- another row's bytes stay
-  pub byte-other : (j : ℕ) → (j ≡ i → ⊥) → (k : ℕ) → k < 24 → getD (putProcess l i x) (j * 24 + k) 0 ≡ getD l (j * 24 + k) 0
+  pub byte-other : (j : ℕ) → (j ≡ i → ⊥) → (k : ℕ) → k < rowSize → getD (putProcess l i x) (j * rowSize + k) 0 ≡ getD l (j * rowSize + k) 0
   unfolding putProcess putRow
   byte-other j ne k h =
-      ⊎-elim (λ lt. splice-before l (i * 24) (processBytes x) 24 (row-length x) enough (j * 24 + k) (omega arith))
-      (λ ge. splice-after l (i * 24) (processBytes x) 24 (row-length x) enough (j * 24 + k) (omega arith))
+      ⊎-elim (λ lt. splice-before l (i * rowSize) (processBytes x) rowSize (row-length x) enough (j * rowSize + k) (omega arith))
+      (λ ge. splice-after l (i * rowSize) (processBytes x) rowSize (row-length x) enough (j * rowSize + k) (omega arith))
       (apart j i ne)
 
   pub process-other : (j : ℕ) → (j ≡ i → ⊥) → processAt (putProcess l i x) j ≡ processAt l j
   process-other j ne = process-cong (putProcess l i x) l j j (byte-other j ne)
 
-  pub byte-same : (k : ℕ) → k < 24 → getD (putProcess l i x) (i * 24 + k) 0 ≡ getD (processBytes x) k 0
+  pub byte-same : (k : ℕ) → k < rowSize → getD (putProcess l i x) (i * rowSize + k) 0 ≡ getD (processBytes x) k 0
   unfolding putProcess putRow
-  byte-same k h = splice-in l (i * 24) (processBytes x) 24 (row-length x) enough k h
+  byte-same k h = splice-in l (i * rowSize) (processBytes x) rowSize (row-length x) enough k h
 
-  pub byte-past : (b : ℕ) → i * 24 + 24 ≤ b → getD (putProcess l i x) b 0 ≡ getD l b 0
+  pub byte-past : (b : ℕ) → i * rowSize + rowSize ≤ b → getD (putProcess l i x) b 0 ≡ getD l b 0
   unfolding putProcess putRow
-  byte-past b h = splice-after l (i * 24) (processBytes x) 24 (row-length x) enough b h
+  byte-past b h = splice-after l (i * rowSize) (processBytes x) rowSize (row-length x) enough b h
 
 four : (n : List ℕ) → length n ≡ 4 → getD n 0 0 ∷ getD n 1 0 ∷ getD n 2 0 ∷ getD n 3 0 ∷ [] ≡ n
 four [] h = absurd (omega arith)
@@ -78,7 +78,7 @@ pub process-back : (x : Process) → Four x → processAt (processBytes x) 0 ≡
 unfolding processBytes processAt spotAt notesAt
 process-back x h = simp (halves, four (x .notes) h)
 
-pub process-same : (l : List ℕ) (i : ℕ) (x : Process) → i * 24 + 24 ≤ length l → Four x → processAt (putProcess l i x) i ≡ x
+pub process-same : (l : List ℕ) (i : ℕ) (x : Process) → i * rowSize + rowSize ≤ length l → Four x → processAt (putProcess l i x) i ≡ x
 process-same l i x enough has =
     process-cong (putProcess l i x) (processBytes x) i 0 (λ k h. byte-same l i x enough k h ∙ ap (λ (j : ℕ). getD (processBytes x) j 0) (omega arith)) ∙ process-back x has
 

@@ -1,82 +1,72 @@
-// The process table: a lent row of bytes, 24 a process, read and written a record at a time.
+// The process table: a lent row of bytes, one row of them a process, read and written a record at a time.
 ghost use mathlib.Core.Path.{_≡_};
 ghost use mathlib.Core.List.{[], _∷_, _++_};
-ghost use Prim.Native.Nat.{_+_, _*_, _/_, _%_, _≤_, _<_};
+ghost use Prim.Native.Nat.{_+_, _*_, _≤_, _<_};
 ghost use lib.ListN.{length, set};
-ghost use Rattle.parlog.specs.Tables.{at, idle, notesAt, processAt, processBytes, procsOf, spotAt, u16At, zeros};
+ghost use Rattle.parlog.specs.Tables.{at, idle, notesAt, processAt, processBytes, procsOf, rowSize, spotAt, u16At};
 ghost use Rattle.rows.specs.Rows.{Four, putProcess, putRow, Table, wiped};
 use parlog::Process;
 use parlog::Spot;
+use parlog::codes;
 
-// The low and the high byte of a number, and the number of two bytes.
-pub fn low(v: u16) -> u8
-    ensures { λ r. ⌜ r ≡ v % 256 ⌝ }
-{
-    (v % 256) as u8
-}
+// Where the second, the third and the fourth note stand: two bytes each.
+const NOTE_1: usize = codes::ROW_NOTES + 2;
 
-pub fn high(v: u16) -> u8
-    ensures { λ r. ⌜ r ≡ v / 256 ⌝ }
-{
-    (v / 256) as u8
-}
+const NOTE_2: usize = codes::ROW_NOTES + 4;
 
-pub fn join(a: u8, b: u8) -> u16
-    ensures { λ r. ⌜ r ≡ a + b * 256 ⌝ }
-{
-    (a as u16) + (b as u16) * 256
-}
+const NOTE_3: usize = codes::ROW_NOTES + 6;
 
+// The number of two bytes, the low one first.
 pub fn get_u16(s: &[u8], i: usize) -> u16
     requires { ⌜ i + 1 < length (now s) ⌝ }
     ensures { λ r. ⌜ r ≡ u16At (now (s .entry)) i ⌝ }
 {
-    join(s[i], s[i + 1])
+    basics::join(s[i], s[i + 1])
 }
 
 fn get_spot(procs: &[u8], i: usize) -> Spot
-    requires { ⌜ i * 24 + 24 ≤ length (now procs) ⌝ }
+    requires { ⌜ i * rowSize + rowSize ≤ length (now procs) ⌝ }
     ensures { λ r. ⌜ r ≡ spotAt (now (procs .entry)) i ⌝ }
 {
-    let b = i * 24;
+    let b = i * codes::ROW_SIZE;
     Spot {
-        kind: procs[b + 6],
-        clause: procs[b + 7],
-        base: get_u16(procs, b + 8),
-        stage: procs[b + 10],
-        literal: procs[b + 11],
-        block: procs[b + 12],
-        found: procs[b + 13],
-        first: get_u16(procs, b + 14),
+        kind: procs[b + codes::ROW_KIND],
+        clause: procs[b + codes::ROW_CLAUSE],
+        base: get_u16(procs, b + codes::ROW_BASE),
+        stage: procs[b + codes::ROW_STAGE],
+        literal: procs[b + codes::ROW_LITERAL],
+        block: procs[b + codes::ROW_BLOCK],
+        found: procs[b + codes::ROW_FOUND],
+        first: get_u16(procs, b + codes::ROW_FIRST),
     }
 }
 
-fn get_notes(procs: &[u8], i: usize) -> [u16; 4]
-    requires { ⌜ i * 24 + 24 ≤ length (now procs) ⌝ }
+fn get_notes(procs: &[u8], i: usize) -> [u16; codes::MOST_NOTES as usize]
+    requires { ⌜ i * rowSize + rowSize ≤ length (now procs) ⌝ }
     ensures { λ r. ⌜ r ≡ notesAt (now (procs .entry)) i ⌝ }
 {
-    let b = i * 24;
+    let b = i * codes::ROW_SIZE;
     [
-        get_u16(procs, b + 16),
-        get_u16(procs, b + 18),
-        get_u16(procs, b + 20),
-        get_u16(procs, b + 22),
+        get_u16(procs, b + codes::ROW_NOTES),
+        get_u16(procs, b + NOTE_1),
+        get_u16(procs, b + NOTE_2),
+        get_u16(procs, b + NOTE_3),
     ]
 }
 
 fn get_process(procs: &[u8], i: usize) -> Process
-    requires { ⌜ i * 24 + 24 ≤ length (now procs) ⌝ }
+    requires { ⌜ i * rowSize + rowSize ≤ length (now procs) ⌝ }
     ensures { λ r. ⌜ r ≡ processAt (now (procs .entry)) i ⌝ }
 {
-    let b = i * 24;
+    let b = i * codes::ROW_SIZE;
     let spot = get_spot(procs, i);
     let notes = get_notes(procs, i);
     Process {
         tag: procs[b],
-        mode: procs[b + 1],
-        result: procs[b + 2],
-        count: procs[b + 3],
-        parent: get_u16(procs, b + 4),
+        mode: procs[b + codes::ROW_MODE],
+        result: procs[b + codes::ROW_RESULT],
+        count: procs[b + codes::ROW_COUNT],
+        parent: get_u16(procs, b + codes::ROW_PARENT),
         spot: spot,
         notes: notes,
     }
@@ -108,7 +98,7 @@ fn blank() -> Process
     }
 }
 
-fn encode(x: Process) -> [u8; 24]
+fn encode(x: Process) -> [u8; codes::ROW_SIZE]
     ensures { λ r. ⌜ (r ≡ processBytes x) × Four x ⌝ }
 {
     let spot = x.spot;
@@ -118,43 +108,43 @@ fn encode(x: Process) -> [u8; 24]
         x.mode,
         x.result,
         x.count,
-        low(x.parent),
-        high(x.parent),
+        basics::low(x.parent),
+        basics::high(x.parent),
         spot.kind,
         spot.clause,
-        low(spot.base),
-        high(spot.base),
+        basics::low(spot.base),
+        basics::high(spot.base),
         spot.stage,
         spot.literal,
         spot.block,
         spot.found,
-        low(spot.first),
-        high(spot.first),
-        low(notes[0]),
-        high(notes[0]),
-        low(notes[1]),
-        high(notes[1]),
-        low(notes[2]),
-        high(notes[2]),
-        low(notes[3]),
-        high(notes[3]),
+        basics::low(spot.first),
+        basics::high(spot.first),
+        basics::low(notes[0]),
+        basics::high(notes[0]),
+        basics::low(notes[1]),
+        basics::high(notes[1]),
+        basics::low(notes[2]),
+        basics::high(notes[2]),
+        basics::low(notes[3]),
+        basics::high(notes[3]),
     ]
 }
 
-fn put_row(procs: &mut [u8], i: usize, row: [u8; 24])
-    requires { ⌜ i * 24 + 24 ≤ length (now procs) ⌝ }
+fn put_row(procs: &mut [u8], i: usize, row: [u8; codes::ROW_SIZE])
+    requires { ⌜ i * rowSize + rowSize ≤ length (now procs) ⌝ }
     ensures { λ _. ⌜ now (procs .exit) ≡ putRow (now (procs .entry)) i row ⌝ }
 {
-    let b = i * 24;
+    let b = i * codes::ROW_SIZE;
     let mut k = 0;
-    while k < 24 {
+    while k < codes::ROW_SIZE {
         procs[b + k] = row[k];
         k += 1;
     }
 }
 
 fn put_process(procs: &mut [u8], i: usize, x: Process)
-    requires { ⌜ i * 24 + 24 ≤ length (now procs) ⌝ }
+    requires { ⌜ i * rowSize + rowSize ≤ length (now procs) ⌝ }
     ensures { λ _. ⌜ (now (procs .exit) ≡ putProcess (now (procs .entry)) i x) × Four x ⌝ }
 {
     let row = encode(x);
@@ -163,7 +153,7 @@ fn put_process(procs: &mut [u8], i: usize, x: Process)
 
 // Process i of the first n; past them, the row of zeros.
 pub fn get(procs: &[u8], n: usize, i: usize) -> Process
-    requires { ⌜ n * 24 ≤ length (now procs) ⌝ }
+    requires { ⌜ n * rowSize ≤ length (now procs) ⌝ }
     ensures { λ r. ⌜ r ≡ at (procsOf (now (procs .entry)) n) i ⌝ }
 {
     if i < n {
@@ -174,7 +164,7 @@ pub fn get(procs: &[u8], n: usize, i: usize) -> Process
 
 // Process i of the first n becomes x.
 pub fn put(procs: &mut [u8], n: usize, i: usize, x: Process)
-    requires { ⌜ (n * 24 ≤ length (now procs)) × (i < n) ⌝ }
+    requires { ⌜ (n * rowSize ≤ length (now procs)) × (i < n) ⌝ }
     ensures { λ _. ⌜ Table (now (procs .entry)) (now (procs .exit)) (set (procsOf (now (procs .entry)) n) i x) ⌝ }
 {
     put_process(procs, i, x);
@@ -182,7 +172,7 @@ pub fn put(procs: &mut [u8], n: usize, i: usize, x: Process)
 
 // One process more after the first n.
 pub fn append(procs: &mut [u8], n: usize, x: Process)
-    requires { ⌜ n * 24 + 24 ≤ length (now procs) ⌝ }
+    requires { ⌜ n * rowSize + rowSize ≤ length (now procs) ⌝ }
     ensures { λ _. ⌜ Table (now (procs .entry)) (now (procs .exit)) (procsOf (now (procs .entry)) n ++ (x ∷ [])) ⌝ }
 {
     put_process(procs, n, x);
@@ -190,57 +180,57 @@ pub fn append(procs: &mut [u8], n: usize, x: Process)
 
 // The fields that scans read, of process i of the first n; past them, 0.
 pub fn tag_at(procs: &[u8], n: usize, i: usize) -> u8
-    requires { ⌜ n * 24 ≤ length (now procs) ⌝ }
+    requires { ⌜ n * rowSize ≤ length (now procs) ⌝ }
     ensures { λ r. ⌜ r ≡ at (procsOf (now (procs .entry)) n) i .tag ⌝ }
 {
     if i < n {
-        return procs[i * 24];
+        return procs[i * codes::ROW_SIZE];
     }
     0
 }
 
 pub fn mode_at(procs: &[u8], n: usize, i: usize) -> u8
-    requires { ⌜ n * 24 ≤ length (now procs) ⌝ }
+    requires { ⌜ n * rowSize ≤ length (now procs) ⌝ }
     ensures { λ r. ⌜ r ≡ at (procsOf (now (procs .entry)) n) i .mode ⌝ }
 {
     if i < n {
-        return procs[i * 24 + 1];
+        return procs[i * codes::ROW_SIZE + codes::ROW_MODE];
     }
     0
 }
 
 pub fn result_at(procs: &[u8], n: usize, i: usize) -> u8
-    requires { ⌜ n * 24 ≤ length (now procs) ⌝ }
+    requires { ⌜ n * rowSize ≤ length (now procs) ⌝ }
     ensures { λ r. ⌜ r ≡ at (procsOf (now (procs .entry)) n) i .result ⌝ }
 {
     if i < n {
-        return procs[i * 24 + 2];
+        return procs[i * codes::ROW_SIZE + codes::ROW_RESULT];
     }
     0
 }
 
 pub fn parent_at(procs: &[u8], n: usize, i: usize) -> u16
-    requires { ⌜ n * 24 ≤ length (now procs) ⌝ }
+    requires { ⌜ n * rowSize ≤ length (now procs) ⌝ }
     ensures { λ r. ⌜ r ≡ at (procsOf (now (procs .entry)) n) i .parent ⌝ }
 {
     if i < n {
-        return get_u16(procs, i * 24 + 4);
+        return get_u16(procs, i * codes::ROW_SIZE + codes::ROW_PARENT);
     }
     0
 }
 
 pub fn count_at(procs: &[u8], n: usize, i: usize) -> u8
-    requires { ⌜ n * 24 ≤ length (now procs) ⌝ }
+    requires { ⌜ n * rowSize ≤ length (now procs) ⌝ }
     ensures { λ r. ⌜ r ≡ at (procsOf (now (procs .entry)) n) i .count ⌝ }
 {
     if i < n {
-        return procs[i * 24 + 3];
+        return procs[i * codes::ROW_SIZE + codes::ROW_COUNT];
     }
     0
 }
 
-pub fn notes_at(procs: &[u8], n: usize, i: usize) -> [u16; 4]
-    requires { ⌜ n * 24 ≤ length (now procs) ⌝ }
+pub fn notes_at(procs: &[u8], n: usize, i: usize) -> [u16; codes::MOST_NOTES as usize]
+    requires { ⌜ n * rowSize ≤ length (now procs) ⌝ }
     ensures { λ r. ⌜ r ≡ at (procsOf (now (procs .entry)) n) i .notes ⌝ }
 {
     if i < n {
@@ -259,12 +249,4 @@ pub fn wipe(table: &mut [u8], from: usize, n: usize)
         table[from + k] = 0;
         k += 1;
     }
-}
-
-// Every byte becomes zero.
-pub fn clear(table: &mut [u8])
-    ensures { λ _. ⌜ now (table .exit) ≡ zeros (length (now (table .entry))) ⌝ }
-{
-    let n = table.len();
-    wipe(table, 0, n);
 }

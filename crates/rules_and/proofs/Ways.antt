@@ -96,14 +96,14 @@ module _ (ps : List Process) (p : ℕ) (x : Process) {a : Applied} {b : Bool} (e
 
 -- ---- and-seq
 
-module _ (pr : Program) (n p : ℕ) (x : Process) {a : Applied} {k : ℕ} (ek : k ≡ length (goalAt pr (x .spot))) where
+module _ (pr : Program) (n p : ℕ) (x : Process) {a : Applied} {k : ℕ} (ek : k ≡ length (goalBy (kindOf (x .spot .kind)) pr (x .spot .clause))) where
   pub seq-ends : k ≤ x .spot .stage → a ≡ by-rule (AndSeqSuccess p) (report success x) → Starts and-seq pr n p x a
-  unfolding startRule andSeqStart
+  unfolding startRule andSeqStart goalAt
   seq-ends h ea s es = rw (← ek, le-ltb (x .spot .stage) k h) ea
 
   pub seq-starts : x .spot .stage < k → {t : ℕ} {y : Spot} {c me : Process} → t ≡ tagCode (tagOfStage (stageAt pr (x .spot))) → y ≡ literalSpot (x .spot) 0 → Born t 2 p y c
       → me ≡ withMode waiting x → a ≡ by-rule (AndSeqStart n) (making me Nothing (c ∷ []) 0) → Starts and-seq pr n p x a
-  unfolding startRule andSeqStart
+  unfolding startRule andSeqStart goalAt
   seq-starts h {c = c} et ey b em ea s es =
       let ec : c ≡ newProcess (tagOfStage (stageAt pr (x .spot))) starting p (literalSpot (x .spot) 0) =
       rw ey at (b (tagOfStage (stageAt pr (x .spot))) (sym et) starting refl) in
@@ -170,24 +170,24 @@ unfolding guardEvalStart
 guard-some [] s p x ne = absurd (ne refl)
 guard-some (st ∷ g) s p x ne = refl
 
-guard-of : (pr : Program) (k v : ℕ) → goalAt pr (goalSpot the-guard k v) ≡ clauseAt pr k .guard
-unfolding goalAt goalBy kindOf
-guard-of pr k v = refl
+guard-of : (pr : Program) (k : ℕ) → goalBy (kindOf 1) pr k ≡ clauseAt pr k .guard
+unfolding goalBy kindOf
+guard-of pr k = refl
 
-module _ (pr : Program) (n p : ℕ) (x : Process) {a : Applied} {k : ℕ} (ek : k ≡ length (clauseAt pr (x .spot .found) .guard)) where
+module _ (pr : Program) (n p : ℕ) (x : Process) {a : Applied} {k : ℕ} (ek : k ≡ length (goalBy (kindOf 1) pr (x .spot .found))) where
   pub guard-ends : k ≡ 0 → a ≡ by-rule (GuardEvalEmpty p) (report success x) → Starts guard-eval pr n p x a
   unfolding startRule
-  guard-ends h ea s es = ea ∙ sym (guard-none (clauseAt pr (x .spot .found) .guard) s p x (sym ek ∙ h))
+  guard-ends h ea s es = ea ∙ sym (guard-none (clauseAt pr (x .spot .found) .guard) s p x (sym (ek ∙ ap length (guard-of pr (x .spot .found))) ∙ h))
 
-  pub guard-starts : (k ≡ 0 → ⊥) → {y : Spot} {t : ℕ} {c me : Process} → Of kindCode 1 (λ q. goalSpot q (x .spot .found) (x .spot .first)) y → t ≡ tagCode (tagOfGoal (goalAt pr y))
+  pub guard-starts : (k ≡ 0 → ⊥) → {y : Spot} {t : ℕ} {c me : Process} → Of kindCode 1 (λ q. goalSpot q (x .spot .found) (x .spot .first)) y → t ≡ tagCode (tagOfGoal (goalBy (kindOf 1) pr (x .spot .found)))
       → Born t 2 p y c → me ≡ withMode waiting x → a ≡ by-rule (GuardEvalStart n) (making me Nothing (c ∷ []) 0) → Starts guard-eval pr n p x a
   unfolding startRule
   guard-starts ne {y} {c = c} oy et b em ea s es =
       let g = clauseAt pr (x .spot .found) .guard in
       let ey : y ≡ goalSpot the-guard (x .spot .found) (x .spot .first) = oy the-guard refl in
-      let eg : goalAt pr y ≡ g = rw ey (guard-of pr (x .spot .found) (x .spot .first)) in
+      let eg = guard-of pr (x .spot .found) in
       let ec : c ≡ newProcess (tagOfGoal g) starting p (goalSpot the-guard (x .spot .found) (x .spot .first)) =
       rw ey at (b (tagOfGoal g) (sym (et ∙ ap (λ (q : Goal). tagCode (tagOfGoal q)) eg)) starting refl) in
       let e : a ≡ by-rule (GuardEvalStart (length (s .procs))) (making (withMode waiting x) Nothing (newProcess (tagOfGoal g) starting p (goalSpot the-guard (x .spot .found) (x .spot .first)) ∷ []) 0) =
       rw (es, ← em, ← ec) ea in
-      e ∙ sym (guard-some g s p x (λ z. ne (ek ∙ z)))
+      e ∙ sym (guard-some g s p x (λ z. ne (ek ∙ ap length eg ∙ z)))

@@ -1,7 +1,7 @@
 // The rules of the conjunctions, of a tried clause and of its guard, with ready and stop: each only reads, and answers a plan.
 ghost use mathlib.Core.Path.{_≡_};
 ghost use mathlib.Core.List.{[], _∷_, List};
-ghost use Prim.Native.Nat.{_*_, _≤_, _<_};
+ghost use Prim.Native.Nat.{_≤_, _<_};
 ghost use lib.ListN.{length};
 ghost use Rattle.children.specs.Telling.{Tells};
 ghost use Rattle.parlog.specs.Codes.{and-par, and-seq, guard-eval, try-clause};
@@ -13,7 +13,7 @@ ghost use Rattle.parlog.specs.Tables.{procsOf};
 ghost use Rattle.parlog.specs.declared.Found.the-variants.{At, Nothing};
 ghost use Rattle.parlog.specs.declared.Move.the-variants.{AndSeqNext};
 ghost use Rattle.parlog.specs.declared.Process.{Process};
-ghost use Rattle.move_plan.specs.Plans.{appliedOf};
+ghost use Rattle.move_plan.specs.Plans.{appliedOf, newMost, newSize};
 ghost use Rattle.rules_and.specs.Says.{nextStage, Readies, Starts, touched, Waits};
 use children::News;
 use children::Told;
@@ -22,21 +22,22 @@ use parlog::Found;
 use parlog::Move;
 use parlog::Process;
 use parlog::Spot;
+use parlog::codes;
 
 // A ready process is about to start next.
 pub fn ready(p: usize, x: Process) -> Plan
-    ensures { λ r. ⌜ Readies p x (appliedOf r) × (r .count ≤ 12) × (r .changes .count ≡ 0) ⌝ }
+    ensures { λ r. ⌜ Readies p x (appliedOf r) × (r .count ≤ newMost) × (r .changes .count ≡ 0) ⌝ }
 {
-    let me = move_plan::with_mode(x, 2);
+    let me = move_plan::with_mode(x, codes::STARTING);
     move_plan::only(Move::Ready(p), me)
 }
 
 // The goal's own process has nobody to report to.
 pub fn stop(p: usize, x: Process) -> Plan
-    ensures { λ r. ⌜ (appliedOf r ≡ stopRule p x) × (r .count ≤ 12) × (r .changes .count ≡ 0) ⌝ }
+    ensures { λ r. ⌜ (appliedOf r ≡ stopRule p x) × (r .count ≤ newMost) × (r .changes .count ≡ 0) ⌝ }
 {
     if p == 0 {
-        let me = move_plan::with_mode(x, 0);
+        let me = move_plan::with_mode(x, codes::DORMANT);
         return move_plan::only(Move::Stop(0), me);
     }
     move_plan::none()
@@ -56,18 +57,18 @@ fn touched(n: usize, p: usize, k: usize) -> usize
 
 // The mover and one child.
 fn with_child(mv: Move, x: Process, child: Process) -> Plan
-    ensures { λ r. ⌜ (appliedOf r ≡ by-rule mv (making x Nothing (child ∷ []) 0)) × (r .count ≤ 12) × (r .changes .count ≡ 0) ⌝ }
+    ensures { λ r. ⌜ (appliedOf r ≡ by-rule mv (making x Nothing (child ∷ []) 0)) × (r .count ≤ newMost) × (r .changes .count ≡ 0) ⌝ }
 {
-    let mut new = [0u8; 288];
+    let mut new = [0u8; move_plan::NEW_SIZE];
     rows::append(&mut new, 0, child);
     move_plan::make(mv, x, Found::Nothing, 1, new, 0)
 }
 
 // The mover and two children.
 fn with_children(mv: Move, x: Process, one: Process, other: Process) -> Plan
-    ensures { λ r. ⌜ (appliedOf r ≡ by-rule mv (making x Nothing (one ∷ other ∷ []) 0)) × (r .count ≤ 12) × (r .changes .count ≡ 0) ⌝ }
+    ensures { λ r. ⌜ (appliedOf r ≡ by-rule mv (making x Nothing (one ∷ other ∷ []) 0)) × (r .count ≤ newMost) × (r .changes .count ≡ 0) ⌝ }
 {
-    let mut new = [0u8; 288];
+    let mut new = [0u8; move_plan::NEW_SIZE];
     rows::append(&mut new, 0, one);
     rows::append(&mut new, 1, other);
     move_plan::make(mv, x, Found::Nothing, 2, new, 0)
@@ -81,13 +82,13 @@ fn member(image: &[u8], rels: usize, clauses: usize, p: usize, z: Spot, j: usize
     ensures { λ r. ⌜ r ≡ member (programOf (now (image .entry)) rels clauses) p z j ⌝ }
 {
     let y = move_plan::literal_spot(z, j as u8);
-    let t = program::tag_of_literal(image, rels, clauses, y);
-    move_plan::new_process(t, 1, p, y)
+    let t = program_goal::tag_of_literal(image, rels, clauses, y);
+    move_plan::new_process(t, codes::READY, p, y)
 }
 
 // The processes for its first k members, as rows.
 fn members(image: &[u8], rels: usize, clauses: usize, p: usize, z: Spot, k: usize, new: &mut [u8])
-    requires { ⌜ (rels ≤ 32) × (clauses ≤ 64) × (p ≤ 65535) × (k ≤ 12) × (288 ≤ length (now new)) ⌝ }
+    requires { ⌜ (rels ≤ 32) × (clauses ≤ 64) × (p ≤ 65535) × (k ≤ newMost) × (newSize ≤ length (now new)) ⌝ }
     ensures { λ _. ⌜ procsOf (now (new .exit)) k ≡ build (member (programOf (now (image .entry)) rels clauses) p z) k ⌝ }
 {
     let mut j = 0;
@@ -107,27 +108,27 @@ pub fn start_and_par(
     p: usize,
     x: Process,
 ) -> Plan
-    requires { ⌜ (rels ≤ 32) × (clauses ≤ 64) × (n ≤ 65535) × (p < n) × (length (stageAt (programOf (now image) rels clauses) (x .spot)) ≤ 12) ⌝ }
-    ensures { λ r. ⌜ Starts and-par (programOf (now (image .entry)) rels clauses) n p x (appliedOf r) × (r .count ≤ 12) × (r .changes .count ≡ 0) ⌝ }
+    requires { ⌜ (rels ≤ 32) × (clauses ≤ 64) × (n ≤ 65535) × (p < n) × (length (stageAt (programOf (now image) rels clauses) (x .spot)) ≤ newMost) ⌝ }
+    ensures { λ r. ⌜ Starts and-par (programOf (now (image .entry)) rels clauses) n p x (appliedOf r) × (r .count ≤ newMost) × (r .changes .count ≡ 0) ⌝ }
 {
     let z = x.spot;
-    let k = program::stage_size(image, rels, clauses, z);
-    let mut new = [0u8; 288];
+    let k = program_goal::stage_size(image, rels, clauses, z);
+    let mut new = [0u8; move_plan::NEW_SIZE];
     members(image, rels, clauses, p, z, k, &mut new);
-    let me = move_plan::with_mode(x, 3);
+    let me = move_plan::with_mode(x, codes::WAITING);
     let q = touched(n, p, k);
     move_plan::make(Move::AndParStart(q), me, Found::Nothing, k, new, 0)
 }
 
 // One failure decides, else all must succeed.
 pub fn wait_and_par(told: Told, p: usize, x: Process) -> Plan
-    ensures { λ r. ⌜ ((ps : List Process) → Tells ps p told → Waits and-par ps p x (appliedOf r)) × (r .count ≤ 12) × (r .changes .count ≡ 0) ⌝ }
+    ensures { λ r. ⌜ ((ps : List Process) → Tells ps p told → Waits and-par ps p x (appliedOf r)) × (r .count ≤ newMost) × (r .changes .count ≡ 0) ⌝ }
 {
     if told.failed {
-        return move_plan::report(Move::AndParFailure(p), 2, x);
+        return move_plan::report(Move::AndParFailure(p), codes::FAILURE, x);
     }
     if told.succeeded {
-        return move_plan::report(Move::AndParSuccess(p), 1, x);
+        return move_plan::report(Move::AndParSuccess(p), codes::SUCCESS, x);
     }
     move_plan::none()
 }
@@ -144,18 +145,18 @@ pub fn start_and_seq(
     x: Process,
 ) -> Plan
     requires { ⌜ (rels ≤ 32) × (clauses ≤ 64) × (n ≤ 65535) × (p < n) ⌝ }
-    ensures { λ r. ⌜ Starts and-seq (programOf (now (image .entry)) rels clauses) n p x (appliedOf r) × (r .count ≤ 12) × (r .changes .count ≡ 0) ⌝ }
+    ensures { λ r. ⌜ Starts and-seq (programOf (now (image .entry)) rels clauses) n p x (appliedOf r) × (r .count ≤ newMost) × (r .changes .count ≡ 0) ⌝ }
 {
     let z = x.spot;
-    let stages = program::goal_size(image, rels, clauses, z);
+    let stages = program_goal::goal_size(image, rels, clauses, z.kind, z.clause);
     let i = z.stage as usize;
     if stages <= i {
-        return move_plan::report(Move::AndSeqSuccess(p), 1, x);
+        return move_plan::report(Move::AndSeqSuccess(p), codes::SUCCESS, x);
     }
-    let t = program::tag_of_stage(image, rels, clauses, z);
+    let t = program_goal::tag_of_stage(image, rels, clauses, z);
     let y = move_plan::literal_spot(z, 0);
-    let child = move_plan::new_process(t, 2, p, y);
-    let me = move_plan::with_mode(x, 3);
+    let child = move_plan::new_process(t, codes::STARTING, p, y);
+    let me = move_plan::with_mode(x, codes::WAITING);
     with_child(Move::AndSeqStart(n), me, child)
 }
 
@@ -166,29 +167,29 @@ fn next_stage(x: Process) -> Process
 {
     let z = x.spot;
     let y = move_plan::at_stage(z, z.stage + 1);
-    move_plan::with_spot(x, 2, y)
+    move_plan::with_spot(x, codes::STARTING, y)
 }
 
 // The stage succeeded: it sleeps, and the stage behind it is next.
 fn pass_stage(p: usize, x: Process, c: usize) -> Plan
     requires { ⌜ x .spot .stage < 255 ⌝ }
-    ensures { λ r. ⌜ (appliedOf r ≡ by-rule (AndSeqNext p) (making (nextStage x) (At c) [] 0)) × (r .count ≤ 12) × (r .changes .count ≡ 0) ⌝ }
+    ensures { λ r. ⌜ (appliedOf r ≡ by-rule (AndSeqNext p) (making (nextStage x) (At c) [] 0)) × (r .count ≤ newMost) × (r .changes .count ≡ 0) ⌝ }
 {
     let me = next_stage(x);
-    let new = [0u8; 288];
+    let new = [0u8; move_plan::NEW_SIZE];
     move_plan::make(Move::AndSeqNext(p), me, Found::At(c), 0, new, 0)
 }
 
 // Goes on to the stage behind, or fails with its stage.
 pub fn wait_and_seq(told: Told, p: usize, x: Process) -> Plan
     requires { ⌜ x .spot .stage < 255 ⌝ }
-    ensures { λ r. ⌜ ((ps : List Process) → Tells ps p told → Waits and-seq ps p x (appliedOf r)) × (r .count ≤ 12) × (r .changes .count ≡ 0) ⌝ }
+    ensures { λ r. ⌜ ((ps : List Process) → Tells ps p told → Waits and-seq ps p x (appliedOf r)) × (r .count ≤ newMost) × (r .changes .count ≡ 0) ⌝ }
 {
     let news = told.latest;
     match news {
         News::Silent => move_plan::none(),
         News::Good(c) => pass_stage(p, x, c),
-        News::Bad(_) => move_plan::report(Move::AndSeqFailure(p), 2, x),
+        News::Bad(_) => move_plan::report(Move::AndSeqFailure(p), codes::FAILURE, x),
     }
 }
 
@@ -197,26 +198,26 @@ pub fn wait_and_seq(told: Told, p: usize, x: Process) -> Plan
 // Matches the head and runs the guard side by side.
 pub fn start_try_clause(n: usize, p: usize, x: Process) -> Plan
     requires { ⌜ (n ≤ 65535) × (p < n) ⌝ }
-    ensures { λ r. ⌜ ((pr : Program) → Starts try-clause pr n p x (appliedOf r)) × (r .count ≤ 12) × (r .changes .count ≡ 0) ⌝ }
+    ensures { λ r. ⌜ ((pr : Program) → Starts try-clause pr n p x (appliedOf r)) × (r .count ≤ newMost) × (r .changes .count ≡ 0) ⌝ }
 {
     let z = x.spot;
     let call = move_plan::try_spot(z, z.found, z.first);
-    let one = move_plan::new_process(6, 1, p, call);
+    let one = move_plan::new_process(codes::INPUT_MATCH, codes::READY, p, call);
     let guard = move_plan::guard_spot(z.found, z.first);
-    let other = move_plan::new_process(7, 1, p, guard);
-    let me = move_plan::with_mode(x, 3);
+    let other = move_plan::new_process(codes::GUARD_EVAL, codes::READY, p, guard);
+    let me = move_plan::with_mode(x, codes::WAITING);
     with_children(Move::TryClauseStart(n), me, one, other)
 }
 
 // Both must succeed.
 pub fn wait_try_clause(told: Told, p: usize, x: Process) -> Plan
-    ensures { λ r. ⌜ ((ps : List Process) → Tells ps p told → Waits try-clause ps p x (appliedOf r)) × (r .count ≤ 12) × (r .changes .count ≡ 0) ⌝ }
+    ensures { λ r. ⌜ ((ps : List Process) → Tells ps p told → Waits try-clause ps p x (appliedOf r)) × (r .count ≤ newMost) × (r .changes .count ≡ 0) ⌝ }
 {
     if told.failed {
-        return move_plan::report(Move::TryClauseFailure(p), 2, x);
+        return move_plan::report(Move::TryClauseFailure(p), codes::FAILURE, x);
     }
     if told.succeeded {
-        return move_plan::report(Move::TryClauseSuccess(p), 1, x);
+        return move_plan::report(Move::TryClauseSuccess(p), codes::SUCCESS, x);
     }
     move_plan::none()
 }
@@ -233,28 +234,28 @@ pub fn start_guard_eval(
     x: Process,
 ) -> Plan
     requires { ⌜ (rels ≤ 32) × (clauses ≤ 64) × (n ≤ 65535) × (p < n) ⌝ }
-    ensures { λ r. ⌜ Starts guard-eval (programOf (now (image .entry)) rels clauses) n p x (appliedOf r) × (r .count ≤ 12) × (r .changes .count ≡ 0) ⌝ }
+    ensures { λ r. ⌜ Starts guard-eval (programOf (now (image .entry)) rels clauses) n p x (appliedOf r) × (r .count ≤ newMost) × (r .changes .count ≡ 0) ⌝ }
 {
     let z = x.spot;
-    let size = program::guard_size(image, rels, clauses, z.found as usize);
+    let size = program_goal::goal_size(image, rels, clauses, codes::THE_GUARD, z.found);
     if size == 0 {
-        return move_plan::report(Move::GuardEvalEmpty(p), 1, x);
+        return move_plan::report(Move::GuardEvalEmpty(p), codes::SUCCESS, x);
     }
-    let y = move_plan::goal_spot(1, z.found, z.first);
-    let t = program::tag_of_goal(image, rels, clauses, y);
-    let child = move_plan::new_process(t, 2, p, y);
-    let me = move_plan::with_mode(x, 3);
+    let y = move_plan::goal_spot(codes::THE_GUARD, z.found, z.first);
+    let t = program_goal::tag_of_goal(image, rels, clauses, codes::THE_GUARD, z.found);
+    let child = move_plan::new_process(t, codes::STARTING, p, y);
+    let me = move_plan::with_mode(x, codes::WAITING);
     with_child(Move::GuardEvalStart(n), me, child)
 }
 
 // Tells what the guard tells.
 pub fn wait_guard_eval(told: Told, p: usize, x: Process) -> Plan
-    ensures { λ r. ⌜ ((ps : List Process) → Tells ps p told → Waits guard-eval ps p x (appliedOf r)) × (r .count ≤ 12) × (r .changes .count ≡ 0) ⌝ }
+    ensures { λ r. ⌜ ((ps : List Process) → Tells ps p told → Waits guard-eval ps p x (appliedOf r)) × (r .count ≤ newMost) × (r .changes .count ≡ 0) ⌝ }
 {
     let news = told.latest;
     match news {
         News::Silent => move_plan::none(),
-        News::Good(_) => move_plan::report(Move::GuardEvalSuccess(p), 1, x),
-        News::Bad(_) => move_plan::report(Move::GuardEvalFailure(p), 2, x),
+        News::Good(_) => move_plan::report(Move::GuardEvalSuccess(p), codes::SUCCESS, x),
+        News::Bad(_) => move_plan::report(Move::GuardEvalFailure(p), codes::FAILURE, x),
     }
 }

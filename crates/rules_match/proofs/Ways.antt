@@ -35,8 +35,8 @@ use Rattle.move_plan.specs.Plans as plans
 use Rattle.move_plan.specs.Plans.{appliedOf, deltaOf, Within}
 use Rattle.move_plan.specs.declared.Changes.{Changes}
 use Rattle.move_plan.specs.declared.Plan.{Plan}
-use Rattle.program.specs.Parts.{shown}
-use Rattle.program.specs.declared.Lit.{Lit}
+use Rattle.program_goal.specs.Parts.{shown}
+use Rattle.program_goal.specs.declared.Lit.{Lit}
 use Rattle.rules_match.proofs.Lists.{four-take, least-left, least-right, match-cut, outs-take}
 use Rattle.rules_match.specs.Starts.{EquateThere, inFour, least, MatchThere, startBy}
 use Rattle.unify.specs.Pending.{noChange, top, Writable}

@@ -7,6 +7,7 @@ use parlog::Move;
 use parlog::Process;
 use parlog::Spot;
 use parlog::Term;
+use parlog::codes;
 ghost use mathlib.Core.Path.{_≡_};
 ghost use mathlib.Core.Bool.{cond};
 ghost use Prim.Native.Nat.{_*_, _≤_};
@@ -15,11 +16,11 @@ ghost use lib.ListN.{getD, length};
 ghost use Rattle.parlog.specs.declared.Term.the-variants.{Const, Var};
 ghost use Rattle.parlog.specs.Program.{clauseAt, modesAt, programOf};
 ghost use Rattle.parlog.specs.Rules.{equateAt, equateStart, inputMatchStart, matchAt, no-rule, wakeRule};
-ghost use Rattle.parlog.specs.Tables.{noted, varsIn};
+ghost use Rattle.parlog.specs.Tables.{cellSize, noted, rowSize, varsIn};
 ghost use Rattle.parlog.specs.Unify.{someBound};
 ghost use Rattle.unify.specs.Pending.{noChange, Writable};
 ghost use Rattle.decide.specs.Decision.{decidedOf, Decides, toBind};
-ghost use Rattle.move_plan.specs.Plans.{appliedOf, stateIn, Within};
+ghost use Rattle.move_plan.specs.Plans.{appliedOf, newMost, stateIn, Within};
 ghost use Rattle.rules_match.specs.Starts.{EquateThere, inFour, least, MatchThere, startBy};
 
 // ---- what is decided, as a plan
@@ -62,11 +63,11 @@ fn start_by(
     x: Process,
 ) -> Plan
     requires { ⌜ Decides (decidedOf d) d × Writable m (toBind d) ⌝ }
-    ensures { λ r. ⌜ (appliedOf r ≡ startBy fail suspend plain bind (decidedOf d) x) × (r .count ≤ 12) × (r .fresh ≡ 0) × (r .changes .count ≤ 4) × Within m (r .changes .count) (r .changes .list) ⌝ }
+    ensures { λ r. ⌜ (appliedOf r ≡ startBy fail suspend plain bind (decidedOf d) x) × (r .count ≤ newMost) × (r .fresh ≡ 0) × (r .changes .count ≤ 4) × Within m (r .changes .count) (r .changes .list) ⌝ }
 {
     let deed = d.deed;
     match deed {
-        Deed::Fails => move_plan::report(fail, 2, x),
+        Deed::Fails => move_plan::report(fail, codes::FAILURE, x),
         Deed::Suspends => {
             let notes = d.notes;
             let y = move_plan::with_notes(x, d.noted, notes);
@@ -77,7 +78,7 @@ fn start_by(
             let count = d.count;
             let mv = success_move(count, plain, bind);
             let changes = Changes { count, list };
-            move_plan::report_with(mv, 1, x, changes)
+            move_plan::report_with(mv, codes::SUCCESS, x, changes)
         }
     }
 }
@@ -85,26 +86,26 @@ fn start_by(
 // ---- input-match
 
 // The modes of relation q.
-fn four_modes(image: &[u8], rels: usize, clauses: usize, q: usize) -> [u8; 4]
+fn four_modes(image: &[u8], rels: usize, clauses: usize, q: usize) -> [u8; codes::MOST_ARITY]
     requires { ⌜ (rels ≤ 32) × (clauses ≤ 64) ⌝ }
     ensures { λ r. ⌜ r ≡ inFour 0 (modesAt (programOf (now (image .entry)) rels clauses) q) ⌝ }
 {
-    let a = program::mode_of(image, rels, clauses, q, 0);
-    let b = program::mode_of(image, rels, clauses, q, 1);
-    let c = program::mode_of(image, rels, clauses, q, 2);
-    let d = program::mode_of(image, rels, clauses, q, 3);
+    let a = program_clause::mode_of(image, rels, clauses, q, 0);
+    let b = program_clause::mode_of(image, rels, clauses, q, 1);
+    let c = program_clause::mode_of(image, rels, clauses, q, 2);
+    let d = program_clause::mode_of(image, rels, clauses, q, 3);
     [a as u8, b as u8, c as u8, d as u8]
 }
 
 // The head terms of clause k.
-fn four_terms(image: &[u8], rels: usize, clauses: usize, k: usize) -> [Term; 4]
+fn four_terms(image: &[u8], rels: usize, clauses: usize, k: usize) -> [Term; codes::MOST_ARITY]
     requires { ⌜ (rels ≤ 32) × (clauses ≤ 64) ⌝ }
     ensures { λ r. ⌜ r ≡ inFour (Const 0) (clauseAt (programOf (now (image .entry)) rels clauses) k .head) ⌝ }
 {
-    let a = program::head_term(image, rels, clauses, k, 0);
-    let b = program::head_term(image, rels, clauses, k, 1);
-    let c = program::head_term(image, rels, clauses, k, 2);
-    let d = program::head_term(image, rels, clauses, k, 3);
+    let a = program_clause::head_term(image, rels, clauses, k, 0);
+    let b = program_clause::head_term(image, rels, clauses, k, 1);
+    let c = program_clause::head_term(image, rels, clauses, k, 2);
+    let d = program_clause::head_term(image, rels, clauses, k, 3);
     [a, b, c, d]
 }
 
@@ -116,10 +117,10 @@ fn least(a: usize, b: usize) -> usize
 
 // The match that z names.
 fn match_at(image: &[u8], rels: usize, clauses: usize, vars: &[u8], m: usize, z: Spot) -> Decision
-    requires { ⌜ (rels ≤ 32) × (clauses ≤ 64) × (m * 4 ≤ length (now vars)) × (m ≤ 65535) × MatchThere (programOf (now image) rels clauses) (varsIn (now vars) m) z ⌝ }
+    requires { ⌜ (rels ≤ 32) × (clauses ≤ 64) × (m * cellSize ≤ length (now vars)) × (m ≤ 65535) × MatchThere (programOf (now image) rels clauses) (varsIn (now vars) m) z ⌝ }
     ensures { λ r. ⌜ Decides (matchAt (programOf (now (image .entry)) rels clauses) (varsIn (now (vars .entry)) m) z) r ⌝ }
 {
-    let l = program::literal(image, rels, clauses, z);
+    let l = program_goal::literal(image, rels, clauses, z);
     let q = l.rel;
     let size = l.arity;
     let a = l.a;
@@ -129,8 +130,8 @@ fn match_at(image: &[u8], rels: usize, clauses: usize, vars: &[u8], m: usize, z:
     let k = z.found as usize;
     let modes = four_modes(image, rels, clauses, q);
     let head = four_terms(image, rels, clauses, k);
-    let own = program::clause_vars(image, rels, clauses, k);
-    let count = program::mode_count(image, rels, clauses, q);
+    let own = program_clause::clause_vars(image, rels, clauses, k);
+    let count = program_clause::mode_count(image, rels, clauses, q);
     let arity = least(count, size);
     let args = [a, b, c, d];
     decide::match_of(vars, m, modes, args, z.base, head, z.first, own, arity)
@@ -146,8 +147,8 @@ pub fn start_input_match(
     p: usize,
     x: Process,
 ) -> Plan
-    requires { ⌜ (rels ≤ 32) × (clauses ≤ 64) × (m * 4 ≤ length (now vars)) × (m ≤ 65535) × MatchThere (programOf (now image) rels clauses) (varsIn (now vars) m) (x .spot) ⌝ }
-    ensures { λ r. ⌜ (appliedOf r ≡ inputMatchStart (matchAt (programOf (now (image .entry)) rels clauses) (varsIn (now (vars .entry)) m) (x .spot)) p x) × (r .count ≤ 12) × (r .fresh ≡ 0) × (r .changes .count ≤ 4) × Within m (r .changes .count) (r .changes .list) ⌝ }
+    requires { ⌜ (rels ≤ 32) × (clauses ≤ 64) × (m * cellSize ≤ length (now vars)) × (m ≤ 65535) × MatchThere (programOf (now image) rels clauses) (varsIn (now vars) m) (x .spot) ⌝ }
+    ensures { λ r. ⌜ (appliedOf r ≡ inputMatchStart (matchAt (programOf (now (image .entry)) rels clauses) (varsIn (now (vars .entry)) m) (x .spot)) p x) × (r .count ≤ newMost) × (r .fresh ≡ 0) × (r .changes .count ≤ 4) × Within m (r .changes .count) (r .changes .list) ⌝ }
 {
     let z = x.spot;
     let d = match_at(image, rels, clauses, vars, m, z);
@@ -178,10 +179,10 @@ fn equate_at(
     p: usize,
     z: Spot,
 ) -> Decision
-    requires { ⌜ (rels ≤ 32) × (clauses ≤ 64) × (n * 24 ≤ length (now procs)) × (m * 4 ≤ length (now vars)) × (m ≤ 65535) × EquateThere (programOf (now image) rels clauses) (varsIn (now vars) m) z ⌝ }
+    requires { ⌜ (rels ≤ 32) × (clauses ≤ 64) × (n * rowSize ≤ length (now procs)) × (m * cellSize ≤ length (now vars)) × (m ≤ 65535) × EquateThere (programOf (now image) rels clauses) (varsIn (now vars) m) z ⌝ }
     ensures { λ r. ⌜ Decides (equateAt (programOf (now (image .entry)) rels clauses) (stateIn (now (procs .entry)) n (now (vars .entry)) m) p z) r ⌝ }
 {
-    let l = program::literal(image, rels, clauses, z);
+    let l = program_goal::literal(image, rels, clauses, z);
     let t = l.a;
     let u = l.b;
     let bar = tree::enclosing_first(procs, n, p);
@@ -200,8 +201,8 @@ pub fn start_equate(
     p: usize,
     x: Process,
 ) -> Plan
-    requires { ⌜ (rels ≤ 32) × (clauses ≤ 64) × (n * 24 ≤ length (now procs)) × (m * 4 ≤ length (now vars)) × (m ≤ 65535) × EquateThere (programOf (now image) rels clauses) (varsIn (now vars) m) (x .spot) ⌝ }
-    ensures { λ r. ⌜ (appliedOf r ≡ equateStart (equateAt (programOf (now (image .entry)) rels clauses) (stateIn (now (procs .entry)) n (now (vars .entry)) m) p (x .spot)) p x) × (r .count ≤ 12) × (r .fresh ≡ 0) × (r .changes .count ≤ 4) × Within m (r .changes .count) (r .changes .list) ⌝ }
+    requires { ⌜ (rels ≤ 32) × (clauses ≤ 64) × (n * rowSize ≤ length (now procs)) × (m * cellSize ≤ length (now vars)) × (m ≤ 65535) × EquateThere (programOf (now image) rels clauses) (varsIn (now vars) m) (x .spot) ⌝ }
+    ensures { λ r. ⌜ (appliedOf r ≡ equateStart (equateAt (programOf (now (image .entry)) rels clauses) (stateIn (now (procs .entry)) n (now (vars .entry)) m) p (x .spot)) p x) × (r .count ≤ newMost) × (r .fresh ≡ 0) × (r .changes .count ≤ 4) × Within m (r .changes .count) (r .changes .list) ⌝ }
 {
     let z = x.spot;
     let d = equate_at(image, rels, clauses, procs, n, vars, m, p, z);
@@ -222,7 +223,7 @@ pub fn start_equate(
 
 // No rule, and no new variables either.
 fn still() -> Plan
-    ensures { λ r. ⌜ (appliedOf r ≡ no-rule) × (r .count ≤ 12) × (r .fresh ≡ 0) × (r .changes .count ≡ 0) ⌝ }
+    ensures { λ r. ⌜ (appliedOf r ≡ no-rule) × (r .count ≤ newMost) × (r .fresh ≡ 0) × (r .changes .count ≡ 0) ⌝ }
 {
     let mut r = move_plan::none();
     r.fresh = 0;
@@ -231,8 +232,8 @@ fn still() -> Plan
 
 // A suspended process starts again once a variable that it notes is bound.
 pub fn wake(vars: &[u8], m: usize, p: usize, x: Process) -> Plan
-    requires { ⌜ (m * 4 ≤ length (now vars)) × (x .count ≤ 4) ⌝ }
-    ensures { λ r. ⌜ (appliedOf r ≡ wakeRule (someBound (varsIn (now (vars .entry)) m) (noted x)) p x) × (r .count ≤ 12) × (r .fresh ≡ 0) × (r .changes .count ≤ 4) × Within m (r .changes .count) (r .changes .list) ⌝ }
+    requires { ⌜ (m * cellSize ≤ length (now vars)) × (x .count ≤ 4) ⌝ }
+    ensures { λ r. ⌜ (appliedOf r ≡ wakeRule (someBound (varsIn (now (vars .entry)) m) (noted x)) p x) × (r .count ≤ newMost) × (r .fresh ≡ 0) × (r .changes .count ≤ 4) × Within m (r .changes .count) (r .changes .list) ⌝ }
 {
     let notes = x.notes;
     let bound = unify::some_bound(vars, m, x.count as usize, notes);

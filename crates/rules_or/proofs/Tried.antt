@@ -10,7 +10,7 @@ use Rattle.parlog.specs.Codes.{modeCode, or-search, ready, try-clause, waiting}
 use Rattle.parlog.specs.Delta.{making, trySpot, withMode}
 use Rattle.parlog.specs.Program.{blockOf, literalAt, Program, varsOf}
 use Rattle.parlog.specs.Rules.{Applied, blockAt, by-rule, firstMade, orSearchStart, startRule, tries, triesVars}
-use Rattle.parlog.specs.Tables.{at, newProcess, procsOf, State}
+use Rattle.parlog.specs.Tables.{newProcess, procsOf, State}
 use Rattle.parlog.specs.declared.Found.the-variants.{Nothing}
 use Rattle.parlog.specs.declared.Move.the-variants.{OrSearchStart}
 use Rattle.parlog.specs.declared.Process.{Process}

@@ -25,8 +25,8 @@ use Rattle.parlog.specs.declared.Move.the-variants.{OrParFailure, OrParSpawn, O
 use Rattle.parlog.specs.declared.Process.{Process}
 use Rattle.parlog.specs.declared.Spot.{Spot}
 use Rattle.move_plan.specs.Plans.{Born, Of}
-use Rattle.program.specs.Parts.{shown}
-use Rattle.program.specs.declared.Lit.{Lit}
+use Rattle.program_goal.specs.Parts.{shown}
+use Rattle.program_goal.specs.declared.Lit.{Lit}
 use Rattle.rows.proofs.Tables.{procs-length, procs-none, table-rows}
 use Rattle.rows.specs.Rows.{Table}
 

@@ -9,10 +9,10 @@ ghost use Rattle.parlog.specs.Codes.{isTag, or-par, or-search, ready, seq-searc
 ghost use Rattle.parlog.specs.Delta.{making, report, trySpot};
 ghost use Rattle.parlog.specs.Program.{blockCount, blockOf, literalAt, Program, programOf, varsOf};
 ghost use Rattle.parlog.specs.Rules.{blockAt, bodyChild, by-rule, orParHeard, orSearchWait, searching, seqSearchNext, startRule, tries, triesVars, waitRule, withFound};
-ghost use Rattle.parlog.specs.Tables.{at, newProcess, procsOf, State};
+ghost use Rattle.parlog.specs.Tables.{at, newProcess, procsOf, rowSize, State};
 ghost use Rattle.parlog.specs.declared.Binding.{Binding};
 ghost use Rattle.parlog.specs.declared.Found.the-variants.{Nothing};
-ghost use Rattle.move_plan.specs.Plans.{appliedOf};
+ghost use Rattle.move_plan.specs.Plans.{appliedOf, newMost};
 ghost use Rattle.rows.specs.Rows.{Table};
 use children::News;
 use children::Told;
@@ -21,14 +21,15 @@ use parlog::Found;
 use parlog::Move;
 use parlog::Process;
 use parlog::Spot;
+use parlog::codes;
 
 // ---- what the rules share
 
 // One new process, and perhaps a child that falls asleep.
 fn make_one(mv: Move, x: Process, nap: Found, y: Process) -> Plan
-    ensures { λ r. ⌜ (appliedOf r ≡ by-rule mv (making x nap (y ∷ []) 0)) × (r .count ≤ 12) × (r .changes .count ≡ 0) ⌝ }
+    ensures { λ r. ⌜ (appliedOf r ≡ by-rule mv (making x nap (y ∷ []) 0)) × (r .count ≤ newMost) × (r .changes .count ≡ 0) ⌝ }
 {
-    let mut new = [0u8; 288];
+    let mut new = [0u8; move_plan::NEW_SIZE];
     rows::append(&mut new, 0, y);
     move_plan::make(mv, x, nap, 1, new, 0)
 }
@@ -38,21 +39,21 @@ fn called(image: &[u8], rels: usize, clauses: usize, z: Spot) -> usize
     requires { ⌜ (rels ≤ 32) × (clauses ≤ 64) ⌝ }
     ensures { λ r. ⌜ (r ≡ literalAt (programOf (now (image .entry)) rels clauses) z .rel) × (r ≤ 255) ⌝ }
 {
-    let l = program::literal(image, rels, clauses, z);
+    let l = program_goal::literal(image, rels, clauses, z);
     l.rel
 }
 
 // Reports success with the clause that child c names.
 fn commit(mv: Move, procs: &[u8], n: usize, c: usize, x: Process) -> Plan
-    requires { ⌜ n * 24 ≤ length (now procs) ⌝ }
-    ensures { λ r. ⌜ ((vs : List Binding) → appliedOf r ≡ by-rule mv (report success (withFound (record { procs = procsOf (now (procs .entry)) n; vars = vs }) c x))) × (r .count ≤ 12) × (r .changes .count ≡ 0) ⌝ }
+    requires { ⌜ n * rowSize ≤ length (now procs) ⌝ }
+    ensures { λ r. ⌜ ((vs : List Binding) → appliedOf r ≡ by-rule mv (report success (withFound (record { procs = procsOf (now (procs .entry)) n; vars = vs }) c x))) × (r .count ≤ newMost) × (r .changes .count ≡ 0) ⌝ }
 {
     let y = rows::get(procs, n, c);
     let told = y.spot;
     let own = x.spot;
     let z = move_plan::with_clause(own, told.found, told.first);
-    let me = move_plan::with_spot(x, 4, z);
-    move_plan::report(mv, 1, me)
+    let me = move_plan::with_spot(x, codes::REPORTING, z);
+    move_plan::report(mv, codes::SUCCESS, me)
 }
 
 // ---- or-par
@@ -60,12 +61,12 @@ fn commit(mv: Move, procs: &[u8], n: usize, c: usize, x: Process) -> Plan
 // Has a clause looked for.
 pub fn start_or_par(n: usize, p: usize, x: Process) -> Plan
     requires { ⌜ (n ≤ 65535) × (p < n) ⌝ }
-    ensures { λ r. ⌜ ((pr : Program) (s : State) → length (s .procs) ≡ n → appliedOf r ≡ startRule or-par pr s p x) × (r .count ≤ 12) × (r .changes .count ≡ 0) ⌝ }
+    ensures { λ r. ⌜ ((pr : Program) (s : State) → length (s .procs) ≡ n → appliedOf r ≡ startRule or-par pr s p x) × (r .count ≤ newMost) × (r .changes .count ≡ 0) ⌝ }
 {
     let own = x.spot;
     let z = move_plan::call_spot(own);
-    let y = move_plan::new_process(3, 2, p, z);
-    let me = move_plan::with_mode(x, 3);
+    let y = move_plan::new_process(codes::SEQ_SEARCH, codes::STARTING, p, z);
+    let me = move_plan::with_mode(x, codes::WAITING);
     make_one(Move::OrParStart(n), me, Found::Nothing, y)
 }
 
@@ -74,9 +75,9 @@ fn body_child(image: &[u8], rels: usize, clauses: usize, p: usize, k: u8, v: u16
     requires { ⌜ (rels ≤ 32) × (clauses ≤ 64) × (p ≤ 65535) ⌝ }
     ensures { λ r. ⌜ r ≡ bodyChild (programOf (now (image .entry)) rels clauses) p k v ⌝ }
 {
-    let t = program::tag_of_goal_by(image, rels, clauses, 2, k as usize);
-    let z = move_plan::goal_spot(2, k, v);
-    move_plan::new_process(t, 2, p, z)
+    let t = program_goal::tag_of_goal(image, rels, clauses, codes::THE_BODY, k);
+    let z = move_plan::goal_spot(codes::THE_BODY, k, v);
+    move_plan::new_process(t, codes::STARTING, p, z)
 }
 
 // Child c tells success: a clause was found, or its body is done.
@@ -90,12 +91,12 @@ fn or_par_heard(
     x: Process,
     c: usize,
 ) -> Plan
-    requires { ⌜ (rels ≤ 32) × (clauses ≤ 64) × (n * 24 ≤ length (now procs)) × (n ≤ 65535) × (p < n) ⌝ }
-    ensures { λ r. ⌜ ((vs : List Binding) → appliedOf r ≡ orParHeard (isTag seq-search (at (procsOf (now (procs .entry)) n) c .tag)) (programOf (now (image .entry)) rels clauses) (record { procs = procsOf (now (procs .entry)) n; vars = vs }) p x c) × (r .count ≤ 12) × (r .changes .count ≡ 0) ⌝ }
+    requires { ⌜ (rels ≤ 32) × (clauses ≤ 64) × (n * rowSize ≤ length (now procs)) × (n ≤ 65535) × (p < n) ⌝ }
+    ensures { λ r. ⌜ ((vs : List Binding) → appliedOf r ≡ orParHeard (isTag seq-search (at (procsOf (now (procs .entry)) n) c .tag)) (programOf (now (image .entry)) rels clauses) (record { procs = procsOf (now (procs .entry)) n; vars = vs }) p x c) × (r .count ≤ newMost) × (r .changes .count ≡ 0) ⌝ }
 {
     let y = rows::get(procs, n, c);
-    if y.tag != 3 {
-        return move_plan::report(Move::OrParSuccess(p), 1, x);
+    if y.tag != codes::SEQ_SEARCH {
+        return move_plan::report(Move::OrParSuccess(p), codes::SUCCESS, x);
     }
     let told = y.spot;
     let child = body_child(image, rels, clauses, p, told.found, told.first);
@@ -113,14 +114,14 @@ pub fn wait_or_par(
     x: Process,
     told: Told,
 ) -> Plan
-    requires { ⌜ (rels ≤ 32) × (clauses ≤ 64) × (n * 24 ≤ length (now procs)) × (n ≤ 65535) × (p < n) × Tells (procsOf (now procs) n) p told ⌝ }
-    ensures { λ r. ⌜ ((vs : List Binding) → appliedOf r ≡ waitRule or-par (programOf (now (image .entry)) rels clauses) (record { procs = procsOf (now (procs .entry)) n; vars = vs }) p x) × (r .count ≤ 12) × (r .changes .count ≡ 0) ⌝ }
+    requires { ⌜ (rels ≤ 32) × (clauses ≤ 64) × (n * rowSize ≤ length (now procs)) × (n ≤ 65535) × (p < n) × Tells (procsOf (now procs) n) p told ⌝ }
+    ensures { λ r. ⌜ ((vs : List Binding) → appliedOf r ≡ waitRule or-par (programOf (now (image .entry)) rels clauses) (record { procs = procsOf (now (procs .entry)) n; vars = vs }) p x) × (r .count ≤ newMost) × (r .changes .count ≡ 0) ⌝ }
 {
     let h = told.latest;
     match h {
         News::Silent => move_plan::none(),
         News::Good(c) => or_par_heard(image, rels, clauses, procs, n, p, x, c),
-        News::Bad(c) => move_plan::report(Move::OrParFailure(p), 2, x),
+        News::Bad(c) => move_plan::report(Move::OrParFailure(p), codes::FAILURE, x),
     }
 }
 
@@ -129,13 +130,13 @@ pub fn wait_or_par(
 // At block b, with a process that tries it.
 fn searching(mv: Move, b: u8, p: usize, x: Process, nap: Found) -> Plan
     requires { ⌜ p ≤ 65535 ⌝ }
-    ensures { λ r. ⌜ (appliedOf r ≡ by-rule mv (searching b p x nap)) × (r .count ≤ 12) × (r .changes .count ≡ 0) ⌝ }
+    ensures { λ r. ⌜ (appliedOf r ≡ by-rule mv (searching b p x nap)) × (r .count ≤ newMost) × (r .changes .count ≡ 0) ⌝ }
 {
     let own = x.spot;
     let here = move_plan::at_block(own, b);
-    let me = move_plan::with_spot(x, 3, here);
+    let me = move_plan::with_spot(x, codes::WAITING, here);
     let z = move_plan::block_spot(own, b);
-    let y = move_plan::new_process(4, 2, p, z);
+    let y = move_plan::new_process(codes::OR_SEARCH, codes::STARTING, p, z);
     make_one(mv, me, nap, y)
 }
 
@@ -145,7 +146,7 @@ fn blocks(image: &[u8], rels: usize, clauses: usize, z: Spot) -> usize
     ensures { λ r. ⌜ (r ≡ blockCount (programOf (now (image .entry)) rels clauses) (literalAt (programOf (now (image .entry)) rels clauses) z .rel)) × (r ≤ 64) ⌝ }
 {
     let rel = called(image, rels, clauses, z);
-    program::block_count(image, rels, clauses, rel)
+    program_block::block_count(image, rels, clauses, rel)
 }
 
 // Tries the first block, if there is one.
@@ -158,12 +159,12 @@ pub fn start_seq_search(
     x: Process,
 ) -> Plan
     requires { ⌜ (rels ≤ 32) × (clauses ≤ 64) × (n ≤ 65535) × (p < n) ⌝ }
-    ensures { λ r. ⌜ ((s : State) → length (s .procs) ≡ n → appliedOf r ≡ startRule seq-search (programOf (now (image .entry)) rels clauses) s p x) × (r .count ≤ 12) × (r .changes .count ≡ 0) ⌝ }
+    ensures { λ r. ⌜ ((s : State) → length (s .procs) ≡ n → appliedOf r ≡ startRule seq-search (programOf (now (image .entry)) rels clauses) s p x) × (r .count ≤ newMost) × (r .changes .count ≡ 0) ⌝ }
 {
     let z = x.spot;
     let count = blocks(image, rels, clauses, z);
     if count == 0 {
-        return move_plan::report(Move::SeqSearchNone(p), 2, x);
+        return move_plan::report(Move::SeqSearchNone(p), codes::FAILURE, x);
     }
     searching(Move::SeqSearchStart(n), 0, p, x, Found::Nothing)
 }
@@ -179,13 +180,13 @@ fn next_block(
     c: usize,
 ) -> Plan
     requires { ⌜ (rels ≤ 32) × (clauses ≤ 64) × (n ≤ 65535) × (p < n) × (x .spot .block < 255) ⌝ }
-    ensures { λ r. ⌜ ((s : State) → length (s .procs) ≡ n → appliedOf r ≡ seqSearchNext (ltb (suc (x .spot .block)) (blockCount (programOf (now (image .entry)) rels clauses) (literalAt (programOf (now (image .entry)) rels clauses) (x .spot) .rel))) s p x c) × (r .count ≤ 12) × (r .changes .count ≡ 0) ⌝ }
+    ensures { λ r. ⌜ ((s : State) → length (s .procs) ≡ n → appliedOf r ≡ seqSearchNext (ltb (suc (x .spot .block)) (blockCount (programOf (now (image .entry)) rels clauses) (literalAt (programOf (now (image .entry)) rels clauses) (x .spot) .rel))) s p x c) × (r .count ≤ newMost) × (r .changes .count ≡ 0) ⌝ }
 {
     let z = x.spot;
     let count = blocks(image, rels, clauses, z);
     let b = z.block + 1;
     if count <= b as usize {
-        return move_plan::report(Move::SeqSearchFailure(p), 2, x);
+        return move_plan::report(Move::SeqSearchFailure(p), codes::FAILURE, x);
     }
     searching(Move::SeqSearchNext(n), b, p, x, Found::At(c))
 }
@@ -201,8 +202,8 @@ pub fn wait_seq_search(
     x: Process,
     told: Told,
 ) -> Plan
-    requires { ⌜ (rels ≤ 32) × (clauses ≤ 64) × (n * 24 ≤ length (now procs)) × (n ≤ 65535) × (p < n) × (x .spot .block < 255) × Tells (procsOf (now procs) n) p told ⌝ }
-    ensures { λ r. ⌜ ((vs : List Binding) → appliedOf r ≡ waitRule seq-search (programOf (now (image .entry)) rels clauses) (record { procs = procsOf (now (procs .entry)) n; vars = vs }) p x) × (r .count ≤ 12) × (r .changes .count ≡ 0) ⌝ }
+    requires { ⌜ (rels ≤ 32) × (clauses ≤ 64) × (n * rowSize ≤ length (now procs)) × (n ≤ 65535) × (p < n) × (x .spot .block < 255) × Tells (procsOf (now procs) n) p told ⌝ }
+    ensures { λ r. ⌜ ((vs : List Binding) → appliedOf r ≡ waitRule seq-search (programOf (now (image .entry)) rels clauses) (record { procs = procsOf (now (procs .entry)) n; vars = vs }) p x) × (r .count ≤ newMost) × (r .changes .count ≡ 0) ⌝ }
 {
     let h = told.latest;
     match h {
@@ -220,7 +221,7 @@ fn try_child(p: usize, z: Spot, k: usize, v: usize) -> Process
     ensures { λ r. ⌜ r ≡ newProcess try-clause ready p (trySpot z k v) ⌝ }
 {
     let y = move_plan::try_spot(z, k as u8, v as u16);
-    move_plan::new_process(5, 1, p, y)
+    move_plan::new_process(codes::TRY_CLAUSE, codes::READY, p, y)
 }
 
 // The process for clause j of block b, as row j; answers the variable behind its own.
@@ -232,17 +233,17 @@ fn try_one(
     p: usize,
     z: Spot,
     rel: usize,
-    b: usize,
+    b: u8,
     j: usize,
     v: usize,
 ) -> usize
-    requires { ⌜ (rels ≤ 32) × (clauses ≤ 64) × (p ≤ 65535) × (v ≤ 65535) × (j * 24 + 24 ≤ length (now rows)) ⌝ }
+    requires { ⌜ (rels ≤ 32) × (clauses ≤ 64) × (p ≤ 65535) × (v ≤ 65535) × (j * rowSize + rowSize ≤ length (now rows)) ⌝ }
     ensures { λ r. ⌜ (r ≡ v + varsOf (programOf (now (image .entry)) rels clauses) (getD (blockOf (programOf (now (image .entry)) rels clauses) rel b) j 255)) × (r ≤ v + 510) × Table (now (rows .entry)) (now (rows .exit)) (procsOf (now (rows .entry)) j ++ (newProcess try-clause ready p (trySpot z (getD (blockOf (programOf (now (image .entry)) rels clauses) rel b) j 255) v) ∷ [])) ⌝ }
 {
-    let k = program::block_clause(image, rels, clauses, rel, b, j);
+    let k = program_block::block_clause(image, rels, clauses, rel, b, j);
     let y = try_child(p, z, k, v);
     rows::append(rows, j, y);
-    v + program::vars_of(image, rels, clauses, k)
+    v + program_clause::vars_of(image, rels, clauses, k)
 }
 
 // A process for each clause of block b; answers the variable behind those of all.
@@ -255,10 +256,10 @@ fn try_all(
     p: usize,
     z: Spot,
     rel: usize,
-    b: usize,
+    b: u8,
     size: usize,
 ) -> usize
-    requires { ⌜ (rels ≤ 32) × (clauses ≤ 64) × (p ≤ 65535) × (size ≡ length (blockOf (programOf (now image) rels clauses) rel b)) × (size * 24 ≤ length (now rows)) × (m + 510 * size ≤ 65535) ⌝ }
+    requires { ⌜ (rels ≤ 32) × (clauses ≤ 64) × (p ≤ 65535) × (size ≡ length (blockOf (programOf (now image) rels clauses) rel b)) × (size * rowSize ≤ length (now rows)) × (m + 510 * size ≤ 65535) ⌝ }
     ensures { λ r. ⌜ (procsOf (now (rows .exit)) size ≡ tries (programOf (now (image .entry)) rels clauses) p z m (blockOf (programOf (now (image .entry)) rels clauses) rel b)) × (r ≡ m + triesVars (programOf (now (image .entry)) rels clauses) (blockOf (programOf (now (image .entry)) rels clauses) rel b)) ⌝ }
 {
     let mut v = m;
@@ -287,16 +288,16 @@ pub fn start_or_search(
     p: usize,
     x: Process,
 ) -> Plan
-    requires { ⌜ (rels ≤ 32) × (clauses ≤ 64) × (n ≤ 65535) × (p < n) × (length (blockAt (programOf (now image) rels clauses) (x .spot)) ≤ 12) × (m + 510 * length (blockAt (programOf (now image) rels clauses) (x .spot)) ≤ 65535) ⌝ }
-    ensures { λ r. ⌜ ((s : State) → length (s .procs) ≡ n → length (s .vars) ≡ m → appliedOf r ≡ startRule or-search (programOf (now (image .entry)) rels clauses) s p x) × (r .count ≤ 12) × (r .changes .count ≡ 0) ⌝ }
+    requires { ⌜ (rels ≤ 32) × (clauses ≤ 64) × (n ≤ 65535) × (p < n) × (length (blockAt (programOf (now image) rels clauses) (x .spot)) ≤ newMost) × (m + 510 * length (blockAt (programOf (now image) rels clauses) (x .spot)) ≤ 65535) ⌝ }
+    ensures { λ r. ⌜ ((s : State) → length (s .procs) ≡ n → length (s .vars) ≡ m → appliedOf r ≡ startRule or-search (programOf (now (image .entry)) rels clauses) s p x) × (r .count ≤ newMost) × (r .changes .count ≡ 0) ⌝ }
 {
     let z = x.spot;
     let rel = called(image, rels, clauses, z);
-    let b = z.block as usize;
-    let size = program::block_size(image, rels, clauses, rel, b);
-    let mut new = [0u8; 288];
+    let b = z.block;
+    let size = program_block::block_size(image, rels, clauses, rel, b);
+    let mut new = [0u8; move_plan::NEW_SIZE];
     let v = try_all(image, rels, clauses, &mut new, m, p, z, rel, b, size);
-    let me = move_plan::with_mode(x, 3);
+    let me = move_plan::with_mode(x, codes::WAITING);
     let first = first_made(size, n, p);
     move_plan::make(
         Move::OrSearchStart(first),
@@ -310,18 +311,18 @@ pub fn start_or_search(
 
 // No child tells success: fails if all tell failure.
 fn or_search_none(hopeless: bool, p: usize, x: Process) -> Plan
-    ensures { λ r. ⌜ ((s : State) → appliedOf r ≡ orSearchWait Nothing hopeless s p x) × (r .count ≤ 12) × (r .changes .count ≡ 0) ⌝ }
+    ensures { λ r. ⌜ ((s : State) → appliedOf r ≡ orSearchWait Nothing hopeless s p x) × (r .count ≤ newMost) × (r .changes .count ≡ 0) ⌝ }
 {
     if hopeless {
-        return move_plan::report(Move::OrSearchFailure(p), 2, x);
+        return move_plan::report(Move::OrSearchFailure(p), codes::FAILURE, x);
     }
     move_plan::none()
 }
 
 // Commits to the first clause that succeeds.
 pub fn wait_or_search(procs: &[u8], n: usize, p: usize, x: Process, told: Told) -> Plan
-    requires { ⌜ (n * 24 ≤ length (now procs)) × (n ≤ 65535) × (p < n) × Tells (procsOf (now procs) n) p told ⌝ }
-    ensures { λ r. ⌜ ((pr : Program) (vs : List Binding) → appliedOf r ≡ waitRule or-search pr (record { procs = procsOf (now (procs .entry)) n; vars = vs }) p x) × (r .count ≤ 12) × (r .changes .count ≡ 0) ⌝ }
+    requires { ⌜ (n * rowSize ≤ length (now procs)) × (n ≤ 65535) × (p < n) × Tells (procsOf (now procs) n) p told ⌝ }
+    ensures { λ r. ⌜ ((pr : Program) (vs : List Binding) → appliedOf r ≡ waitRule or-search pr (record { procs = procsOf (now (procs .entry)) n; vars = vs }) p x) × (r .count ≤ newMost) × (r .changes .count ≡ 0) ⌝ }
 {
     let f = told.lowest;
     let Found::At(c) = f else {

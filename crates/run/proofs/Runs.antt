@@ -10,7 +10,7 @@ use Rattle.head.proofs.Laws.{head-is}
 use Rattle.machine.proofs.Held.{count-procs, count-vars, put-over, same-lent}
 use Rattle.machine.specs.Entered.{Inside}
 use Rattle.parlog.specs.Codes.{isLive, resultOf}
-use Rattle.parlog.specs.Limits.{Limits, small}
+use Rattle.parlog.specs.Limits.{Limits}
 use Rattle.parlog.specs.Program.{Program, programOf}
 use Rattle.parlog.specs.Run.{endOf, goalEnded, goalResult, halt, made, runFrom, runStep, runTables, runTest, runTurn, stepTables, turnFor, unmade}
 use Rattle.parlog.specs.Tables.{Lent, procCount, putTables, Tables, tablesIn, varCount}
@@ -77,7 +77,7 @@ module _ (lim : Limits) (pr : Program) (t : Tables) where
 -- ---- tables written over
 
 -- tables written over fewer of the same tables
-module _ {s : List ℕ} {r c : ℕ} (l₀ l l′ : Lent) (i₀ : Inside s r c l₀) (i : Inside s r c l) (i′ : Inside s r c l′) (a : Grown l₀ l) (b : Grown l l′) where
+module _ {lim : Limits} {s : List ℕ} {r c : ℕ} (l₀ l l′ : Lent) (i₀ : Inside lim s r c l₀) (i : Inside lim s r c l) (i′ : Inside lim s r c l′) (a : Grown l₀ l) (b : Grown l l′) where
   over : l′ ≡ putTables l₀ (tablesIn l′)
   over =
       let first : l ≡ putTables l₀ (tablesIn l) = same-lent l (putTables l₀ (tablesIn l)) (a .head) (a .procs) (a .vars) in
@@ -100,7 +100,7 @@ module _ {s : List ℕ} {r c : ℕ} (l₀ l l′ : Lent) (i₀ : Inside s r c l�
   }
 
 -- the same bytes hold their own tables
-pub grown-same : {s : List ℕ} {r c : ℕ} (l : Lent) → Inside s r c l → Bytes (l .head) → Bytes (l .procs) → Bytes (l .vars) → Grown l l
+pub grown-same : {lim : Limits} {s : List ℕ} {r c : ℕ} (l : Lent) → Inside lim s r c l → Bytes (l .head) → Bytes (l .procs) → Bytes (l .vars) → Grown l l
 grown-same l i hs ps vs = record { head = head-same; procs = procs-same; vars = vars-same; more-procs = omega arith; more-vars = omega arith }
   where
     head-same : l .head ≡ putTables l (tablesIn l) .head
@@ -118,28 +118,28 @@ grown-same l i hs ps vs = record { head = head-same; procs = procs-same; vars = 
 one-less : (limit k : ℕ) → k < limit → limit - k ≡ suc (limit - (k + 1))
 one-less limit k h = omega arith
 
-module _ (s : List ℕ) (r c : ℕ) (l₀ : Lent) (limit : ℕ) where
-  pub going-start : Inside s r c l₀ → Bytes (l₀ .head) → Bytes (l₀ .procs) → Bytes (l₀ .vars) → Going s r c l₀ l₀ limit 0
-  going-start i hs ps vs = record { inside = i; most = omega arith; rest = ap (λ (k : ℕ). runFrom k small (programOf s r c) 0 (tablesIn l₀)) (omega arith); holds = grown-same l₀ i hs ps vs }
+module _ (lim : Limits) (s : List ℕ) (r c : ℕ) (l₀ : Lent) (limit : ℕ) where
+  pub going-start : Inside lim s r c l₀ → Bytes (l₀ .head) → Bytes (l₀ .procs) → Bytes (l₀ .vars) → Going lim s r c l₀ l₀ limit 0
+  going-start i hs ps vs = record { inside = i; most = omega arith; rest = ap (λ (k : ℕ). runFrom k lim (programOf s r c) 0 (tablesIn l₀)) (omega arith); holds = grown-same l₀ i hs ps vs }
 
-  module _ (i₀ : Inside s r c l₀) (l : Lent) (k : ℕ) (g : Going s r c l₀ l limit k) where
+  module _ (i₀ : Inside lim s r c l₀) (l : Lent) (k : ℕ) (g : Going lim s r c l₀ l limit k) where
     -- the run comes to this
-    comes-to : (e : End) → runFrom (limit - k) small (programOf s r c) k (tablesIn l) ≡ halt e k (tablesIn l) → RanSays s r c l₀ limit (Ended e k) l
+    comes-to : (e : End) → runFrom (limit - k) lim (programOf s r c) k (tablesIn l) ≡ halt e k (tablesIn l) → RanSays lim s r c l₀ limit (Ended e k) l
     comes-to e q =
-        let z : runTables limit small (programOf s r c) (tablesIn l₀) ≡ halt e k (tablesIn l) = unfold runTables in (g .rest ∙ q) in
+        let z : runTables limit lim (programOf s r c) (tablesIn l₀) ≡ halt e k (tablesIn l) = unfold runTables in (g .rest ∙ q) in
         record { answer = rw z; head = rw z (g .holds .head); procs = rw z (g .holds .procs); vars = rw z (g .holds .vars) }
 
-    pub going-on : k < limit → {w : Went} (l′ : Lent) → WentSays s r c l w l′ → w ≡ On → Going s r c l₀ l′ limit (k + 1)
-    going-on h l′ d e = let f : WentTo On (programOf s r c) l l′ = rw e at (d .went) in record {
+    pub going-on : k < limit → {w : Went} (l′ : Lent) → WentSays lim s r c l w l′ → w ≡ On → Going lim s r c l₀ l′ limit (k + 1)
+    going-on h l′ d e = let f : WentTo On lim (programOf s r c) l l′ = rw e at (d .went) in record {
       inside = d .inside;
       most = omega arith;
-      rest = g .rest ∙ ap (λ (x : ℕ). runFrom x small (programOf s r c) k (tablesIn l)) (one-less limit k h) ∙ f .0 (limit - (k + 1)) k ∙ ap (λ (x : ℕ). runFrom (limit - (k + 1)) small (programOf s r c) x (tablesIn l′)) (omega arith);
+      rest = g .rest ∙ ap (λ (x : ℕ). runFrom x lim (programOf s r c) k (tablesIn l)) (one-less limit k h) ∙ f .0 (limit - (k + 1)) k ∙ ap (λ (x : ℕ). runFrom (limit - (k + 1)) lim (programOf s r c) x (tablesIn l′)) (omega arith);
       holds = grown-then l₀ l l′ i₀ (g .inside) (d .inside) (g .holds) (f .1);
     }
 
-    pub going-over : k < limit → {w : Went} (l′ : Lent) → WentSays s r c l w l′ → {e : End} → w ≡ Over e → RanSays s r c l₀ limit (Ended e k) l′
-    going-over h l′ d {e} q = let f : WentTo (Over e) (programOf s r c) l l′ = rw q at (d .went) in
-        rw (f .1) (comes-to e (ap (λ (x : ℕ). runFrom x small (programOf s r c) k (tablesIn l)) (one-less limit k h) ∙ f .0 (limit - (k + 1)) k))
+    pub going-over : k < limit → {w : Went} (l′ : Lent) → WentSays lim s r c l w l′ → {e : End} → w ≡ Over e → RanSays lim s r c l₀ limit (Ended e k) l′
+    going-over h l′ d {e} q = let f : WentTo (Over e) lim (programOf s r c) l l′ = rw q at (d .went) in
+        rw (f .1) (comes-to e (ap (λ (x : ℕ). runFrom x lim (programOf s r c) k (tablesIn l)) (one-less limit k h) ∙ f .0 (limit - (k + 1)) k))
 
-    pub going-spent : limit ≤ k → {e : End} → ((n : ℕ) → runFrom 0 small (programOf s r c) n (tablesIn l) ≡ halt e n (tablesIn l)) → RanSays s r c l₀ limit (Ended e k) l
-    going-spent h {e} q = comes-to e (ap (λ (x : ℕ). runFrom x small (programOf s r c) k (tablesIn l)) (let m = g .most in omega arith) ∙ q k)
+    pub going-spent : limit ≤ k → {e : End} → ((n : ℕ) → runFrom 0 lim (programOf s r c) n (tablesIn l) ≡ halt e n (tablesIn l)) → RanSays lim s r c l₀ limit (Ended e k) l
+    going-spent h {e} q = comes-to e (ap (λ (x : ℕ). runFrom x lim (programOf s r c) k (tablesIn l)) (let m = g .most in omega arith) ∙ q k)

@@ -12,12 +12,10 @@ ghost use Prim.Native.Nat.{_*_, _≤_, _<_};
 ghost use lib.ListN.{length};
 ghost use Rattle.children.specs.Telling.{Tells};
 ghost use Rattle.machine.specs.Entered.{Inside};
-ghost use Rattle.parlog.specs.Calls.{stepAnswer};
 ghost use Rattle.parlog.specs.Codes.{isLive, resultOf};
 ghost use Rattle.parlog.specs.Limits.{small};
-ghost use Rattle.parlog.specs.Program.{Program, programOf};
-ghost use Rattle.parlog.specs.Run.{endOf, turnFor};
-ghost use Rattle.parlog.specs.Tables.{at, procCount, procsOf, tablesIn};
+ghost use Rattle.parlog.specs.Run.{endOf};
+ghost use Rattle.parlog.specs.Tables.{at, lent, procCount, procsOf};
 ghost use Rattle.run.specs.Running.{OneSays, RanSays, RunSays, StopSays, Turning, TurnedIn, TurnSays, WentSays, WhoseSays};
 
 // How one turn of a run went: a move more, or the run's end.
@@ -56,8 +54,8 @@ fn goal_end(procs: &[u8], n: usize) -> End
 
 // Whose turn it is, and what its children report.
 fn whose(head: &[u8], procs: &[u8], vars: &[u8]) -> Turn
-    requires { ⌜ Turning (now head) (now procs) (now vars) ⌝ }
-    ensures { λ r. ⌜ WhoseSays (record { head = now (head .entry); procs = now (procs .entry); vars = now (vars .entry) }) r ⌝ }
+    requires { ⌜ Turning small (now head) (now procs) (now vars) ⌝ }
+    ensures { λ r. ⌜ WhoseSays (lent (now (head .entry)) (now (procs .entry)) (now (vars .entry))) r ⌝ }
 {
     let n = head::proc_count(head);
     let m = head::var_count(head);
@@ -74,8 +72,8 @@ fn turn_in(
     procs: &mut [u8],
     vars: &mut [u8],
 ) -> Stepped
-    requires { ⌜ Inside (now image) rels clauses (record { head = now head; procs = now procs; vars = now vars }) ⌝ }
-    ensures { λ r. ⌜ TurnedIn (now (image .entry)) rels clauses (record { head = now (head .entry); procs = now (procs .entry); vars = now (vars .entry) }) r (now (head .exit)) (now (procs .exit)) (now (vars .exit)) ⌝ }
+    requires { ⌜ Inside small (now image) rels clauses (lent (now head) (now procs) (now vars)) ⌝ }
+    ensures { λ r. ⌜ TurnedIn small (now (image .entry)) rels clauses (lent (now (head .entry)) (now (procs .entry)) (now (vars .entry))) r (now (head .exit)) (now (procs .exit)) (now (vars .exit)) ⌝ }
 {
     let t = whose(head, procs, vars);
     let f = t.who;
@@ -87,7 +85,7 @@ fn turn_in(
 
 // The turn: the step of the first process that can move after the one stepped last.
 pub fn turn(image: &[u8], head: &mut [u8], procs: &mut [u8], vars: &mut [u8]) -> Stepped
-    ensures { λ r. ⌜ TurnSays (now (image .entry)) (record { head = now (head .entry); procs = now (procs .entry); vars = now (vars .entry) }) r (now (head .exit)) (now (procs .exit)) (now (vars .exit)) ⌝ }
+    ensures { λ r. ⌜ TurnSays small (now (image .entry)) (lent (now (head .entry)) (now (procs .entry)) (now (vars .entry))) r (now (head .exit)) (now (procs .exit)) (now (vars .exit)) ⌝ }
 {
     let e = machine::enter(image, head, procs, vars);
     let Loaded::Accepted(rels, clauses) = e else {
@@ -110,8 +108,8 @@ fn one(
     p: usize,
     told: Told,
 ) -> Went
-    requires { ⌜ Inside (now image) rels clauses (record { head = now head; procs = now procs; vars = now vars }) × (p < procCount (now head)) × Tells (procsOf (now procs) (procCount (now head))) p told ⌝ }
-    ensures { λ r. ⌜ OneSays (now (image .entry)) rels clauses (record { head = now (head .entry); procs = now (procs .entry); vars = now (vars .entry) }) p r (record { head = now (head .exit); procs = now (procs .exit); vars = now (vars .exit) }) ⌝ }
+    requires { ⌜ Inside small (now image) rels clauses (lent (now head) (now procs) (now vars)) × (p < procCount (now head)) × Tells (procsOf (now procs) (procCount (now head))) p told ⌝ }
+    ensures { λ r. ⌜ OneSays small (now (image .entry)) rels clauses (lent (now (head .entry)) (now (procs .entry)) (now (vars .entry))) p r (lent (now (head .exit)) (now (procs .exit)) (now (vars .exit))) ⌝ }
 {
     let a = step::stepped(image, rels, clauses, head, procs, vars, p, told);
     match a {
@@ -129,8 +127,8 @@ fn go(
     procs: &mut [u8],
     vars: &mut [u8],
 ) -> Went
-    requires { ⌜ Inside (now image) rels clauses (record { head = now head; procs = now procs; vars = now vars }) ⌝ }
-    ensures { λ r. ⌜ WentSays (now (image .entry)) rels clauses (record { head = now (head .entry); procs = now (procs .entry); vars = now (vars .entry) }) r (record { head = now (head .exit); procs = now (procs .exit); vars = now (vars .exit) }) ⌝ }
+    requires { ⌜ Inside small (now image) rels clauses (lent (now head) (now procs) (now vars)) ⌝ }
+    ensures { λ r. ⌜ WentSays small (now (image .entry)) rels clauses (lent (now (head .entry)) (now (procs .entry)) (now (vars .entry))) r (lent (now (head .exit)) (now (procs .exit)) (now (vars .exit))) ⌝ }
 {
     let n = head::proc_count(head);
     if ended(procs, n) {
@@ -146,8 +144,8 @@ fn go(
 
 // The tests alone, where the limit is used up.
 fn stop(head: &[u8], procs: &[u8], vars: &[u8]) -> End
-    requires { ⌜ Turning (now head) (now procs) (now vars) ⌝ }
-    ensures { λ r. ⌜ StopSays (record { head = now (head .entry); procs = now (procs .entry); vars = now (vars .entry) }) r ⌝ }
+    requires { ⌜ Turning small (now head) (now procs) (now vars) ⌝ }
+    ensures { λ r. ⌜ StopSays small (lent (now (head .entry)) (now (procs .entry)) (now (vars .entry))) r ⌝ }
 {
     let n = head::proc_count(head);
     if ended(procs, n) {
@@ -171,8 +169,8 @@ fn going(
     vars: &mut [u8],
     limit: usize,
 ) -> Ran
-    requires { ⌜ Inside (now image) rels clauses (record { head = now head; procs = now procs; vars = now vars }) × (limit ≤ 65535) ⌝ }
-    ensures { λ r. ⌜ RanSays (now (image .entry)) rels clauses (record { head = now (head .entry); procs = now (procs .entry); vars = now (vars .entry) }) limit r (record { head = now (head .exit); procs = now (procs .exit); vars = now (vars .exit) }) ⌝ }
+    requires { ⌜ Inside small (now image) rels clauses (lent (now head) (now procs) (now vars)) × (limit ≤ 65535) ⌝ }
+    ensures { λ r. ⌜ RanSays small (now (image .entry)) rels clauses (lent (now (head .entry)) (now (procs .entry)) (now (vars .entry))) limit r (lent (now (head .exit)) (now (procs .exit)) (now (vars .exit))) ⌝ }
 {
     let mut k = 0;
     while k < limit {
@@ -192,7 +190,7 @@ fn going(
 
 // The run: turns until the goal has ended, nothing can move, the limit is used up or a step has no room.
 pub fn run(image: &[u8], head: &mut [u8], procs: &mut [u8], vars: &mut [u8], limit: u16) -> Ran
-    ensures { λ r. ⌜ RunSays (now (image .entry)) (record { head = now (head .entry); procs = now (procs .entry); vars = now (vars .entry) }) limit r (now (head .exit)) (now (procs .exit)) (now (vars .exit)) ⌝ }
+    ensures { λ r. ⌜ RunSays small (now (image .entry)) (lent (now (head .entry)) (now (procs .entry)) (now (vars .entry))) limit r (now (head .exit)) (now (procs .exit)) (now (vars .exit)) ⌝ }
 {
     let e = machine::enter(image, head, procs, vars);
     let Loaded::Accepted(rels, clauses) = e else {

@@ -7,11 +7,10 @@ use lib.Seq.{drop-length}
 use borrow.Author.Tests.{lt-ltb}
 use native.Mathlib.Omega.{arith}
 use Rattle.load.specs.Fields.{refusalOf}
-use Rattle.parlog.specs.Limits.{small}
+use Rattle.parlog.specs.Limits.{Limits}
 use Rattle.parlog.specs.Load.{loadOf, long}
 use Rattle.parlog.specs.Program.{Program, programOf}
-use Rattle.parlog.specs.Scan.{some}
-use Rattle.parlog.specs.Tables.{at, varCount, varsIn}
+use Rattle.parlog.specs.Tables.{varCount, varsIn}
 use Rattle.parlog.specs.Text.{refusedText, runnerText, runText, varLine, varLines}
 use Rattle.parlog.specs.Unify.{value}
 use Rattle.parlog.specs.declared.Binding.{Binding}
@@ -82,11 +81,11 @@ module _ (o : List ℕ) (vs : List Binding) (goal : ℕ) where
 
 -- ---- the whole text
 
-pub never-unrun : {pr : Program} {a : Ran} {h v : List ℕ} {f : Refusal} → Played pr a h v → a ≡ Unrun f → ⊥
+pub never-unrun : {lim : Limits} {pr : Program} {a : Ran} {h v : List ℕ} {f : Refusal} → Played lim pr a h v → a ≡ Unrun f → ⊥
 never-unrun x e = let z = sym e ∙ x .answer in let w : _≡_ {A = ℕ} 0 1 = cc in omega arith
 
 -- the tables after the run have a row for each of the goal's variables
-pub lines-fit : {pr : Program} {a : Ran} {h v : List ℕ} {g k : ℕ} → Played pr a h v → g ≡ pr .goalVars → k ≡ varCount h → (k * 4 ≤ length v) × (g ≤ k)
+pub lines-fit : {lim : Limits} {pr : Program} {a : Ran} {h v : List ℕ} {g k : ℕ} → Played lim pr a h v → g ≡ pr .goalVars → k ≡ varCount h → (k * 4 ≤ length v) × (g ≤ k)
 lines-fit x eg ek = rw (eg, ek) (x .cells, x .goal)
 
 ended-end : {e e′ : End} {n n′ : ℕ} → Ended e n ≡ Ended e′ n′ → e ≡ e′
@@ -95,28 +94,28 @@ ended-end z = cc
 ended-moves : {e e′ : End} {n n′ : ℕ} → Ended e n ≡ Ended e′ n′ → n ≡ n′
 ended-moves z = cc
 
-run-text : (s : List ℕ) {r c : ℕ} → loadOf s ≡ Accepted r c → (e : End) (n : ℕ) (vs : List Binding) (g : ℕ) → e ≡ theRun (programOf s r c) .end → n ≡ theRun (programOf s r c) .moves
-    → vs ≡ theRun (programOf s r c) .tables .state .vars → g ≡ programOf s r c .goalVars → ranText e n (varLines vs 0 g) ≡ runnerText small s
+run-text : (lim : Limits) (s : List ℕ) {r c : ℕ} → loadOf s ≡ Accepted r c → (e : End) (n : ℕ) (vs : List Binding) (g : ℕ) → e ≡ theRun lim (programOf s r c) .end → n ≡ theRun lim (programOf s r c) .moves
+    → vs ≡ theRun lim (programOf s r c) .tables .state .vars → g ≡ programOf s r c .goalVars → ranText e n (varLines vs 0 g) ≡ runnerText lim s
 unfolding runnerText runText ranText
-run-text s el e n vs g ee en ev eg = rw (el, ee, en, ev, eg)
+run-text lim s el e n vs g ee en ev eg = rw (el, ee, en, ev, eg)
 
-module _ (s : List ℕ) {o o₁ : List ℕ} {p : ℕ} where
-  pub told-refused : {l : Loaded} {f r : Refusal} → l ≡ loadOf s → l ≡ Refused f → r ≡ refusalOf l → length o ≡ 16384 → Fronted o (length o) 53 (refusedText r) o₁ p → Fronted o 16384 12534 (runnerText small s) o₁ p
+module _ (lim : Limits) (s : List ℕ) {o o₁ : List ℕ} {p : ℕ} where
+  pub told-refused : {l : Loaded} {f r : Refusal} → l ≡ loadOf s → l ≡ Refused f → r ≡ refusalOf l → length o ≡ 16384 → Fronted o (length o) 53 (refusedText r) o₁ p → Fronted o 16384 12534 (runnerText lim s) o₁ p
   unfolding runnerText
   told-refused el e er n x =
       let y = rw n at x in
       as-text y (rw (sym el ∙ e, er, e)) (omega arith)
 
   module _ {r c : ℕ} (el : loadOf s ≡ Accepted r c) where
-    pub told-run : {a : Ran} {h v o₂ : List ℕ} {e : End} {n g k q : ℕ} → Played (programOf s r c) a h v → a ≡ Ended e n → g ≡ programOf s r c .goalVars → k ≡ varCount h
-        → Fronted o 16384 12495 (varLines (varsIn v k) 0 g) o₁ p → Fronted o₁ p 39 (ranText e n (drop p o₁)) o₂ q → Fronted o 16384 12534 (runnerText small s) o₂ q
+    pub told-run : {a : Ran} {h v o₂ : List ℕ} {e : End} {n g k q : ℕ} → Played lim (programOf s r c) a h v → a ≡ Ended e n → g ≡ programOf s r c .goalVars → k ≡ varCount h
+        → Fronted o 16384 12495 (varLines (varsIn v k) 0 g) o₁ p → Fronted o₁ p 39 (ranText e n (drop p o₁)) o₂ q → Fronted o 16384 12534 (runnerText lim s) o₂ q
     told-run {v = v} {e = e} {n = n} {g = g} {k = k} x ea eg ek f y =
         let z = sym ea ∙ x .answer in
-        as-text (then (ranText e n) f y) (run-text s el e n (varsIn v k) g (ended-end z) (ended-moves z) (rw ek (x .vars)) eg) (omega arith)
+        as-text (then (ranText e n) f y) (run-text lim s el e n (varsIn v k) g (ended-end z) (ended-moves z) (rw ek (x .vars)) eg) (omega arith)
 
 -- ---- images that are too long
 
 -- one text for all of them: so what was read of one that is longer than the runner's buffer gives the text of the whole
-pub long-same : (s s′ : List ℕ) → 32768 < length s → 32768 < length s′ → runnerText small s ≡ runnerText small s′
+pub long-same : (lim : Limits) (s s′ : List ℕ) → 32768 < length s → 32768 < length s′ → runnerText lim s ≡ runnerText lim s′
 unfolding runnerText loadOf long
-long-same s s′ h g = rw (lt-ltb 32768 (length s) h, lt-ltb 32768 (length s′) g)
+long-same lim s s′ h g = rw (lt-ltb 32768 (length s) h, lt-ltb 32768 (length s′) g)

@@ -45,7 +45,7 @@ fn play(
     requires { ⌜ (loadOf (now image) ≡ Accepted rels clauses) × (rels ≤ 32) × (clauses ≤ 64) × (length (now head) ≡ 10) × (length (now procs) ≡ 12288) × (length (now vars) ≡ 4096) × (length (now out) ≡ 16384) ⌝ }
     ensures { λ r. ⌜ Fronted (now (out .entry)) 16384 12534 (runnerText small (now (image .entry))) (now (out .exit)) r ⌝ }
 {
-    let goal = program::goal_vars(image, rels, clauses);
+    let goal = program_clause::goal_vars(image, rels, clauses);
     let begun = machine::start(image, head, procs, vars);
     let ran = run::run(image, head, procs, vars, LIMIT);
     let Ran::Ended(end, steps) = ran else {

@@ -9,6 +9,9 @@ ghost use lib.ListN.{drop, length};
 ghost use Rattle.parlog.specs.Text.{decimal, endWord, refusedText, termText};
 ghost use Rattle.runner_text.specs.Fronting.{Fronted, lineText, ranText};
 
+// No number of 64 bits has more digits.
+const MOST_DIGITS: usize = 20;
+
 // One byte.
 fn put(out: &mut [u8], p: usize, b: u8) -> usize
     requires { ⌜ (1 ≤ p) × (p ≤ length (now out)) ⌝ }
@@ -38,7 +41,7 @@ fn digit(n: u64) -> u8
     requires { ⌜ n < 10 ⌝ }
     ensures { λ r. ⌜ r ≡ 48 + n ⌝ }
 {
-    48 + (n as u8)
+    b'0' + (n as u8)
 }
 
 // A number in decimal, from its last digit on.
@@ -48,7 +51,7 @@ fn number(out: &mut [u8], p: usize, n: u64) -> usize
 {
     let mut at = p;
     let mut left = n;
-    let mut k: usize = 20;
+    let mut k: usize = MOST_DIGITS;
     while 0 < k {
         if left < 10 {
             return put(out, at, digit(left));
@@ -79,12 +82,12 @@ fn term(out: &mut [u8], p: usize, t: Term) -> usize
     requires { ⌜ (22 ≤ p) × (p ≤ length (now out)) ⌝ }
     ensures { λ r. ⌜ Fronted (now (out .entry)) p 22 (termText t ++ drop p (now (out .entry))) (now (out .exit)) r ⌝ }
 {
-    let q = put(out, p, 10);
+    let q = put(out, p, b'\n');
     match t {
         Term::Const(c) => number(out, q, c as u64),
         Term::Var(v) => {
             let n = number(out, q, v as u64);
-            put(out, n, 95)
+            put(out, n, b'_')
         }
     }
 }
@@ -105,7 +108,7 @@ pub fn ran(out: &mut [u8], p: usize, end: End, steps: usize) -> usize
     requires { ⌜ (39 ≤ p) × (p ≤ length (now out)) ⌝ }
     ensures { λ r. ⌜ Fronted (now (out .entry)) p 39 (ranText end steps (drop p (now (out .entry)))) (now (out .exit)) r ⌝ }
 {
-    let a = put(out, p, 10);
+    let a = put(out, p, b'\n');
     let b = end_word(out, a, end);
     let c = word(out, b, b"\nend ");
     let d = number(out, c, steps as u64);
@@ -118,7 +121,7 @@ pub fn refused(out: &mut [u8], r: Refusal) -> usize
     ensures { λ p. ⌜ Fronted (now (out .entry)) (length (now (out .entry))) 53 (refusedText r) (now (out .exit)) p ⌝ }
 {
     let p = out.len();
-    let a = put(out, p, 10);
+    let a = put(out, p, b'\n');
     let b = number(out, a, r.offset as u64);
     let c = word(out, b, b" at ");
     let d = number(out, c, r.number as u64);

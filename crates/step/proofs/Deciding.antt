@@ -18,13 +18,13 @@ use Rattle.moves.proofs.Legal.{legal, right-sized}
 use Rattle.moves.specs.Legal.{Legal}
 use Rattle.parlog.proofs.Bools.{and-true}
 use Rattle.parlog.proofs.Steps.{steady-kept}
-use Rattle.parlog.specs.Limits.{small}
+use Rattle.parlog.specs.Limits.{Limits, Usable}
 use Rattle.parlog.specs.Program.{Program, programOf}
 use Rattle.parlog.specs.Rules.{fits, move, ruleOf, withRoom}
 use Rattle.parlog.specs.Run.{counted, made, procsIn, stepBy, stepped, stepTables, unmade}
 use Rattle.parlog.specs.Scan.{every}
 use Rattle.parlog.specs.TableRules.{cellKnown, fullSize, lentOk, stateOk, tablesOk}
-use Rattle.parlog.specs.Tables.{at, Lent, procCount, procsOf, tablesIn, varCount}
+use Rattle.parlog.specs.Tables.{at, cellSize, Lent, procCount, procsOf, rowSize, tablesIn, varCount}
 use Rattle.parlog.specs.declared.Process.{Process}
 use Rattle.move_plan.proofs.Plans.{applied-none, applied-some, fits-is, fits-procs, fits-vars}
 use Rattle.move_plan.specs.Plans.{appliedOf, deltaOf, fitsIn, stateIn, Within}
@@ -45,44 +45,44 @@ pub not-waiting : (ps : List Process) (p : ℕ) {k : ℕ} {t : Told} → k ≡ a
 not-waiting ps p e ne h = absurd (ne (e ∙ h))
 
 -- what fits is within the limits
-pub room-for : (n m : ℕ) (pl : Plan) {b : Bool} → b ≡ fitsIn 512 1024 n m pl → b ≡ true → (n + pl .count ≤ 512) × (m + pl .fresh ≤ 1024)
-room-for n m pl eb q = (fits-procs 512 1024 n m pl (sym eb ∙ q), fits-vars 512 1024 n m pl (sym eb ∙ q))
+pub room-for : (lim : Limits) (n m : ℕ) (pl : Plan) {b : Bool} → b ≡ fitsIn (lim .procs) (lim .vars) n m pl → b ≡ true → (n + pl .count ≤ lim .procs) × (m + pl .fresh ≤ lim .vars)
+room-for lim n m pl eb q = (fits-procs (lim .procs) (lim .vars) n m pl (sym eb ∙ q), fits-vars (lim .procs) (lim .vars) n m pl (sym eb ∙ q))
 
-module _ (s : List ℕ) (r c : ℕ) (l : Lent) (i : Inside s r c l) where
+module _ (lim : Limits) (s : List ℕ) (r c : ℕ) (l : Lent) (i : Inside lim s r c l) where
   abbrev pr : Program
   pr = programOf s r c
 
-  pub tables-good : tablesOk small pr (tablesIn l) ≡ true
+  pub tables-good : tablesOk lim pr (tablesIn l) ≡ true
   unfolding lentOk
   tables-good =
-      let a = and-true (fullSize small l) (every (cellKnown (l .vars)) (varCount (l .head)) && tablesOk small pr (tablesIn l)) (i .good) in
-      and-true (every (cellKnown (l .vars)) (varCount (l .head))) (tablesOk small pr (tablesIn l)) (a .1) .1
+      let a = and-true (fullSize lim l) (every (cellKnown (l .vars)) (varCount (l .head)) && tablesOk lim pr (tablesIn l)) (i .good) in
+      and-true (every (cellKnown (l .vars)) (varCount (l .head))) (tablesOk lim pr (tablesIn l)) (a .1) .1
 
-  state-good : stateOk small pr (tablesIn l .state) ≡ true
+  state-good : stateOk lim pr (tablesIn l .state) ≡ true
   unfolding tablesOk
-  state-good = and-true (stateOk small pr (tablesIn l .state)) (ltb (tablesIn l .last) (length (tablesIn l .state .procs))) tables-good .0
+  state-good = and-true (stateOk lim pr (tablesIn l .state)) (ltb (tablesIn l .last) (length (tablesIn l .state .procs))) tables-good .0
 
   -- every process may move
-  pub may-move : (p : ℕ) → p < procCount (l .head) → {n m : ℕ} → n ≡ procCount (l .head) → m ≡ varCount (l .head) → Legal pr (stateIn (l .procs) n (l .vars) m) p
+  pub may-move : Usable lim → (p : ℕ) → p < procCount (l .head) → {n m : ℕ} → n ≡ procCount (l .head) → m ≡ varCount (l .head) → Legal pr (stateIn (l .procs) n (l .vars) m) p
   unfolding tablesIn
-  may-move p h en em =
-      rw (en, em) (legal small pr (tablesIn l .state) (accepted-sane s r c (i .loaded)) (accepted-heads s r c (i .loaded)) (right-sized s r c (accepted s r c (i .loaded)) (i .clauses))
-      state-good p (omega (arith, procs-length (l .procs) (procCount (l .head)), h)) (omega (arith, vars-length (l .vars) (varCount (l .head)), i .vars-most)))
+  may-move ok p h en em =
+      rw (en, em) (legal lim pr (tablesIn l .state) (accepted-sane s r c (i .loaded)) (accepted-heads s r c (i .loaded)) (right-sized s r c (accepted s r c (i .loaded)) (i .clauses))
+      state-good p (omega (arith, procs-length (l .procs) (procCount (l .head)), h)) (omega (arith, vars-length (l .vars) (varCount (l .head)), i .vars-most, ok .vars-counted)))
 
   -- where the climb to what is below may stop
   pub parents-fall : {n : ℕ} → n ≡ procCount (l .head) → Falls (procsOf (l .procs) n)
-  parents-fall e = rw e (unfold tablesIn in (steady-kept small pr (tablesIn l) tables-good .0 .kin .lower))
+  parents-fall e = rw e (unfold tablesIn in (steady-kept lim pr (tablesIn l) tables-good .0 .kin .lower))
 
   -- what fits can be written
-  pub may-write : (n m : ℕ) (pl : Plan) {b : Bool} → b ≡ fitsIn 512 1024 n m pl → b ≡ true → Within m (pl .changes .count) (pl .changes .list)
-      → ((n + pl .count) * 24 ≤ length (l .procs)) × ((m + pl .fresh) * 4 ≤ length (l .vars)) × Within (m + pl .fresh) (pl .changes .count) (pl .changes .list)
+  pub may-write : (n m : ℕ) (pl : Plan) {b : Bool} → b ≡ fitsIn (lim .procs) (lim .vars) n m pl → b ≡ true → Within m (pl .changes .count) (pl .changes .list)
+      → ((n + pl .count) * rowSize ≤ length (l .procs)) × ((m + pl .fresh) * cellSize ≤ length (l .vars)) × Within (m + pl .fresh) (pl .changes .count) (pl .changes .list)
   may-write n m pl eb q w =
-      let f = room-for n m pl eb q in
+      let f = room-for lim n m pl eb q in
       (omega (arith, i .procs-size, f .0), omega (arith, i .vars-size, f .1), λ j u. let x = w j u in (omega (arith, x .0), x .1))
 
 -- ---- the decision
 
-module _ (s : List ℕ) (r c : ℕ) (l : Lent) (p : ℕ) (h : p < procCount (l .head)) {n m : ℕ} (en : n ≡ procCount (l .head)) (em : m ≡ varCount (l .head))
+module _ (lim : Limits) (s : List ℕ) (r c : ℕ) (l : Lent) (p : ℕ) (h : p < procCount (l .head)) {n m : ℕ} (en : n ≡ procCount (l .head)) (em : m ≡ varCount (l .head))
     (pl : Plan) (is : appliedOf pl ≡ ruleOf (programOf s r c) (stateIn (l .procs) n (l .vars) m) p) where
   rule-is : ruleOf (programOf s r c) (tablesIn l .state) p ≡ appliedOf pl
   unfolding tablesIn
@@ -92,27 +92,27 @@ module _ (s : List ℕ) (r c : ℕ) (l : Lent) (p : ℕ) (h : p < procCount (l .
   unfolding tablesIn
   there = lt-ltb p (length (procsOf (l .procs) (procCount (l .head)))) (omega (arith, procs-length (l .procs) (procCount (l .head)), h))
 
-  step-by : stepIn s r c l p ≡ stepBy (withRoom small (tablesIn l .state) (appliedOf pl)) (tablesIn l) p
+  step-by : stepIn lim s r c l p ≡ stepBy (withRoom lim (tablesIn l .state) (appliedOf pl)) (tablesIn l) p
   unfolding stepTables move
   step-by = rw (there, rule-is)
 
-  room-is : fitsIn 512 1024 n m pl ≡ fits small (tablesIn l .state) (deltaOf pl)
-  unfolding small tablesIn
+  room-is : fitsIn (lim .procs) (lim .vars) n m pl ≡ fits lim (tablesIn l .state) (deltaOf pl)
+  unfolding tablesIn
   room-is =
       let a = procs-length (l .procs) (procCount (l .head)) in
       let b = vars-length (l .vars) (varCount (l .head)) in
-      rw (en, em) (rw (a, b) at (fits-is small (tablesIn l .state) pl))
+      rw (en, em) (rw (a, b) at (fits-is lim (tablesIn l .state) pl))
 
   -- 10: no rule applies
-  pub step-still : pl .acts ≡ false → stepIn s r c l p ≡ unmade 10
+  pub step-still : pl .acts ≡ false → stepIn lim s r c l p ≡ unmade 10
   step-still e = step-by ∙ rw (applied-none pl e) (unfold stepBy in refl)
 
-  module _ (e : pl .acts ≡ true) {b : Bool} (eb : b ≡ fitsIn 512 1024 n m pl) where
+  module _ (e : pl .acts ≡ true) {b : Bool} (eb : b ≡ fitsIn (lim .procs) (lim .vars) n m pl) where
     -- 11: there is no room for what it makes
-    pub step-full : b ≡ false → stepIn s r c l p ≡ unmade 11
+    pub step-full : b ≡ false → stepIn lim s r c l p ≡ unmade 11
     step-full q = step-by ∙ rw (applied-some pl e, sym room-is ∙ sym eb ∙ q) (unfold stepBy in refl)
 
-    pub step-made : b ≡ true → stepIn s r c l p ≡ made (pl .mv) (stepped (tablesIn l) p (deltaOf pl))
+    pub step-made : b ≡ true → stepIn lim s r c l p ≡ made (pl .mv) (stepped (tablesIn l) p (deltaOf pl))
     step-made q = step-by ∙ rw (applied-some pl e, sym room-is ∙ sym eb ∙ q) (unfold stepBy in refl)
 
 -- one step more

@@ -9,16 +9,16 @@ use Rattle.head.proofs.Laws.{head-last, head-length, head-procs, head-steps, he
 use Rattle.load.proofs.Sanity.{accepted-sane}
 use Rattle.machine.proofs.Entering.{lent-inside}
 use Rattle.machine.specs.Entered.{Inside}
+use Rattle.parlog.proofs.Assume.{sizes-full}
 use Rattle.parlog.proofs.Effects.{apply-count, apply-vars}
 use Rattle.parlog.proofs.Kept.{step-keeps}
-use Rattle.parlog.proofs.Steps.{few}
 use Rattle.parlog.specs.Delta.{apply, Delta}
-use Rattle.parlog.specs.Limits.{small}
+use Rattle.parlog.specs.Limits.{Limits}
 use Rattle.parlog.specs.Program.{programOf}
 use Rattle.parlog.specs.Run.{counted, made, stepped}
 use Rattle.parlog.specs.Scan.{every}
 use Rattle.parlog.specs.TableRules.{cellKnown, fullSize, lentOk, tablesOk}
-use Rattle.parlog.specs.Tables.{at, headBytes, Lent, markerLast, markerSteps, procCount, procsOf, putTables, Tables, tablesIn, varCount, varsIn}
+use Rattle.parlog.specs.Tables.{headBytes, headSize, Lent, lent, markerLast, markerSteps, procCount, procsOf, putTables, Tables, tablesIn, varCount, varsIn}
 use Rattle.parlog.specs.declared.Move.{Move}
 use Rattle.rows.proofs.Exact.{table-bytes}
 use Rattle.rows.proofs.Tables.{procs-length, table-rows}
@@ -29,15 +29,15 @@ use Rattle.vars.proofs.Exact.{cells-bytes}
 use Rattle.vars.proofs.Tables.{cells-rows, vars-length}
 use Rattle.vars.specs.Cells.{Cells}
 
-module _ (s : List ℕ) (r c : ℕ) (l : Lent) (i : Inside s r c l) (p : ℕ) (d : Delta) {mv : Move} (is : stepIn s r c l p ≡ made mv (stepped (tablesIn l) p d))
-    (few : procCount (l .head) + length (d .new) ≤ 512) (few-vars : varCount (l .head) + d .fresh ≤ 1024)
+module _ (lim : Limits) (s : List ℕ) (r c : ℕ) (l : Lent) (i : Inside lim s r c l) (p : ℕ) (d : Delta) {mv : Move} (is : stepIn lim s r c l p ≡ made mv (stepped (tablesIn l) p d))
+    (few : procCount (l .head) + length (d .new) ≤ lim .procs) (few-vars : varCount (l .head) + d .fresh ≤ lim .vars)
     {h ps vs : List ℕ} (eh : h ≡ headBytes (procCount (l .head) + length (d .new)) (varCount (l .head) + d .fresh) p (counted (markerSteps (l .head))))
     (tp : Table (l .procs) ps (apply (tablesIn l .state) p d .procs)) (tv : Cells (varCount (l .head)) (l .vars) vs (apply (tablesIn l .state) p d .vars)) where
   abbrev t : Tables
   t = tablesIn l
 
   abbrev l′ : Lent
-  l′ = record { head = h; procs = ps; vars = vs }
+  l′ = lent h ps vs
 
   -- ---- the counts afterwards
 
@@ -63,7 +63,7 @@ module _ (s : List ℕ) (r c : ℕ) (l : Lent) (i : Inside s r c l) (p : ℕ) (d
   steps-after : markerSteps h ≡ counted (markerSteps (l .head))
   steps-after = rw eh (head-steps (procCount (l .head) + length (d .new)) (varCount (l .head) + d .fresh) p (counted (markerSteps (l .head))))
 
-  length-after : length h ≡ 10
+  length-after : length h ≡ headSize
   length-after = rw eh (head-length (procCount (l .head) + length (d .new)) (varCount (l .head) + d .fresh) p (counted (markerSteps (l .head))))
 
   -- ---- the bytes
@@ -99,15 +99,14 @@ module _ (s : List ℕ) (r c : ℕ) (l : Lent) (i : Inside s r c l) (p : ℕ) (d
 
   -- ---- the rules
 
-  full-after : fullSize small l′ ≡ true
-  unfolding fullSize small
-  full-after = rw (length-after, tp .size ∙ i .procs-size, tv .size ∙ i .vars-size)
+  full-after : fullSize lim l′ ≡ true
+  full-after = sizes-full lim l′ length-after (tp .size ∙ i .procs-size) (tv .size ∙ i .vars-size)
 
   known-after : every (cellKnown vs) (varCount h) ≡ true
   known-after = rw (cells-count ∙ sym vars-after) at (tv .known (i .cells-known))
 
-  kept-after : tablesOk small (programOf s r c) (tablesIn l′) ≡ true
-  kept-after = rw made-tables (step-keeps small (programOf s r c) (accepted-sane s r c (i .loaded)) t (stepped t p d) p mv (tables-good s r c l i) is)
+  kept-after : tablesOk lim (programOf s r c) (tablesIn l′) ≡ true
+  kept-after = rw made-tables (step-keeps lim (programOf s r c) (accepted-sane s r c (i .loaded)) t (stepped t p d) p mv (tables-good lim s r c l i) is)
 
-  pub made-inside : Inside s r c l′
-  made-inside = lent-inside s r c l′ (i .loaded) (i .relations) (i .clauses) (unfold lentOk in rw (full-after, known-after, kept-after))
+  pub made-inside : Inside lim s r c l′
+  made-inside = lent-inside lim s r c l′ (i .loaded) (i .relations) (i .clauses) (unfold lentOk in rw (full-after, known-after, kept-after))

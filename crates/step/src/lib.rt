@@ -7,8 +7,9 @@ ghost use Prim.Native.Nat.{_*_, _<_, _≤_};
 ghost use lib.ListN.{length};
 ghost use Rattle.children.specs.Telling.{Tells};
 ghost use Rattle.machine.specs.Entered.{Inside};
+ghost use Rattle.parlog.specs.Limits.{small};
 ghost use Rattle.parlog.specs.Run.{counted};
-ghost use Rattle.parlog.specs.Tables.{at, procCount, procsOf};
+ghost use Rattle.parlog.specs.Tables.{at, lent, procCount, procsOf};
 ghost use Rattle.step.specs.Stepping.{StepSays, SteppedSays};
 
 // The limits of a run.
@@ -37,8 +38,8 @@ pub fn stepped(
     p: usize,
     told: Told,
 ) -> Stepped
-    requires { ⌜ Inside (now image) rels clauses (record { head = now head; procs = now procs; vars = now vars }) × (p < procCount (now head)) × (at (procsOf (now procs) (procCount (now head))) p .mode ≡ 3 → Tells (procsOf (now procs) (procCount (now head))) p told) ⌝ }
-    ensures { λ r. ⌜ SteppedSays (now (image .entry)) rels clauses (record { head = now (head .entry); procs = now (procs .entry); vars = now (vars .entry) }) p r (now (head .exit)) (now (procs .exit)) (now (vars .exit)) ⌝ }
+    requires { ⌜ Inside small (now image) rels clauses (lent (now head) (now procs) (now vars)) × (p < procCount (now head)) × (at (procsOf (now procs) (procCount (now head))) p .mode ≡ 3 → Tells (procsOf (now procs) (procCount (now head))) p told) ⌝ }
+    ensures { λ r. ⌜ SteppedSays small (now (image .entry)) rels clauses (lent (now (head .entry)) (now (procs .entry)) (now (vars .entry))) p r (now (head .exit)) (now (procs .exit)) (now (vars .exit)) ⌝ }
 {
     let n = head::proc_count(head);
     let m = head::var_count(head);
@@ -76,7 +77,7 @@ pub fn step(
     vars: &mut [u8],
     process: u32,
 ) -> Stepped
-    ensures { λ r. ⌜ StepSays (now (image .entry)) (record { head = now (head .entry); procs = now (procs .entry); vars = now (vars .entry) }) process r (now (head .exit)) (now (procs .exit)) (now (vars .exit)) ⌝ }
+    ensures { λ r. ⌜ StepSays small (now (image .entry)) (lent (now (head .entry)) (now (procs .entry)) (now (vars .entry))) process r (now (head .exit)) (now (procs .exit)) (now (vars .exit)) ⌝ }
 {
     let e = machine::enter(image, head, procs, vars);
     let Loaded::Accepted(rels, clauses) = e else {

@@ -1,6 +1,6 @@
 -- The places that a row names: the tests in the code's order are the definitions'.
 use mathlib.Core.Path.{_∙_, _≡_, ap, refl, sym}
-use mathlib.Core.Bool.{_&&_, _||_, Bool, false, not, true}
+use mathlib.Core.Bool.{_&&_, _||_, Bool, cond, false, not, true}
 use mathlib.Core.List.{List}
 use Prim.Native.Nat.{_+_, _<_, _≤_, suc, zero, ℕ}
 use lib.Dec.{eqb, leb, ltb}
@@ -8,17 +8,16 @@ use lib.ListN.{length}
 use borrow.Author.Tests.{eq-eqb, le-leb, le-ltb, lt-ltb, ltb-true, ne-eqb}
 use native.Mathlib.Omega.{arith}
 use Rattle.row_tests.proofs.Laws.{and-one}
-use Rattle.row_tests.specs.Tests.{choose}
 use Rattle.parlog.proofs.Bools.{split}
 use Rattle.parlog.specs.Codes.{kindOf, tagOf}
-use Rattle.parlog.specs.Program.{blockCount, clauseAt, goalAt, Literal, literalAt, Program, programOf, stageAt, varsOf}
+use Rattle.parlog.specs.Program.{blockCount, clauseAt, goalAt, goalBy, Literal, literalAt, Program, programOf, stageAt, varsOf}
 use Rattle.parlog.specs.Scan.{implies}
 use Rattle.parlog.specs.TableRules.{blockIn, callIn, clauseIn, equalityIn, foundIn, goalIn, goalInBy, goingOk, isEquality, literalIn, placesOk, succeeds, tryIn}
 use Rattle.parlog.specs.declared.Process.{Process}
 use Rattle.parlog.specs.declared.Spot.{Spot}
 use Rattle.place.proofs.Clauses.{clause-count}
-use Rattle.program.specs.Parts.{shown}
-use Rattle.program.specs.declared.Lit.{Lit}
+use Rattle.program_goal.specs.Parts.{shown}
+use Rattle.program_goal.specs.declared.Lit.{Lit}
 use Rattle.table_rules.specs.Parts.{behindCall, behindGoal, behindLiteral}
 
 -- ---- clauses
@@ -86,8 +85,8 @@ relation-of : (pr : Program) (z : Spot) {l : Lit} → l ≡ shown (literalAt pr 
 relation-of pr z e = ap (λ (l : Lit). l .rel) e ∙ relation-is (literalAt pr z)
 
 module _ (pr : Program) (n : ℕ) (z : Spot) (waits : Bool) (t : ℕ) where
-  pub goal-stage : t < 2 → {m : ℕ} {a b : Bool} → m ≡ length (goalAt pr z) → a ≡ (eqb t 0 || waits) → b ≡ choose a (ltb (z .stage) m) (leb (z .stage) m) → b ≡ behindGoal t waits pr n z
-  unfolding behindGoal
+  pub goal-stage : t < 2 → {m : ℕ} {a b : Bool} → m ≡ length (goalBy (kindOf (z .kind)) pr (z .clause)) → a ≡ (eqb t 0 || waits) → b ≡ cond a (ltb (z .stage) m) (leb (z .stage) m) → b ≡ behindGoal t waits pr n z
+  unfolding behindGoal goalAt
   goal-stage h em ea e = rw (lt-ltb t 2 h, e, ea, em)
 
   module _ (h : 2 ≤ t) {m : ℕ} (em : m ≡ length (stageAt pr z)) where
@@ -119,7 +118,7 @@ and-more false b c = refl
 below-most : (a b : ℕ) → ltb a b ≡ (leb a b && ltb a b)
 below-most a b = split (ltb a b) (λ e. rw (e, le-leb a b (let h : a < b = ltb-true a b e in omega arith))) (λ e. rw (e, and-none))
 
-stage-order : (g w : Bool) (a b : ℕ) → ((g && true) && choose w (ltb a b) (leb a b)) ≡ ((g && leb a b) && implies w (ltb a b))
+stage-order : (g w : Bool) (a b : ℕ) → ((g && true) && cond w (ltb a b) (leb a b)) ≡ ((g && leb a b) && implies w (ltb a b))
 stage-order false w a b = refl
 stage-order true true a b = below-most a b
 stage-order true false a b = sym (and-one (leb a b))
@@ -134,7 +133,7 @@ block-order true f true true true = and-one f
 search-order : (g f l e b : Bool) → ((g && f) && (l && (e && b))) ≡ ((((g && l) && e) && b) && f)
 search-order g f l e b = block-order g f l e b ∙ sym (and-more ((g && l) && e) b f)
 
-wait-order : (g f l e w b : Bool) → ((g && f) && (l && (e && choose w b true))) ≡ (((g && l) && e) && (implies w b && f))
+wait-order : (g f l e w b : Bool) → ((g && f) && (l && (e && cond w b true))) ≡ (((g && l) && e) && (implies w b && f))
 wait-order g f l e true b = block-order g f l e b
 wait-order g f l e false b = block-order g f l e true
 

@@ -15,7 +15,7 @@ use Rattle.parlog.specs.Limits.{Limits}
 use Rattle.parlog.specs.Program.{Program}
 use Rattle.parlog.specs.Scan.{every, implies}
 use Rattle.parlog.specs.TableRules.{bindingOk, cellKnown, countsOk, fullSize, lentOk, rowOk, stateOk, tablesOk, varOk}
-use Rattle.parlog.specs.Tables.{at, bindingAt, bindingBy, Lent, markerLast, numberAt, procCount, procsOf, sortAt, tablesIn, varCount, varsIn}
+use Rattle.parlog.specs.Tables.{bindingAt, bindingBy, cellSize, headSize, Lent, markerLast, numberAt, procCount, procsOf, rowSize, sortAt, tablesIn, varCount, varsIn}
 use Rattle.rows.proofs.Tables.{procs-length}
 use Rattle.table_rules.proofs.Places.{and-none}
 use Rattle.table_rules.specs.Parts.{cellOk}
@@ -65,7 +65,7 @@ whole-order false true r v true = refl
 whole-order true true false v true = sym (and-none v)
 whole-order true true true v true = refl
 
-pub size-is : (most cap : ℕ) (h l w : List ℕ) {a b : Bool} → a ≡ (eqb (length l) (most * 24) && eqb (length w) (cap * 4)) → b ≡ (eqb (length h) 10 && a)
+pub size-is : (most cap : ℕ) (h l w : List ℕ) {a b : Bool} → a ≡ (eqb (length l) (most * rowSize) && eqb (length w) (cap * cellSize)) → b ≡ (eqb (length h) headSize && a)
     → b ≡ fullSize (record { procs = most; vars = cap }) (record { head = h; procs = l; vars = w })
 unfolding fullSize
 size-is most cap h l w ea e = rw (e, ea)
@@ -102,10 +102,10 @@ module _ (most cap : ℕ) (pr : Program) (h l w : List ℕ) where
 
     module _ (q : a ≡ true) where
       -- the sizes themselves
-      sizes : (length h ≡ 10) × (length l ≡ most * 24) × (length w ≡ cap * 4)
+      sizes : (length h ≡ headSize) × (length l ≡ most * rowSize) × (length w ≡ cap * cellSize)
       sizes = full-sizes lim lent (sym ea ∙ q)
 
-      pub head-fits : 10 ≤ length h
+      pub head-fits : headSize ≤ length h
       head-fits = omega (arith, sizes .0)
 
       module _ (p v k g : ℕ) {b : Bool} (eb : b ≡ countsCode p v k g) where
@@ -117,10 +117,10 @@ module _ (most cap : ℕ) (pr : Program) (h l w : List ℕ) where
             (leb-true p most (z .0), leb-true v cap (and-true (leb v cap) (leb g v) (z .1) .0))
 
         module _ (ep : p ≡ procCount h) (ev : v ≡ varCount h) (ek : k ≡ markerLast h) (eg : g ≡ pr .goalVars) where
-          pub rows-fit : b ≡ true → p * 24 ≤ length l
+          pub rows-fit : b ≡ true → p * rowSize ≤ length l
           rows-fit t = omega (arith, sizes .1, counts t .0)
 
-          pub cells-fit : b ≡ true → v * 4 ≤ length w
+          pub cells-fit : b ≡ true → v * cellSize ≤ length w
           cells-fit t = omega (arith, sizes .2, counts t .1)
 
           known-counts : countsCode (procCount h) (varCount h) (markerLast h) (pr .goalVars) ≡ b

@@ -1,6 +1,7 @@
 // The table rules over lent bytes: what is not refusal 8.
 use parlog::Process;
 use parlog::Spot;
+use parlog::codes;
 ghost use mathlib.Core.Path.{_≡_};
 ghost use mathlib.Core.Bool.{_&&_};
 ghost use Prim.Native.Nat.{_+_, _*_, _≤_, _<_};
@@ -9,7 +10,7 @@ ghost use Rattle.parlog.specs.Codes.{tagOf};
 ghost use Rattle.parlog.specs.Program.{programOf};
 ghost use Rattle.parlog.specs.Scan.{every, implies};
 ghost use Rattle.parlog.specs.TableRules.{cellKnown, clauseIn, foundIn, fullSize, goalIn, goingOk, kinOk, known, lentOk, notesOk, placesOk, resultOk, rowOk, varOk};
-ghost use Rattle.parlog.specs.Tables.{procsOf, varsIn};
+ghost use Rattle.parlog.specs.Tables.{cellSize, lent, procsOf, rowSize, varsIn};
 ghost use Rattle.table_rules.specs.Parts.{behindCall, behindGoal, behindLiteral, cellOk};
 
 // ---- places
@@ -23,7 +24,7 @@ fn clause_in(image: &[u8], rels: usize, clauses: usize, n: usize, k: u8, v: u16)
     if clauses <= number {
         return false;
     }
-    let size = program::vars_of(image, rels, clauses, number);
+    let size = program_clause::vars_of(image, rels, clauses, number);
     (v as usize) + size <= n
 }
 
@@ -32,9 +33,9 @@ fn goal_in(image: &[u8], rels: usize, clauses: usize, n: usize, z: Spot) -> bool
     requires { ⌜ (rels ≤ 32) × (clauses ≤ 64) ⌝ }
     ensures { λ b. ⌜ b ≡ goalIn (programOf (now (image .entry)) rels clauses) n z ⌝ }
 {
-    if z.kind == 0 {
-        let size = program::goal_vars(image, rels, clauses);
-        return row_tests::and(z.base == 0, size <= n);
+    if z.kind == codes::THE_GOAL {
+        let size = program_clause::goal_vars(image, rels, clauses);
+        return basics::and(z.base == 0, size <= n);
     }
     clause_in(image, rels, clauses, n, z.clause, z.base)
 }
@@ -64,16 +65,19 @@ fn behind_call(
     requires { ⌜ (rels ≤ 32) × (clauses ≤ 64) ⌝ }
     ensures { λ b. ⌜ b ≡ behindCall t waits (programOf (now (image .entry)) rels clauses) n z rel ⌝ }
 {
-    if row_tests::or(t == 4, row_tests::and(t == 3, waits)) {
-        let count = program::block_count(image, rels, clauses, rel);
+    if basics::or(
+        t == codes::OR_SEARCH,
+        basics::and(t == codes::SEQ_SEARCH, waits),
+    ) {
+        let count = program_block::block_count(image, rels, clauses, rel);
         return (z.block as usize) < count;
     }
-    if t < 4 {
+    if t < codes::OR_SEARCH {
         return true;
     }
     let found = clause_in(image, rels, clauses, n, z.found, z.first);
-    let own = program::clause_relation(image, rels, clauses, z.found as usize);
-    row_tests::and(found, own == rel)
+    let own = program_clause::clause_relation(image, rels, clauses, z.found as usize);
+    basics::and(found, own == rel)
 }
 
 // What a tag asks of a literal of relation rel.
@@ -90,10 +94,10 @@ fn behind_literal(
     requires { ⌜ (rels ≤ 32) × (clauses ≤ 64) ⌝ }
     ensures { λ b. ⌜ b ≡ behindLiteral t waits (programOf (now (image .entry)) rels clauses) n z rel ⌝ }
 {
-    if 7 < t {
-        return rel == 255;
+    if codes::GUARD_EVAL < t {
+        return rel == codes::EQUALITY;
     }
-    if rel == 255 {
+    if rel == codes::EQUALITY {
         return false;
     }
     behind_call(image, rels, clauses, n, t, waits, z, rel)
@@ -112,20 +116,20 @@ fn behind_goal(
     requires { ⌜ (rels ≤ 32) × (clauses ≤ 64) ⌝ }
     ensures { λ b. ⌜ b ≡ behindGoal t waits (programOf (now (image .entry)) rels clauses) n z ⌝ }
 {
-    if t < 2 {
-        let stages = program::goal_size(image, rels, clauses, z);
+    if t < codes::OR_PAR {
+        let stages = program_goal::goal_size(image, rels, clauses, z.kind, z.clause);
         let stage = z.stage as usize;
-        return row_tests::choose(
-            row_tests::or(t == 0, waits),
+        return basics::choose(
+            basics::or(t == codes::AND_PAR, waits),
             stage < stages,
             stage <= stages,
         );
     }
-    let size = program::stage_size(image, rels, clauses, z);
+    let size = program_goal::stage_size(image, rels, clauses, z);
     if size <= (z.literal as usize) {
         return false;
     }
-    let l = program::literal(image, rels, clauses, z);
+    let l = program_goal::literal(image, rels, clauses, z);
     let rel = l.rel;
     behind_literal(image, rels, clauses, n, t, waits, z, rel)
 }
@@ -136,18 +140,21 @@ fn placed_ok(image: &[u8], rels: usize, clauses: usize, n: usize, x: Process) ->
     ensures { λ b. ⌜ b ≡ (placesOk (tagOf (x .tag)) (programOf (now (image .entry)) rels clauses) n (x .spot) && goingOk (tagOf (x .tag)) (programOf (now (image .entry)) rels clauses) n x) ⌝ }
 {
     let z = x.spot;
-    if x.tag == 7 {
+    if x.tag == codes::GUARD_EVAL {
         return clause_in(image, rels, clauses, n, z.found, z.first);
     }
-    let search = row_tests::or(x.tag == 3, x.tag == 4);
-    let told = row_tests::and(search, row_tests::and(x.mode == 4, x.result == 1));
+    let search = basics::or(x.tag == codes::SEQ_SEARCH, x.tag == codes::OR_SEARCH);
+    let told = basics::and(
+        search,
+        basics::and(x.mode == codes::REPORTING, x.result == codes::SUCCESS),
+    );
     let goal = goal_in(image, rels, clauses, n, z);
     let found = told_ok(image, rels, clauses, n, told, z);
-    let there = row_tests::and(goal, found);
+    let there = basics::and(goal, found);
     if !there {
         return false;
     }
-    behind_goal(image, rels, clauses, n, x.tag, x.mode == 3, z)
+    behind_goal(image, rels, clauses, n, x.tag, x.mode == codes::WAITING, z)
 }
 
 // ---- a row
@@ -162,13 +169,16 @@ fn kin_ok(
     i: usize,
     x: Process,
 ) -> bool
-    requires { ⌜ (rels ≤ 32) × (clauses ≤ 64) × (count * 24 ≤ length (now procs)) ⌝ }
+    requires { ⌜ (rels ≤ 32) × (clauses ≤ 64) × (count * rowSize ≤ length (now procs)) ⌝ }
     ensures { λ b. ⌜ b ≡ kinOk (programOf (now (image .entry)) rels clauses) (procsOf (now (procs .entry)) count) i x ⌝ }
 {
     if i == 0 {
-        let goal = program::tag_of_goal_by(image, rels, clauses, 0, 0);
+        let goal = program_goal::tag_of_goal(image, rels, clauses, codes::THE_GOAL, 0);
         let z = x.spot;
-        return row_tests::and(x.tag == goal, row_tests::and(x.parent == 0, z.kind == 0));
+        return basics::and(
+            x.tag == goal,
+            basics::and(x.parent == 0, z.kind == codes::THE_GOAL),
+        );
     }
     let parent = x.parent as usize;
     if i <= parent {
@@ -187,7 +197,7 @@ fn own_ok(n: usize, i: usize, x: Process) -> bool
     let result = row_tests::result_ok(i, x.mode, x.result);
     let four = x.notes;
     let notes = row_tests::notes_ok(n, x.mode, x.count, four);
-    row_tests::and(numbers, row_tests::and(result, notes))
+    basics::and(numbers, basics::and(result, notes))
 }
 
 // Row i of the first count.
@@ -200,7 +210,7 @@ fn row_ok(
     n: usize,
     i: usize,
 ) -> bool
-    requires { ⌜ (rels ≤ 32) × (clauses ≤ 64) × (count * 24 ≤ length (now procs)) ⌝ }
+    requires { ⌜ (rels ≤ 32) × (clauses ≤ 64) × (count * rowSize ≤ length (now procs)) ⌝ }
     ensures { λ b. ⌜ b ≡ rowOk (programOf (now (image .entry)) rels clauses) (procsOf (now (procs .entry)) count) n i ⌝ }
 {
     let x = rows::get(procs, count, i);
@@ -219,7 +229,7 @@ fn row_ok(
 
 // Each of the first count rows.
 fn rows_ok(image: &[u8], rels: usize, clauses: usize, procs: &[u8], count: usize, n: usize) -> bool
-    requires { ⌜ (rels ≤ 32) × (clauses ≤ 64) × (count * 24 ≤ length (now procs)) ⌝ }
+    requires { ⌜ (rels ≤ 32) × (clauses ≤ 64) × (count * rowSize ≤ length (now procs)) ⌝ }
     ensures { λ b. ⌜ b ≡ every (rowOk (programOf (now (image .entry)) rels clauses) (procsOf (now (procs .entry)) count) n) count ⌝ }
 {
     let mut q = count;
@@ -233,26 +243,19 @@ fn rows_ok(image: &[u8], rels: usize, clauses: usize, procs: &[u8], count: usize
     true
 }
 
-// The number in three bytes.
-fn number_of(a: u8, b: u8, c: u8) -> usize
-    ensures { λ r. ⌜ r ≡ a + b * 256 + c * 65536 ⌝ }
-{
-    (a as usize) + (b as usize) * 256 + (c as usize) * 65536
-}
-
 // The row of variable v of the first n.
 fn cell_ok(vars: &[u8], n: usize, v: usize) -> bool
-    requires { ⌜ (n * 4 ≤ length (now vars)) × (v < n) ⌝ }
+    requires { ⌜ (n * cellSize ≤ length (now vars)) × (v < n) ⌝ }
     ensures { λ b. ⌜ b ≡ cellOk (now (vars .entry)) n v ⌝ }
 {
-    let b = v * 4;
-    let number = number_of(vars[b + 1], vars[b + 2], vars[b + 3]);
+    let b = v * codes::CELL_SIZE;
+    let number = basics::wide_u32(vars::join(vars[b + 1], vars[b + 2], vars[b + 3]));
     row_tests::cell_ok(v, vars[b], number)
 }
 
 // Each of the first n rows of variables.
 fn cells_ok(vars: &[u8], n: usize) -> bool
-    requires { ⌜ n * 4 ≤ length (now vars) ⌝ }
+    requires { ⌜ n * cellSize ≤ length (now vars) ⌝ }
     ensures { λ b. ⌜ b ≡ (every (cellKnown (now (vars .entry))) n && every (varOk (varsIn (now (vars .entry)) n)) n) ⌝ }
 {
     let mut q = n;
@@ -269,10 +272,13 @@ fn cells_ok(vars: &[u8], n: usize) -> bool
 // Each lent row of bytes has its full size.
 pub fn full_size(head: &[u8], procs: &[u8], vars: &[u8], most: usize, cap: usize) -> bool
     requires { ⌜ (most ≤ 65535) × (cap ≤ 65535) ⌝ }
-    ensures { λ b. ⌜ b ≡ fullSize (record { procs = most; vars = cap }) (record { head = now (head .entry); procs = now (procs .entry); vars = now (vars .entry) }) ⌝ }
+    ensures { λ b. ⌜ b ≡ fullSize (record { procs = most; vars = cap }) (lent (now (head .entry)) (now (procs .entry)) (now (vars .entry))) ⌝ }
 {
-    let tables = row_tests::and(procs.len() == most * 24, vars.len() == cap * 4);
-    row_tests::and(head.len() == 10, tables)
+    let tables = basics::and(
+        procs.len() == most * codes::ROW_SIZE,
+        vars.len() == cap * codes::CELL_SIZE,
+    );
+    basics::and(head.len() == codes::HEAD_SIZE, tables)
 }
 
 // The lent tables keep every table rule.
@@ -287,7 +293,7 @@ pub fn lent_ok(
     cap: usize,
 ) -> bool
     requires { ⌜ (rels ≤ 32) × (clauses ≤ 64) × (most ≤ 65535) × (cap ≤ 65535) ⌝ }
-    ensures { λ b. ⌜ b ≡ lentOk (record { procs = most; vars = cap }) (programOf (now (image .entry)) rels clauses) (record { head = now (head .entry); procs = now (procs .entry); vars = now (vars .entry) }) ⌝ }
+    ensures { λ b. ⌜ b ≡ lentOk (record { procs = most; vars = cap }) (programOf (now (image .entry)) rels clauses) (lent (now (head .entry)) (now (procs .entry)) (now (vars .entry))) ⌝ }
 {
     let full = full_size(head, procs, vars, most, cap);
     if !full {
@@ -296,12 +302,12 @@ pub fn lent_ok(
     let count = head::proc_count(head);
     let n = head::var_count(head);
     let last = head::marker_last(head);
-    let goal = program::goal_vars(image, rels, clauses);
+    let goal = program_clause::goal_vars(image, rels, clauses);
     let counts = row_tests::counts_ok(count, n, last, goal, most, cap);
     if !counts {
         return false;
     }
     let cells = cells_ok(vars, n);
     let rows = rows_ok(image, rels, clauses, procs, count, n);
-    row_tests::and(cells, rows)
+    basics::and(cells, rows)
 }

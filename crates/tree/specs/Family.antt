@@ -5,7 +5,7 @@ use Prim.Native.Nat.{_<_, ℕ}
 use lib.ListN.{length}
 use Rattle.parlog.specs.Delta.{asleep}
 use Rattle.parlog.specs.Scan.{build}
-use Rattle.parlog.specs.Tables.{at}
+use Rattle.parlog.specs.Tables.{at, rank}
 use Rattle.parlog.specs.Tree.{below}
 use Rattle.parlog.specs.declared.Process.{Process}
 
@@ -13,13 +13,13 @@ use Rattle.parlog.specs.declared.Process.{Process}
 unfoldable pub slept : List Process → ℕ → ℕ → Process
 slept ps p i = asleep (below ps p i) (at ps i)
 
--- Tags and modes, 5: every process below p becomes dormant
+-- Tags 5: every process below p becomes dormant
 unfoldable pub sleptBelow : List Process → ℕ → List Process
 sleptBelow ps p = build (slept ps p) (length ps)
 
--- Tables 3: every process but the first has a parent of a lower number
+-- Tables 3e: every process but the first has a parent of a lower rank
 abbrev pub Falls : List Process → Type 0
-Falls ps = (i : ℕ) → i < length ps → i ≢ 0 → at ps i .parent < i
+Falls ps = (i : ℕ) → i < length ps → i ≢ 0 → rank ps (at ps i .parent) < rank ps i
 
 -- no process behind p and before q is a child of p
 abbrev pub Childless : List Process → ℕ → ℕ → Type 0

@@ -4,38 +4,33 @@ ghost use Prim.Native.Nat.{_*_, _≤_, _<_};
 ghost use lib.ListN.{length, set};
 ghost use Rattle.parlog.specs.Codes.{dormant};
 ghost use Rattle.parlog.specs.Delta.{withMode};
-ghost use Rattle.parlog.specs.Tables.{at, procsOf};
+ghost use Rattle.parlog.specs.Tables.{at, procsOf, rowSize};
 ghost use Rattle.parlog.specs.Tree.{below, enclosing, firstOf};
 ghost use Rattle.rows.specs.Rows.{Table};
 ghost use Rattle.tree.specs.Family.{Childless, Falls, slept, sleptBelow};
 use parlog::Found;
 use parlog::Process;
-
-fn wide(v: u16) -> usize
-    ensures { λ r. ⌜ r ≡ v ⌝ }
-{
-    v as usize
-}
+use parlog::codes;
 
 // The parent of process i.
 fn parent(procs: &[u8], n: usize, i: usize) -> usize
-    requires { ⌜ n * 24 ≤ length (now procs) ⌝ }
+    requires { ⌜ n * rowSize ≤ length (now procs) ⌝ }
     ensures { λ r. ⌜ r ≡ at (procsOf (now (procs .entry)) n) i .parent ⌝ }
 {
-    wide(rows::parent_at(procs, n, i))
+    basics::wide_u16(rows::parent_at(procs, n, i))
 }
 
 // The same for a process known to be there.
 fn above(procs: &[u8], n: usize, a: usize) -> usize
-    requires { ⌜ (n * 24 ≤ length (now procs)) × (a < n) ⌝ }
+    requires { ⌜ (n * rowSize ≤ length (now procs)) × (a < n) ⌝ }
     ensures { λ r. ⌜ r ≡ at (procsOf (now (procs .entry)) n) a .parent ⌝ }
 {
-    wide(rows::get_u16(procs, a * 24 + 4))
+    basics::wide_u16(rows::get_u16(procs, a * codes::ROW_SIZE + codes::ROW_PARENT))
 }
 
 // Process i is below p. Parents have lower numbers, so the climb ends once it has come to p or past it.
 pub fn below(procs: &[u8], n: usize, p: usize, i: usize) -> bool
-    requires { ⌜ (n * 24 ≤ length (now procs)) × (i < n) × (p < i) × Falls (procsOf (now procs) n) ⌝ }
+    requires { ⌜ (n * rowSize ≤ length (now procs)) × (i < n) × (p < i) × Falls (procsOf (now procs) n) ⌝ }
     ensures { λ r. ⌜ r ≡ below (procsOf (now (procs .entry)) n) p i ⌝ }
 {
     let mut a = i;
@@ -47,7 +42,7 @@ pub fn below(procs: &[u8], n: usize, p: usize, i: usize) -> bool
 
 // The nearest try-clause above p.
 fn enclosing(procs: &[u8], n: usize, p: usize) -> Found
-    requires { ⌜ n * 24 ≤ length (now procs) ⌝ }
+    requires { ⌜ n * rowSize ≤ length (now procs) ⌝ }
     ensures { λ r. ⌜ r ≡ enclosing (procsOf (now (procs .entry)) n) p ⌝ }
 {
     let mut a = p;
@@ -57,7 +52,7 @@ fn enclosing(procs: &[u8], n: usize, p: usize) -> Found
             return Found::Nothing;
         }
         let over = parent(procs, n, a);
-        if rows::tag_at(procs, n, over) == 5 {
+        if rows::tag_at(procs, n, over) == codes::TRY_CLAUSE {
             return Found::At(over);
         }
         a = over;
@@ -67,17 +62,17 @@ fn enclosing(procs: &[u8], n: usize, p: usize) -> Found
 }
 
 fn first_at(procs: &[u8], n: usize, c: usize) -> usize
-    requires { ⌜ n * 24 ≤ length (now procs) ⌝ }
+    requires { ⌜ n * rowSize ≤ length (now procs) ⌝ }
     ensures { λ r. ⌜ r ≡ at (procsOf (now (procs .entry)) n) c .spot .first ⌝ }
 {
     let x = rows::get(procs, n, c);
     let spot = x.spot;
-    wide(spot.first)
+    basics::wide_u16(spot.first)
 }
 
 // Its first variable; 0 where there is none.
 pub fn enclosing_first(procs: &[u8], n: usize, p: usize) -> usize
-    requires { ⌜ n * 24 ≤ length (now procs) ⌝ }
+    requires { ⌜ n * rowSize ≤ length (now procs) ⌝ }
     ensures { λ r. ⌜ r ≡ firstOf (procsOf (now (procs .entry)) n) (enclosing (procsOf (now (procs .entry)) n) p) ⌝ }
 {
     let f = enclosing(procs, n, p);
@@ -90,24 +85,24 @@ pub fn enclosing_first(procs: &[u8], n: usize, p: usize) -> usize
 fn dormant(mut x: Process) -> Process
     ensures { λ r. ⌜ r ≡ withMode dormant x ⌝ }
 {
-    x.mode = 0;
+    x.mode = codes::DORMANT;
     x
 }
 
 // The mode of a process known to be there.
 fn mode(procs: &[u8], n: usize, q: usize) -> u8
-    requires { ⌜ (n * 24 ≤ length (now procs)) × (q < n) ⌝ }
+    requires { ⌜ (n * rowSize ≤ length (now procs)) × (q < n) ⌝ }
     ensures { λ r. ⌜ r ≡ at (procsOf (now (procs .entry)) n) q .mode ⌝ }
 {
-    procs[q * 24 + 1]
+    procs[q * codes::ROW_SIZE + codes::ROW_MODE]
 }
 
 // Process q falls asleep if it is below p; a row that sleeps already is not written.
 fn sleep_one(procs: &mut [u8], n: usize, p: usize, q: usize)
-    requires { ⌜ (n * 24 ≤ length (now procs)) × (q < n) × (p < q) × Falls (procsOf (now procs) n) ⌝ }
+    requires { ⌜ (n * rowSize ≤ length (now procs)) × (q < n) × (p < q) × Falls (procsOf (now procs) n) ⌝ }
     ensures { λ _. ⌜ Table (now (procs .entry)) (now (procs .exit)) (set (procsOf (now (procs .entry)) n) q (slept (procsOf (now (procs .entry)) n) p q)) ⌝ }
 {
-    if mode(procs, n, q) == 0 {
+    if mode(procs, n, q) == codes::DORMANT {
         return;
     }
     if !below(procs, n, p, q) {
@@ -120,7 +115,7 @@ fn sleep_one(procs: &mut [u8], n: usize, p: usize, q: usize)
 
 // The first row behind p whose parent is p; n where there is none.
 fn first_child(procs: &[u8], n: usize, p: usize) -> usize
-    requires { ⌜ (n * 24 ≤ length (now procs)) × (p < n) ⌝ }
+    requires { ⌜ (n * rowSize ≤ length (now procs)) × (p < n) ⌝ }
     ensures { λ r. ⌜ (r ≤ n) × (p < r) × Childless (procsOf (now (procs .entry)) n) p r ⌝ }
 {
     let mut q = p + 1;
@@ -135,7 +130,7 @@ fn first_child(procs: &[u8], n: usize, p: usize) -> usize
 
 // Every process below p, at any depth, becomes dormant; nothing before the first child of p is below it.
 pub fn sleep_below(procs: &mut [u8], n: usize, p: usize)
-    requires { ⌜ (n * 24 ≤ length (now procs)) × (p < n) × Falls (procsOf (now procs) n) ⌝ }
+    requires { ⌜ (n * rowSize ≤ length (now procs)) × (p < n) × Falls (procsOf (now procs) n) ⌝ }
     ensures { λ _. ⌜ Table (now (procs .entry)) (now (procs .exit)) (sleptBelow (procsOf (now (procs .entry)) n) p) ⌝ }
 {
     let mut q = first_child(procs, n, p);

@@ -9,9 +9,10 @@ use lib.Seq.{paste}
 use native.Mathlib.Omega.{arith}
 use Rattle.load.specs.Fields.{refusalOf}
 use Rattle.parlog.proofs.Rows.{build-is}
+use Rattle.parlog.specs.Limits.{Limits}
 use Rattle.parlog.specs.Load.{loadOf, refusal}
 use Rattle.parlog.specs.Scan.{build}
-use Rattle.parlog.specs.Tables.{at, markerLast, markerSteps}
+use Rattle.parlog.specs.Tables.{lent, markerLast, markerSteps}
 use Rattle.parlog.specs.declared.Loaded.{Loaded}
 use Rattle.parlog.specs.declared.Loaded.the-variants.{Accepted, Refused}
 use Rattle.parlog.specs.declared.Marker.{Marker}
@@ -58,16 +59,16 @@ module _ (s : List ℕ) {a : Loaded} (is : a ≡ loadOf s) where
 -- ---- the turn
 
 -- THE LAW: counts of another size
-pub core-away : (s cs ps vs : List ℕ) (m : Marker) → eqb (length cs) 4 ≡ false → {f : Refusal} → f ≡ awayOf (loadOf s) → TurnedSays s cs ps vs m (turnedFrom m (Unmoved f)) cs ps vs
-core-away s cs ps vs m h ef =
-    let k = turn-away (loadOf s) s (lentWith cs m ps vs) refl (other-size cs m h) in
+pub core-away : (lim : Limits) (s cs ps vs : List ℕ) (m : Marker) → eqb (length cs) 4 ≡ false → {f : Refusal} → f ≡ awayOf (loadOf s) → TurnedSays lim s cs ps vs m (turnedFrom m (Unmoved f)) cs ps vs
+core-away lim s cs ps vs m h ef =
+    let k = turn-away (loadOf s) lim s (lentWith cs m ps vs) refl (other-size cs m h) in
     record { turned = rw (k, beside-marker cs m, ef); counts = rw k (sym (beside-counts cs m)); procs = rw k; vars = rw k }
 
 -- THE LAW: a turn on the head that is counts and marker
-pub core-turned : (s cs ps vs : List ℕ) (m : Marker) → length cs ≡ 4 → {h : List ℕ} → h ≡ cs ++ markerBytes m
-    → {a : Stepped} {h′ p v : List ℕ} → TurnSays s (record { head = h; procs = ps; vars = vs }) a h′ p v
-    → {c : List ℕ} → c ≡ take 4 h′ → {t : Turned} → t ≡ turnedFrom (record { last = markerLast h′; steps = markerSteps h′ }) a → TurnedSays s cs ps vs m t c p v
-core-turned s cs ps vs m len eh {a} {h′} told ec et =
+pub core-turned : (lim : Limits) (s cs ps vs : List ℕ) (m : Marker) → length cs ≡ 4 → {h : List ℕ} → h ≡ cs ++ markerBytes m
+    → {a : Stepped} {h′ p v : List ℕ} → TurnSays lim s (lent h ps vs) a h′ p v
+    → {c : List ℕ} → c ≡ take 4 h′ → {t : Turned} → t ≡ turnedFrom (record { last = markerLast h′; steps = markerSteps h′ }) a → TurnedSays lim s cs ps vs m t c p v
+core-turned lim s cs ps vs m len eh {a} {h′} told ec et =
     let k = rw eh at told in
     record {
       turned = et ∙ ap (λ (x : Marker). turnedFrom x a) (sym (head-marker h′)) ∙ (λ i. turnedFrom (markerIn (drop (sym len i) (k .head i))) (k .answer i));

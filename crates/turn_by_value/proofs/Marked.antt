@@ -11,11 +11,11 @@ use native.Mathlib.Omega.{arith}
 use Rattle.head.proofs.Laws.{steps-back}
 use Rattle.parlog.proofs.Rows.{halves}
 use Rattle.parlog.specs.Calls.{enter, StepCall, turnCall}
-use Rattle.parlog.specs.Limits.{Limits, small}
+use Rattle.parlog.specs.Limits.{Limits}
 use Rattle.parlog.specs.Load.{loadOf, refusal}
 use Rattle.parlog.specs.Program.{Program, programOf}
 use Rattle.parlog.specs.TableRules.{fullSize, lentOk}
-use Rattle.parlog.specs.Tables.{Lent, markerLast, markerSteps}
+use Rattle.parlog.specs.Tables.{headSize, Lent, markerLast, markerSteps}
 use Rattle.parlog.specs.declared.Loaded.{Loaded}
 use Rattle.parlog.specs.declared.Loaded.the-variants.{Accepted, Refused}
 use Rattle.parlog.specs.declared.Marker.{Marker}
@@ -48,10 +48,10 @@ module _ (cs : List ℕ) (m : Marker) where
   beside-length = length-append cs (markerBytes m) ∙ ap (λ (n : ℕ). length cs + n) (bytes-length m)
 
 -- counts of another size make a head of another size
-pub other-size : (cs : List ℕ) (m : Marker) → eqb (length cs) 4 ≡ false → eqb (length (cs ++ markerBytes m)) 10 ≡ false
+pub other-size : (cs : List ℕ) (m : Marker) → eqb (length cs) 4 ≡ false → eqb (length (cs ++ markerBytes m)) headSize ≡ false
 other-size cs m h =
     let k = beside-length cs m in
-    ne-eqb (length (cs ++ markerBytes m)) 10 (λ q. let n : length cs ≡ 4 = omega (arith, k, q) in eqb-false (length cs) 4 h n)
+    ne-eqb (length (cs ++ markerBytes m)) headSize (λ q. let n : length cs ≡ 4 = omega (arith, k, q) in eqb-false (length cs) 4 h n)
 
 -- where a head has its marker
 pub head-marker : (h : List ℕ) → markerIn (drop 4 h) ≡ record { last = markerLast h; steps = markerSteps h }
@@ -66,20 +66,20 @@ abbrev pub away : Refusal → Lent → StepCall
 away r l = record { answer = Unmoved r; lent = l }
 
 -- an image that is refused
-pub turn-refused : (s : List ℕ) (l : Lent) {f : Refusal} → loadOf s ≡ Refused f → turnCall small s l ≡ away f l
+pub turn-refused : (lim : Limits) (s : List ℕ) (l : Lent) {f : Refusal} → loadOf s ≡ Refused f → turnCall lim s l ≡ away f l
 unfolding turnCall enter
-turn-refused s l e = rw e
+turn-refused lim s l e = rw e
 
-size-wrong : (lim : Limits) (pr : Program) (l : Lent) → eqb (length (l .head)) 10 ≡ false → lentOk lim pr l ≡ false
+size-wrong : (lim : Limits) (pr : Program) (l : Lent) → eqb (length (l .head)) headSize ≡ false → lentOk lim pr l ≡ false
 unfolding lentOk fullSize
 size-wrong lim pr l e = rw e
 
 -- a head of another size
-pub turn-sized : (s : List ℕ) (l : Lent) {r c : ℕ} → loadOf s ≡ Accepted r c → eqb (length (l .head)) 10 ≡ false → turnCall small s l ≡ away (refusal 8 0) l
+pub turn-sized : (lim : Limits) (s : List ℕ) (l : Lent) {r c : ℕ} → loadOf s ≡ Accepted r c → eqb (length (l .head)) headSize ≡ false → turnCall lim s l ≡ away (refusal 8 0) l
 unfolding turnCall enter
-turn-sized s l {r} {c} e h = rw (e, size-wrong small (programOf s r c) l h)
+turn-sized lim s l {r} {c} e h = rw (e, size-wrong lim (programOf s r c) l h)
 
 -- THE LAW: both
-pub turn-away : (a : Loaded) (s : List ℕ) (l : Lent) → loadOf s ≡ a → eqb (length (l .head)) 10 ≡ false → turnCall small s l ≡ away (awayOf a) l
-turn-away (Refused f) s l e h = turn-refused s l e
-turn-away (Accepted r c) s l e h = turn-sized s l e h
+pub turn-away : (a : Loaded) (lim : Limits) (s : List ℕ) (l : Lent) → loadOf s ≡ a → eqb (length (l .head)) headSize ≡ false → turnCall lim s l ≡ away (awayOf a) l
+turn-away (Refused f) lim s l e h = turn-refused lim s l e
+turn-away (Accepted r c) lim s l e h = turn-sized lim s l e h

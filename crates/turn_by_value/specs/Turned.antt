@@ -3,8 +3,8 @@ use mathlib.Core.Path.{_≡_}
 use mathlib.Core.List.{[], _++_, _∷_, List}
 use Prim.Native.Nat.{_%_, _*_, _+_, _/_, ℕ}
 use lib.ListN.{drop, length, take}
-use Rattle.parlog.specs.Limits.{small}
-use Rattle.parlog.specs.Tables.{high, Lent, low, u16At}
+use Rattle.parlog.specs.Limits.{Limits}
+use Rattle.parlog.specs.Tables.{high, Lent, lent, low, u16At}
 use Rattle.parlog.specs.declared.Marker.{Marker}
 use Rattle.parlog.specs.declared.Stepped.{Stepped}
 use Rattle.parlog.specs.Calls.{turnCall}
@@ -16,7 +16,7 @@ markerBytes m = low (m .last) ∷ high (m .last) ∷ m .steps % 256 ∷ m .steps
 
 -- counts and marker as a head
 abbrev pub lentWith : List ℕ → Marker → List ℕ → List ℕ → Lent
-lentWith cs m ps vs = record { head = cs ++ markerBytes m; procs = ps; vars = vs }
+lentWith cs m ps vs = lent (cs ++ markerBytes m) ps vs
 
 -- the marker in these bytes
 unfoldable pub markerIn : List ℕ → Marker
@@ -27,8 +27,8 @@ abbrev pub turnedFrom : Marker → Stepped → Turned
 turnedFrom m a = record { last = m .last; steps = m .steps; answer = a }
 
 -- Turns 2, 4: a turn with the marker beside the counts
-pub record TurnedSays (s cs ps vs : List ℕ) (m : Marker) (t : Turned) (cs′ ps′ vs′ : List ℕ) : Type 0 where
-  pub turned : t ≡ turnedFrom (markerIn (drop (length cs) (turnCall small s (lentWith cs m ps vs) .lent .head))) (turnCall small s (lentWith cs m ps vs) .answer)
-  pub counts : cs′ ≡ take (length cs) (turnCall small s (lentWith cs m ps vs) .lent .head)
-  pub procs : ps′ ≡ turnCall small s (lentWith cs m ps vs) .lent .procs
-  pub vars : vs′ ≡ turnCall small s (lentWith cs m ps vs) .lent .vars
+pub record TurnedSays (lim : Limits) (s cs ps vs : List ℕ) (m : Marker) (t : Turned) (cs′ ps′ vs′ : List ℕ) : Type 0 where
+  pub turned : t ≡ turnedFrom (markerIn (drop (length cs) (turnCall lim s (lentWith cs m ps vs) .lent .head))) (turnCall lim s (lentWith cs m ps vs) .answer)
+  pub counts : cs′ ≡ take (length cs) (turnCall lim s (lentWith cs m ps vs) .lent .head)
+  pub procs : ps′ ≡ turnCall lim s (lentWith cs m ps vs) .lent .procs
+  pub vars : vs′ ≡ turnCall lim s (lentWith cs m ps vs) .lent .vars

@@ -5,6 +5,7 @@ use parlog::Stepped;
 ghost use mathlib.Core.Path.{_≡_};
 ghost use mathlib.Core.List.{_++_};
 ghost use lib.ListN.{length, take};
+ghost use Rattle.parlog.specs.Limits.{small};
 ghost use Rattle.parlog.specs.Load.{loadOf};
 ghost use Rattle.parlog.specs.Tables.{markerLast, markerSteps};
 ghost use Rattle.turn_by_value.specs.Away.{awayOf};
@@ -27,8 +28,8 @@ fn join_head(counts: &[u8], last: u16, steps: u32) -> [u8; 10]
         counts[1],
         counts[2],
         counts[3],
-        rows::low(last),
-        rows::high(last),
+        basics::low(last),
+        basics::high(last),
         (steps % 256) as u8,
         (steps / 256 % 256) as u8,
         (steps / 65536 % 256) as u8,
@@ -85,7 +86,7 @@ pub fn turn_core(
     last: u16,
     steps: u32,
 ) -> Turned
-    ensures { λ r. ⌜ TurnedSays (now (image .entry)) (now (counts .entry)) (now (procs .entry)) (now (vars .entry)) (record { last = last; steps = steps }) r (now (counts .exit)) (now (procs .exit)) (now (vars .exit)) ⌝ }
+    ensures { λ r. ⌜ TurnedSays small (now (image .entry)) (now (counts .entry)) (now (procs .entry)) (now (vars .entry)) (record { last = last; steps = steps }) r (now (counts .exit)) (now (procs .exit)) (now (vars .exit)) ⌝ }
 {
     if counts.len() != 4 {
         let f = turned_away(image);

@@ -9,6 +9,7 @@ use lib.ListN.{length, take}
 use lib.Seq.{take-all}
 use borrow.Author.Tests.{ltb-false}
 use native.Mathlib.Omega.{arith}
+use Rattle.children.proofs.Small.{agree, agree-is}
 use Rattle.children.specs.Notes.{Noted}
 use Rattle.children.specs.declared.Note.{Note}
 use Rattle.parlog.proofs.Able.{can-is, canIn, canWait}
@@ -31,15 +32,6 @@ use Rattle.turn_search.specs.Notes.{asksOf, tells}
 -- unless exactly this was said
 abbrev unlike : ℕ → ℕ → Bool
 unlike k s = not (eqb (bitAnd s (k % 16)) (k / 16))
-
-abbrev agree : Bool → Bool → Bool
-agree true b = b
-agree false b = not b
-
-agree-is : (a b : Bool) → agree a b ≡ true → a ≡ b
-agree-is true b e = sym e
-agree-is false true e = e
-agree-is false false e = refl
 
 asked : (t : Tag) (s : ℕ) → s < 16 → every (λ s. agree (unlike (asksOf t) s) (tells t s)) 16 ≡ true → unlike (asksOf t) s ≡ tells t s
 asked t s h e = agree-is (unlike (asksOf t) s) (tells t s) (every-at (λ s. agree (unlike (asksOf t) s) (tells t s)) 16 s e h)

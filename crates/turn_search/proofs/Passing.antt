@@ -11,7 +11,7 @@ use lib.Seq.{getD-set-other, getD-set-same}
 use borrow.Author.Tests.{eq-eqb, eqb-false, eqb-true, ne-eqb}
 use native.Mathlib.Omega.{arith}
 use Rattle.children.proofs.Noting.{noted-child, noted-other, noted-quiet, noted-start}
-use Rattle.children.specs.Notes.{hear, heardBy, Noted, noteOf}
+use Rattle.children.specs.Notes.{goodNote, hear, heardBy, Noted, noteOf, silentBit}
 use Rattle.children.specs.Telling.{Tells}
 use Rattle.children.specs.declared.Note.{Note}
 use Rattle.children.specs.declared.Told.{Told}
@@ -23,7 +23,6 @@ use Rattle.parlog.specs.Codes.{failure, success}
 use Rattle.parlog.specs.Limits.{small}
 use Rattle.parlog.specs.Program.{Program}
 use Rattle.parlog.specs.Run.{canMove, turnFor, turnOf}
-use Rattle.parlog.specs.Scan.{lowest}
 use Rattle.parlog.specs.Tables.{at, State}
 use Rattle.parlog.specs.Tree.{isChild, reports}
 use Rattle.parlog.specs.declared.Found.{Found}
@@ -87,30 +86,30 @@ module _ (ps : List Process) (n : ℕ) (en : length ps ≡ n) where
         hears u l si sa la lo b c e = (b, c, rw e (noted-child ps up q (noteIn silent said latest lowest up) (so up l .2) (child-is u up ∙ eq-eqb up up refl)))
 
         module _ (u : up < q) (most : n ≤ 512) (a : length silent ≡ 512) (b : length said ≡ 512) (c : length latest ≡ 512) (d : length lowest ≡ 512) {f : ℕ} (ef : f ≡ noteOf (at ps q)) where
-          hears-silent : f ≡ 1 → AllNoted ps n q (set silent up 1) said latest lowest
+          hears-silent : f ≡ silentBit → AllNoted ps n q (set silent up silentBit) said latest lowest
           unfolding AllNoted
           hears-silent e p l = split (eqb up p)
-              (λ z. let w : up ≡ p = eqb-true up p z in rw (← w) (hears u (omega arith) (set silent up 1) said latest lowest (rw same (omega arith)) (so up (omega arith) .1) note))
-              (λ z. let ne : up ≢ p = eqb-false up p z in stays u p l ne (set silent up 1) said latest lowest (getD-set-other silent up p 1 0 (λ w. ne (sym w))) refl refl refl)
+              (λ z. let w : up ≡ p = eqb-true up p z in rw (← w) (hears u (omega arith) (set silent up silentBit) said latest lowest (rw same (omega arith)) (so up (omega arith) .1) note))
+              (λ z. let ne : up ≢ p = eqb-false up p z in stays u p l ne (set silent up silentBit) said latest lowest (getD-set-other silent up p silentBit 0 (λ w. ne (sym w))) refl refl refl)
             where
-              same : getD (set silent up 1) up 0 ≡ 1
-              same = getD-set-same silent up 1 0 (omega arith)
+              same : getD (set silent up silentBit) up 0 ≡ silentBit
+              same = getD-set-same silent up silentBit 0 (omega arith)
 
-              note : noteIn (set silent up 1) said latest lowest up ≡ heardBy (noteIn silent said latest lowest up) (noteOf (at ps q)) q
+              note : noteIn (set silent up silentBit) said latest lowest up ≡ heardBy (noteIn silent said latest lowest up) (noteOf (at ps q)) q
               note =
                   let w = so up (omega arith) in
                   rw (← ef, e, same, half-silent (getD silent up 0) (getD said up 0) (w .0) (w .1), and-comm (eqb (saidIn silent said up) 0) false)
 
-          pub all-silent : f ≡ 1 → (length (set silent up 1) ≡ 512) × (length said ≡ 512) × (length latest ≡ 512) × (length lowest ≡ 512) × AllNoted ps n q (set silent up 1) said latest lowest
-          all-silent e = (length-set silent up 1 ∙ a, b, c, d, hears-silent e)
+          pub all-silent : f ≡ silentBit → (length (set silent up silentBit) ≡ 512) × (length said ≡ 512) × (length latest ≡ 512) × (length lowest ≡ 512) × AllNoted ps n q (set silent up silentBit) said latest lowest
+          all-silent e = (length-set silent up silentBit ∙ a, b, c, d, hears-silent e)
 
-          hears-told : (f ≡ 1 → ⊥) → {sa la lo : List ℕ} → sa ≡ set said up (hear (saidIn silent said up) f) → la ≡ kept (eqb (saidIn silent said up) 0) latest up q → lo ≡ kept (eqb f 10) lowest up q
+          hears-told : (f ≡ silentBit → ⊥) → {sa la lo : List ℕ} → sa ≡ set said up (hear (saidIn silent said up) f) → la ≡ kept (eqb (saidIn silent said up) 0) latest up q → lo ≡ kept (eqb f goodNote) lowest up q
               → AllNoted ps n q silent sa la lo
           unfolding AllNoted
           hears-told ne {sa} {la} {lo} es el eo p l = split (eqb up p)
               (λ z. let w : up ≡ p = eqb-true up p z in rw (← w) (hears u (omega arith) silent sa la lo (so up (omega arith) .0) (rw same small) note))
               (λ z. let ne : up ≢ p = eqb-false up p z in let on : p ≢ up = λ w. ne (sym w) in
-              stays u p l ne silent sa la lo refl (rw es (getD-set-other said up p (hear (saidIn silent said up) f) 0 on)) (rw el (kept-other (eqb (saidIn silent said up) 0) latest up p q on)) (rw eo (kept-other (eqb f 10) lowest up p q on)))
+              stays u p l ne silent sa la lo refl (rw es (getD-set-other said up p (hear (saidIn silent said up) f) 0 on)) (rw el (kept-other (eqb (saidIn silent said up) 0) latest up p q on)) (rw eo (kept-other (eqb f goodNote) lowest up p q on)))
             where
               same : getD sa up 0 ≡ hear (saidIn silent said up) f
               same = rw es (getD-set-same said up (hear (saidIn silent said up) f) 0 (omega arith))
@@ -123,15 +122,15 @@ module _ (ps : List Process) (n : ℕ) (en : length ps ≡ n) where
 
               note : noteIn silent sa la lo up ≡ heardBy (noteIn silent said latest lowest up) (noteOf (at ps q)) q
               note =
-                  rw (← ef, same, whole, el, eo, kept-same (eqb (saidIn silent said up) 0) latest up q (omega arith), kept-same (eqb f 10) lowest up q (omega arith), ne-eqb f 1 ne, and-comm (eqb (saidIn silent said up) 0) true)
+                  rw (← ef, same, whole, el, eo, kept-same (eqb (saidIn silent said up) 0) latest up q (omega arith), kept-same (eqb f goodNote) lowest up q (omega arith), ne-eqb f silentBit ne, and-comm (eqb (saidIn silent said up) 0) true)
 
-          pub all-told : (f ≡ 1 → ⊥) → {sa la lo : List ℕ} → sa ≡ set said up (hear (saidIn silent said up) f) → la ≡ kept (eqb (saidIn silent said up) 0) latest up q → lo ≡ kept (eqb f 10) lowest up q
+          pub all-told : (f ≡ silentBit → ⊥) → {sa la lo : List ℕ} → sa ≡ set said up (hear (saidIn silent said up) f) → la ≡ kept (eqb (saidIn silent said up) 0) latest up q → lo ≡ kept (eqb f goodNote) lowest up q
               → (length silent ≡ 512) × (length sa ≡ 512) × (length la ≡ 512) × (length lo ≡ 512) × AllNoted ps n q silent sa la lo
           all-told ne es el eo = (
             a,
             ap length es ∙ length-set said up (hear (saidIn silent said up) f) ∙ b,
             ap length el ∙ kept-length (eqb (saidIn silent said up) 0) latest up q ∙ c,
-            ap length eo ∙ kept-length (eqb f 10) lowest up q ∙ d,
+            ap length eo ∙ kept-length (eqb f goodNote) lowest up q ∙ d,
             hears-told ne es el eo,
           )
 

@@ -5,7 +5,7 @@ use Prim.Native.Nat.{_<_, ℕ}
 use lib.Dec.{leb, ltb}
 use lib.Bits.{bitOr}
 use lib.ListN.{getD, set}
-use Rattle.children.specs.Notes.{latestIn, Noted, noneSilent, someBad, someGood}
+use Rattle.children.specs.Notes.{latestBit, latestIn, noneSilent, Noted, someBad, someGood}
 use Rattle.children.specs.declared.Note.{Note}
 use Rattle.parlog.specs.Codes.{and-par, and-seq, equate, guard-eval, input-match, or-par, or-search, seq-search, Tag, try-clause}
 use Rattle.parlog.specs.Scan.{lowest}
@@ -41,16 +41,26 @@ tells input-match s = false
 tells guard-eval s = latestIn s
 tells equate s = false
 
--- the same as a number: in its low half what is asked for, in the high half what of it must not be all that was said
+-- ---- the same as a number: in its low half what is asked for, in the high half what of it must not be all that was said
+
+-- one failure, or that none is silent
+abbrev pub failureOrAll : ℕ
+failureOrAll = 21
+
+-- one success, or that none is silent
+abbrev pub successOrAll : ℕ
+successOrAll = 19
+
+-- what a waiting process of this tag asks for
 abbrev pub asksOf : Tag → ℕ
-asksOf and-par = 21
-asksOf and-seq = 8
-asksOf or-par = 8
-asksOf seq-search = 8
-asksOf or-search = 19
-asksOf try-clause = 21
+asksOf and-par = failureOrAll
+asksOf and-seq = latestBit
+asksOf or-par = latestBit
+asksOf seq-search = latestBit
+asksOf or-search = successOrAll
+asksOf try-clause = failureOrAll
 asksOf input-match = 0
-asksOf guard-eval = 8
+asksOf guard-eval = latestBit
 asksOf equate = 0
 
 -- ---- the search

@@ -4,13 +4,13 @@ ghost use mathlib.Core.Bool.{cond};
 ghost use Prim.Native.Nat.{_*_, _≤_, _<_, suc, ℕ};
 ghost use lib.Dec.{eqb, ltb};
 ghost use lib.ListN.{length, set};
-ghost use Rattle.children.specs.Notes.{hear, Noted};
+ghost use Rattle.children.specs.Notes.{goodNote, hear, Noted};
 ghost use Rattle.children.specs.Telling.{Tells};
 ghost use Rattle.parlog.specs.Codes.{tagOf};
 ghost use Rattle.parlog.specs.Program.{Program};
 ghost use Rattle.parlog.specs.Run.{canMove, turnOf};
 ghost use Rattle.parlog.specs.Scan.{orElse};
-ghost use Rattle.parlog.specs.Tables.{at, noted, procsOf, varsIn};
+ghost use Rattle.parlog.specs.Tables.{at, cellSize, noted, procsOf, rowSize, varsIn};
 ghost use Rattle.parlog.specs.Unify.{someBound};
 ghost use Rattle.parlog.specs.declared.Found.the-variants.{At};
 ghost use Rattle.move_plan.specs.Plans.{stateIn};
@@ -19,12 +19,26 @@ ghost use Rattle.turn_search.specs.Notes.{AllNoted, asksOf, firstFrom, f
 use children::Note;
 use children::Told;
 use parlog::Found;
+use parlog::codes;
 
 // Whose turn it is, and what its children report.
 pub struct Turn {
     pub who: Found,
     pub told: Told,
 }
+
+// ---- what a waiting process asks for
+
+// In the low half what is asked for, in the high half what of it must not be all that was said.
+const HALF: u8 = 16;
+
+// One failure, or that none is silent.
+const FAILURE_OR_ALL: u8 = HALF * children::SILENT + children::SILENT + children::BAD;
+
+// One success, or that none is silent.
+const SUCCESS_OR_ALL: u8 = HALF * children::SILENT + children::SILENT + children::GOOD;
+
+const NOTHING: u8 = 0;
 
 // ---- who can move
 
@@ -33,14 +47,14 @@ fn asks(tag: u8) -> u8
     ensures { λ r. ⌜ r ≡ asksOf (tagOf tag) ⌝ }
 {
     match tag {
-        0 => 21,
-        1 => 8,
-        2 => 8,
-        3 => 8,
-        4 => 19,
-        5 => 21,
-        7 => 8,
-        _ => 0,
+        codes::AND_PAR => FAILURE_OR_ALL,
+        codes::AND_SEQ => children::LATEST,
+        codes::OR_PAR => children::LATEST,
+        codes::SEQ_SEARCH => children::LATEST,
+        codes::OR_SEARCH => SUCCESS_OR_ALL,
+        codes::TRY_CLAUSE => FAILURE_OR_ALL,
+        codes::GUARD_EVAL => children::LATEST,
+        _ => NOTHING,
     }
 }
 
@@ -50,22 +64,25 @@ fn tells(tag: u8, s: u8) -> bool
     ensures { λ r. ⌜ r ≡ tells (tagOf tag) s ⌝ }
 {
     let k = asks(tag);
-    s & (k % 16) != k / 16
+    s & (k % HALF) != k / HALF
 }
 
-// No row has more than four notes.
+// The places for notes in a row.
+const NOTES: usize = codes::MOST_NOTES as usize;
+
+// No row has more notes than that.
 fn few(count: u8) -> usize
     ensures { λ r. ⌜ (r ≡ cond (ltb count 4) count 4) × (r ≤ 4) ⌝ }
 {
-    if count < 4 {
+    if count < codes::MOST_NOTES {
         return count as usize;
     }
-    4
+    NOTES
 }
 
 // One of the variables that process p noted is bound.
 fn wakes(procs: &[u8], n: usize, vars: &[u8], m: usize, p: usize) -> bool
-    requires { ⌜ (n * 24 ≤ length (now procs)) × (m * 4 ≤ length (now vars)) ⌝ }
+    requires { ⌜ (n * rowSize ≤ length (now procs)) × (m * cellSize ≤ length (now vars)) ⌝ }
     ensures { λ r. ⌜ r ≡ someBound (varsIn (now (vars .entry)) m) (noted (at (procsOf (now (procs .entry)) n) p)) ⌝ }
 {
     let count = few(rows::count_at(procs, n, p));
@@ -85,21 +102,21 @@ fn can_move(
     lowest: &[u16],
     p: usize,
 ) -> bool
-    requires { ⌜ (n * 24 ≤ length (now procs)) × (m * 4 ≤ length (now vars)) × (p < length (now silent)) × (p < length (now said)) × Noted (procsOf (now procs) n) p 0 (noteIn (now silent) (now said) (now latest) (now lowest) p) ⌝ }
+    requires { ⌜ (n * rowSize ≤ length (now procs)) × (m * cellSize ≤ length (now vars)) × (p < length (now silent)) × (p < length (now said)) × Noted (procsOf (now procs) n) p 0 (noteIn (now silent) (now said) (now latest) (now lowest) p) ⌝ }
     ensures { λ r. ⌜ ((pr : Program) → r ≡ canMove pr (stateIn (now (procs .entry)) n (now (vars .entry)) m) p) ⌝ }
 {
     let mode = rows::mode_at(procs, n, p);
-    if mode == 0 {
+    if mode == codes::DORMANT {
         return false;
     }
-    if mode == 3 {
+    if mode == codes::WAITING {
         let tag = rows::tag_at(procs, n, p);
         return tells(tag, silent[p] | said[p]);
     }
-    if mode == 4 {
+    if mode == codes::REPORTING {
         return p == 0;
     }
-    if mode < 3 {
+    if mode < codes::WAITING {
         return true;
     }
     wakes(procs, n, vars, m, p)
@@ -140,13 +157,13 @@ fn hear_told(
     q: u16,
 )
     requires { ⌜ (up < length (now silent)) × (up < length (now said)) × (up < length (now latest)) × (up < length (now lowest)) ⌝ }
-    ensures { λ _. ⌜ (now (said .exit) ≡ set (now (said .entry)) up (hear (saidIn (now (silent .entry)) (now (said .entry)) up) f)) × (now (latest .exit) ≡ kept (eqb (saidIn (now (silent .entry)) (now (said .entry)) up) 0) (now (latest .entry)) up q) × (now (lowest .exit) ≡ kept (eqb f 10) (now (lowest .entry)) up q) ⌝ }
+    ensures { λ _. ⌜ (now (said .exit) ≡ set (now (said .entry)) up (hear (saidIn (now (silent .entry)) (now (said .entry)) up) f)) × (now (latest .exit) ≡ kept (eqb (saidIn (now (silent .entry)) (now (said .entry)) up) 0) (now (latest .entry)) up q) × (now (lowest .exit) ≡ kept (eqb f goodNote) (now (lowest .entry)) up q) ⌝ }
 {
     let s = silent[up] | said[up];
     let t = children::with(s, f);
     said[up] = t;
     keep(latest, s == 0, up, q);
-    keep(lowest, f == 10, up, q);
+    keep(lowest, f == children::SUCCEEDED, up, q);
 }
 
 // The parent of process q hears it; process 0 has none.
@@ -159,14 +176,14 @@ fn hear_row(
     lowest: &mut [u16],
     q: usize,
 )
-    requires { ⌜ (n * 24 ≤ length (now procs)) × (n ≤ 512) × (q < n) × Falls (procsOf (now procs) n) × (length (now silent) ≡ 512) × (length (now said) ≡ 512) × (length (now latest) ≡ 512) × (length (now lowest) ≡ 512) × AllNoted (procsOf (now procs) n) n (suc q) (now silent) (now said) (now latest) (now lowest) ⌝ }
+    requires { ⌜ (n * rowSize ≤ length (now procs)) × (n ≤ 512) × (q < n) × Falls (procsOf (now procs) n) × (length (now silent) ≡ 512) × (length (now said) ≡ 512) × (length (now latest) ≡ 512) × (length (now lowest) ≡ 512) × AllNoted (procsOf (now procs) n) n (suc q) (now silent) (now said) (now latest) (now lowest) ⌝ }
     ensures { λ _. ⌜ (length (now (silent .exit)) ≡ 512) × (length (now (said .exit)) ≡ 512) × (length (now (latest .exit)) ≡ 512) × (length (now (lowest .exit)) ≡ 512) × AllNoted (procsOf (now (procs .entry)) n) n q (now (silent .exit)) (now (said .exit)) (now (latest .exit)) (now (lowest .exit)) ⌝ }
 {
     let up = rows::parent_at(procs, n, q) as usize;
     if up < q {
         let f = children::note_of(procs, n, q);
-        if f == 1 {
-            silent[up] = 1;
+        if f == children::SILENT {
+            silent[up] = children::SILENT;
         } else {
             hear_told(silent, said, latest, lowest, up, f, q as u16);
         }
@@ -208,7 +225,7 @@ fn sweep(
     lo: usize,
     hi: usize,
 ) -> usize
-    requires { ⌜ (n * 24 ≤ length (now procs)) × (n ≤ 512) × (m * 4 ≤ length (now vars)) × Falls (procsOf (now procs) n) × (lo ≤ hi) × (hi ≤ n) × (length (now silent) ≡ 512) × (length (now said) ≡ 512) × (length (now latest) ≡ 512) × (length (now lowest) ≡ 512) × AllNoted (procsOf (now procs) n) n hi (now silent) (now said) (now latest) (now lowest) ⌝ }
+    requires { ⌜ (n * rowSize ≤ length (now procs)) × (n ≤ 512) × (m * cellSize ≤ length (now vars)) × Falls (procsOf (now procs) n) × (lo ≤ hi) × (hi ≤ n) × (length (now silent) ≡ 512) × (length (now said) ≡ 512) × (length (now latest) ≡ 512) × (length (now lowest) ≡ 512) × AllNoted (procsOf (now procs) n) n hi (now silent) (now said) (now latest) (now lowest) ⌝ }
     ensures { λ r. ⌜ ((pr : Program) → foundIn n r ≡ firstFrom (canMove pr (stateIn (now (procs .entry)) n (now (vars .entry)) m)) lo hi) × (length (now (silent .exit)) ≡ 512) × (length (now (said .exit)) ≡ 512) × (length (now (latest .exit)) ≡ 512) × (length (now (lowest .exit)) ≡ 512) × AllNoted (procsOf (now (procs .entry)) n) n lo (now (silent .exit)) (now (said .exit)) (now (latest .exit)) (now (lowest .exit)) ⌝ }
 {
     let mut best = n;
@@ -234,7 +251,7 @@ fn pass(
     latest: &mut [u16],
     lowest: &mut [u16],
 ) -> Found
-    requires { ⌜ (n * 24 ≤ length (now procs)) × (n ≤ 512) × (m * 4 ≤ length (now vars)) × Falls (procsOf (now procs) n) × (last < n) × (length (now silent) ≡ 512) × (length (now said) ≡ 512) × (length (now latest) ≡ 512) × (length (now lowest) ≡ 512) × AllNoted (procsOf (now procs) n) n n (now silent) (now said) (now latest) (now lowest) ⌝ }
+    requires { ⌜ (n * rowSize ≤ length (now procs)) × (n ≤ 512) × (m * cellSize ≤ length (now vars)) × Falls (procsOf (now procs) n) × (last < n) × (length (now silent) ≡ 512) × (length (now said) ≡ 512) × (length (now latest) ≡ 512) × (length (now lowest) ≡ 512) × AllNoted (procsOf (now procs) n) n n (now silent) (now said) (now latest) (now lowest) ⌝ }
     ensures { λ r. ⌜ ((pr : Program) → r ≡ turnOf (canMove pr (stateIn (now (procs .entry)) n (now (vars .entry)) m)) n last) × (length (now (silent .exit)) ≡ 512) × (length (now (said .exit)) ≡ 512) × (length (now (latest .exit)) ≡ 512) × (length (now (lowest .exit)) ≡ 512) × AllNoted (procsOf (now (procs .entry)) n) n 0 (now (silent .exit)) (now (said .exit)) (now (latest .exit)) (now (lowest .exit)) ⌝ }
 {
     let behind = sweep(procs, n, vars, m, silent, said, latest, lowest, last + 1, n);
@@ -252,7 +269,7 @@ fn told_of(
     lowest: &[u16],
     who: Found,
 ) -> Told
-    requires { ⌜ (n * 24 ≤ length (now procs)) × (n ≤ 512) × (length (now silent) ≡ 512) × (length (now said) ≡ 512) × (length (now latest) ≡ 512) × (length (now lowest) ≡ 512) × AllNoted (procsOf (now procs) n) n 0 (now silent) (now said) (now latest) (now lowest) × ((p : ℕ) → who ≡ At p → p < n) ⌝ }
+    requires { ⌜ (n * rowSize ≤ length (now procs)) × (n ≤ 512) × (length (now silent) ≡ 512) × (length (now said) ≡ 512) × (length (now latest) ≡ 512) × (length (now lowest) ≡ 512) × AllNoted (procsOf (now procs) n) n 0 (now silent) (now said) (now latest) (now lowest) × ((p : ℕ) → who ≡ At p → p < n) ⌝ }
     ensures { λ r. ⌜ ((p : ℕ) → who ≡ At p → Tells (procsOf (now (procs .entry)) n) p r) ⌝ }
 {
     let Found::At(p) = who else {
@@ -264,13 +281,13 @@ fn told_of(
 
 // The next process behind the last that can move, coming round to the last itself, and what its children report.
 pub fn next(procs: &[u8], n: usize, vars: &[u8], m: usize, last: usize) -> Turn
-    requires { ⌜ (n * 24 ≤ length (now procs)) × (n ≤ 512) × (m * 4 ≤ length (now vars)) × Falls (procsOf (now procs) n) × (last < n) ⌝ }
+    requires { ⌜ (n * rowSize ≤ length (now procs)) × (n ≤ 512) × (m * cellSize ≤ length (now vars)) × Falls (procsOf (now procs) n) × (last < n) ⌝ }
     ensures { λ r. ⌜ ((pr : Program) → r .who ≡ turnOf (canMove pr (stateIn (now (procs .entry)) n (now (vars .entry)) m)) n last) × ((p : ℕ) → r .who ≡ At p → Tells (procsOf (now (procs .entry)) n) p (r .told)) ⌝ }
 {
-    let mut silent = [0u8; 512];
-    let mut said = [0u8; 512];
-    let mut latest = [0u16; 512];
-    let mut lowest = [0u16; 512];
+    let mut silent = [0u8; codes::MOST_PROCS];
+    let mut said = [0u8; codes::MOST_PROCS];
+    let mut latest = [0u16; codes::MOST_PROCS];
+    let mut lowest = [0u16; codes::MOST_PROCS];
     let who = pass(
         procs,
         n,

@@ -4,12 +4,13 @@ use parlog::Change;
 use parlog::Met;
 use parlog::Pair;
 use parlog::Term;
+use parlog::codes;
 ghost use mathlib.Core.Path.{_≡_};
-ghost use mathlib.Core.Bool.{Bool, true, false};
+ghost use mathlib.Core.Bool.{true, false};
 ghost use mathlib.Core.List.{[]};
-ghost use Prim.Native.Nat.{ℕ, _+_, _*_, _≤_, _<_};
-ghost use lib.ListN.{length, getD, take};
-ghost use Rattle.parlog.specs.Tables.{bindingOf, varsIn};
+ghost use Prim.Native.Nat.{_+_, _*_, _≤_, _<_};
+ghost use lib.ListN.{length, take};
+ghost use Rattle.parlog.specs.Tables.{bindingOf, cellSize, varsIn};
 ghost use Rattle.parlog.specs.Unify.{bound, isBound, joined, meet, meetVars, someBound, unify, unifyOne, value, valueOf};
 ghost use Rattle.unify.specs.Pending.{Below, latest, newerOf, outcome, pending, top, under};
 
@@ -17,7 +18,7 @@ ghost use Rattle.unify.specs.Pending.{Below, latest, newerOf, outcome, p
 pub struct Unified {
     pub ok: bool,
     pub count: usize,
-    pub binds: [Change; 4],
+    pub binds: [Change; codes::MOST_ARITY],
 }
 
 // What one binding makes of the row b of v.
@@ -47,7 +48,7 @@ fn found_in(u: Unified, row: Binding, v: u32) -> Binding
 
 // The constant or unbound variable that v's bindings lead to.
 fn value_of_var(vars: &[u8], n: usize, u: Unified, v: u32) -> Term
-    requires { ⌜ (n * 4 ≤ length (now vars)) × (v < n) × (u .count ≤ 4) × (length (u .binds) ≡ 4) ⌝ }
+    requires { ⌜ (n * cellSize ≤ length (now vars)) × (v < n) × (u .count ≤ 4) × (length (u .binds) ≡ 4) ⌝ }
     ensures { λ r. ⌜ r ≡ valueOf (under (now (vars .entry)) n (pending u)) v ⌝ }
 {
     let mut a = v;
@@ -69,7 +70,7 @@ fn value_of_var(vars: &[u8], n: usize, u: Unified, v: u32) -> Term
 
 // A term's value under the pending bindings.
 fn value_under(vars: &[u8], n: usize, u: Unified, t: Term) -> Term
-    requires { ⌜ (n * 4 ≤ length (now vars)) × (top t ≤ n) × (u .count ≤ 4) × (length (u .binds) ≡ 4) ⌝ }
+    requires { ⌜ (n * cellSize ≤ length (now vars)) × (top t ≤ n) × (u .count ≤ 4) × (length (u .binds) ≡ 4) ⌝ }
     ensures { λ r. ⌜ r ≡ value (under (now (vars .entry)) n (pending u)) t ⌝ }
 {
     let Term::Var(v) = t else {
@@ -89,13 +90,13 @@ fn nothing() -> Unified
     Unified {
         ok: true,
         count: 0,
-        binds: [none; 4],
+        binds: [none; codes::MOST_ARITY],
     }
 }
 
 // A term's value under the table's bindings.
 pub fn value_of(vars: &[u8], n: usize, t: Term) -> Term
-    requires { ⌜ (n * 4 ≤ length (now vars)) × (top t ≤ n) ⌝ }
+    requires { ⌜ (n * cellSize ≤ length (now vars)) × (top t ≤ n) ⌝ }
     ensures { λ r. ⌜ r ≡ value (varsIn (now (vars .entry)) n) t ⌝ }
 {
     let u = nothing();
@@ -158,7 +159,7 @@ fn join(u: Unified, m: Met) -> Unified
 
 // One pair more; a clash stays one.
 fn unify_one(vars: &[u8], n: usize, u: Unified, p: Pair) -> Unified
-    requires { ⌜ (n * 4 ≤ length (now vars)) × (top (p .left) ≤ n) × (top (p .right) ≤ n) × (u .count < 4) × (length (u .binds) ≡ 4) ⌝ }
+    requires { ⌜ (n * cellSize ≤ length (now vars)) × (top (p .left) ≤ n) × (top (p .right) ≤ n) × (u .count < 4) × (length (u .binds) ≡ 4) ⌝ }
     ensures { λ r. ⌜ (outcome r ≡ unifyOne (varsIn (now (vars .entry)) n) (outcome u) p) × (r .count ≤ u .count + 1) × (length (r .binds) ≡ 4) ⌝ }
 {
     let ok = u.ok;
@@ -174,19 +175,11 @@ fn unify_one(vars: &[u8], n: usize, u: Unified, p: Pair) -> Unified
 }
 
 // The first of these pairs, from the left.
-pub fn unify(vars: &[u8], n: usize, pairs: [Pair; 4], count: usize) -> Unified
-    requires { ⌜ (n * 4 ≤ length (now vars)) × (count ≤ 4) × Below n count pairs ⌝ }
+pub fn unify(vars: &[u8], n: usize, pairs: [Pair; codes::MOST_ARITY], count: usize) -> Unified
+    requires { ⌜ (n * cellSize ≤ length (now vars)) × (count ≤ 4) × Below n count pairs ⌝ }
     ensures { λ r. ⌜ (outcome r ≡ unify (varsIn (now (vars .entry)) n) (take count pairs)) × (r .count ≤ count) × (length (r .binds) ≡ 4) ⌝ }
 {
-    let none = Change {
-        var: 0,
-        to: Term::Const(0),
-    };
-    let mut u = Unified {
-        ok: true,
-        count: 0,
-        binds: [none; 4],
-    };
+    let mut u = nothing();
     let mut i = 0;
     while i < count {
         let p = pairs[i];
@@ -198,18 +191,23 @@ pub fn unify(vars: &[u8], n: usize, pairs: [Pair; 4], count: usize) -> Unified
 
 // Variable v of the first n is bound.
 fn is_bound(vars: &[u8], n: usize, v: usize) -> bool
-    requires { ⌜ n * 4 ≤ length (now vars) ⌝ }
+    requires { ⌜ n * cellSize ≤ length (now vars) ⌝ }
     ensures { λ r. ⌜ r ≡ isBound (bindingOf (varsIn (now (vars .entry)) n) v) ⌝ }
 {
     if v < n {
-        return vars[v * 4] != 0;
+        return vars[v * codes::CELL_SIZE] != codes::UNBOUND;
     }
     false
 }
 
 // Some variable of the first of these notes is bound.
-pub fn some_bound(vars: &[u8], n: usize, count: usize, notes: [u16; 4]) -> bool
-    requires { ⌜ (n * 4 ≤ length (now vars)) × (count ≤ 4) ⌝ }
+pub fn some_bound(
+    vars: &[u8],
+    n: usize,
+    count: usize,
+    notes: [u16; codes::MOST_NOTES as usize],
+) -> bool
+    requires { ⌜ (n * cellSize ≤ length (now vars)) × (count ≤ 4) ⌝ }
     ensures { λ r. ⌜ r ≡ someBound (varsIn (now (vars .entry)) n) (take count notes) ⌝ }
 {
     let mut k = 0;

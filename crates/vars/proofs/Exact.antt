@@ -14,7 +14,7 @@ use Rattle.parlog.proofs.Rows.{rows-byte, rows-length, written-in, written-is, 
 use Rattle.parlog.proofs.Scans.{every-at, every-is}
 use Rattle.parlog.specs.Scan.{every, implies}
 use Rattle.parlog.specs.TableRules.{cellKnown}
-use Rattle.parlog.specs.Tables.{bindingAt, bindingBy, bindingBytes, bindingOf, numberAt, numberCode, rowsBytes, sortAt, sortCode, written}
+use Rattle.parlog.specs.Tables.{bindingAt, bindingBy, bindingBytes, bindingOf, cellSize, numberAt, numberCode, rowsBytes, sortAt, sortCode, written}
 use Rattle.parlog.specs.declared.Binding.{Binding}
 use Rattle.parlog.specs.declared.Binding.the-variants.{Free}
 use Rattle.rows.specs.Rows.{Bytes}
@@ -59,35 +59,35 @@ module _ (l : List ℕ) (v : ℕ) (are : Bytes l) (known : cellKnown l v ≡ tru
   number-is = number-back (sortAt l v) (numberAt l v) known
 
   -- the bytes of a row from its binding
-  pub cell-byte : (k : ℕ) → k < 4 → getD l (v * 4 + k) 0 ≡ getD (bindingBytes (bindingAt l v)) k 0
+  pub cell-byte : (k : ℕ) → k < cellSize → getD l (v * cellSize + k) 0 ≡ getD (bindingBytes (bindingAt l v)) k 0
   unfolding bindingBytes
   cell-byte zero h = simp add-zero (sym sort-is)
-  cell-byte (suc zero) h = sym (rw number-is (low-third (getD l (v * 4 + 1) 0) (getD l (v * 4 + 2) 0) (getD l (v * 4 + 3) 0) (are (v * 4 + 1)) (are (v * 4 + 2))))
-  cell-byte (suc (suc zero)) h = sym (rw number-is (mid-third (getD l (v * 4 + 1) 0) (getD l (v * 4 + 2) 0) (getD l (v * 4 + 3) 0) (are (v * 4 + 1)) (are (v * 4 + 2))))
-  cell-byte (suc (suc (suc zero))) h = sym (rw number-is (top-third (getD l (v * 4 + 1) 0) (getD l (v * 4 + 2) 0) (getD l (v * 4 + 3) 0) (are (v * 4 + 1)) (are (v * 4 + 2))))
+  cell-byte (suc zero) h = sym (rw number-is (low-third (getD l (v * cellSize + 1) 0) (getD l (v * cellSize + 2) 0) (getD l (v * cellSize + 3) 0) (are (v * cellSize + 1)) (are (v * cellSize + 2))))
+  cell-byte (suc (suc zero)) h = sym (rw number-is (mid-third (getD l (v * cellSize + 1) 0) (getD l (v * cellSize + 2) 0) (getD l (v * cellSize + 3) 0) (are (v * cellSize + 1)) (are (v * cellSize + 2))))
+  cell-byte (suc (suc (suc zero))) h = sym (rw number-is (top-third (getD l (v * cellSize + 1) 0) (getD l (v * cellSize + 2) 0) (getD l (v * cellSize + 3) 0) (are (v * cellSize + 1)) (are (v * cellSize + 2))))
   cell-byte (suc (suc (suc (suc k)))) h = absurd (omega arith)
 
 -- the bytes of a table are its bindings' bytes, and past them what was there
-pub cells-bytes : {n : ℕ} {l₀ l : List ℕ} {vs : List Binding} → Cells n l₀ l vs → every (cellKnown l₀) n ≡ true → Bytes l → length vs * 4 ≤ length l₀ → l ≡ written (rowsBytes bindingBytes vs) l₀
+pub cells-bytes : {n : ℕ} {l₀ l : List ℕ} {vs : List Binding} → Cells n l₀ l vs → every (cellKnown l₀) n ≡ true → Bytes l → length vs * cellSize ≤ length l₀ → l ≡ written (rowsBytes bindingBytes vs) l₀
 cells-bytes {n} {l₀} {l} {vs} t known are enough =
-    let m : length (rowsBytes bindingBytes vs) ≡ length vs * 4 = rows-length bindingBytes 4 cell-length vs in
+    let m : length (rowsBytes bindingBytes vs) ≡ length vs * cellSize = rows-length bindingBytes cellSize cell-length vs in
     written-is (rowsBytes bindingBytes vs) l₀ l (t .size) (omega arith) (λ j h. inside j (omega arith)) (λ j h. t .rest j (omega arith))
   where
-    inside : (j : ℕ) → j < length vs * 4 → getD l j 0 ≡ getD (rowsBytes bindingBytes vs) j 0
+    inside : (j : ℕ) → j < length vs * cellSize → getD l j 0 ≡ getD (rowsBytes bindingBytes vs) j 0
     inside j h =
-        let v = j / 4 in
-        let k = j % 4 in
-        let e : v * 4 + k ≡ j = omega arith in
-        let g : getD l (v * 4 + k) 0 ≡ getD (rowsBytes bindingBytes vs) (v * 4 + k) 0 =
+        let v = j / cellSize in
+        let k = j % cellSize in
+        let e : v * cellSize + k ≡ j = omega arith in
+        let g : getD l (v * cellSize + k) 0 ≡ getD (rowsBytes bindingBytes vs) (v * cellSize + k) 0 =
         cell-byte l v are (every-at (cellKnown l) (length vs) v (t .known known) (omega arith)) k (omega arith)
         ∙ ap (λ (x : Binding). getD (bindingBytes x) k 0) (cells-at v t (omega arith))
-        ∙ sym (rows-byte bindingBytes 4 cell-length vs Free v k (omega arith) (omega arith)) in
+        ∙ sym (rows-byte bindingBytes cellSize cell-length vs Free v k (omega arith) (omega arith)) in
         rw e at g
 
 -- and those bytes are a table with these bindings
-pub cells-written : (n : ℕ) (l₀ : List ℕ) (vs : List Binding) → length vs * 4 ≤ length l₀ → Cells n l₀ (written (rowsBytes bindingBytes vs) l₀) vs
+pub cells-written : (n : ℕ) (l₀ : List ℕ) (vs : List Binding) → length vs * cellSize ≤ length l₀ → Cells n l₀ (written (rowsBytes bindingBytes vs) l₀) vs
 cells-written n l₀ vs enough =
-    let m : length (rowsBytes bindingBytes vs) ≡ length vs * 4 = rows-length bindingBytes 4 cell-length vs in
+    let m : length (rowsBytes bindingBytes vs) ≡ length vs * cellSize = rows-length bindingBytes cellSize cell-length vs in
     record {
       size = written-length (rowsBytes bindingBytes vs) l₀ (omega arith);
       cells = vars-is (written (rowsBytes bindingBytes vs) l₀) vs (λ v h. binding-cong (written (rowsBytes bindingBytes vs) l₀) (bindingBytes (bindingOf vs v)) v 0 (here v h) ∙ binding-back (bindingOf vs v));
@@ -95,9 +95,9 @@ cells-written n l₀ vs enough =
       known = λ e. every-is (cellKnown (written (rowsBytes bindingBytes vs) l₀)) (length vs) (λ v h. known-cong (written (rowsBytes bindingBytes vs) l₀) (bindingBytes (bindingOf vs v)) v 0 (here v h) ∙ known-back (bindingOf vs v));
     }
   where
-    here : (v : ℕ) → v < length vs → (k : ℕ) → k < 4 → getD (written (rowsBytes bindingBytes vs) l₀) (v * 4 + k) 0 ≡ getD (bindingBytes (bindingOf vs v)) (0 * 4 + k) 0
+    here : (v : ℕ) → v < length vs → (k : ℕ) → k < cellSize → getD (written (rowsBytes bindingBytes vs) l₀) (v * cellSize + k) 0 ≡ getD (bindingBytes (bindingOf vs v)) (0 * cellSize + k) 0
     here v h k u =
-        let m : length (rowsBytes bindingBytes vs) ≡ length vs * 4 = rows-length bindingBytes 4 cell-length vs in
-        written-in (rowsBytes bindingBytes vs) l₀ (v * 4 + k) (omega arith)
-        ∙ rows-byte bindingBytes 4 cell-length vs Free v k h u
+        let m : length (rowsBytes bindingBytes vs) ≡ length vs * cellSize = rows-length bindingBytes cellSize cell-length vs in
+        written-in (rowsBytes bindingBytes vs) l₀ (v * cellSize + k) (omega arith)
+        ∙ rows-byte bindingBytes cellSize cell-length vs Free v k h u
         ∙ ap (λ (j : ℕ). getD (bindingBytes (bindingOf vs v)) j 0) (omega arith)

@@ -12,7 +12,7 @@ use native.Mathlib.Nat.{add-zero}
 use native.Mathlib.Numerals.{add-one, add-three, add-two}
 use Rattle.parlog.proofs.Rows.{apart, splice-after, splice-before, splice-in, splice-length}
 use Rattle.parlog.specs.TableRules.{cellKnown}
-use Rattle.parlog.specs.Tables.{bindingAt, bindingBy, bindingBytes, numberAt, numberCode, sortAt, sortCode}
+use Rattle.parlog.specs.Tables.{bindingAt, bindingBy, bindingBytes, cellSize, numberAt, numberCode, sortAt, sortCode}
 use Rattle.parlog.specs.declared.Binding.{Binding}
 use Rattle.parlog.specs.declared.Binding.the-variants.{Bound, Free}
 use Rattle.parlog.specs.declared.Term.{Term}
@@ -23,7 +23,7 @@ thirds : (m : ℕ) → m % 256 + m / 256 % 256 * 256 + m / 65536 * 65536 ≡ m
 thirds m = omega arith
 
 -- two tables whose rows v and w have the same bytes have the same binding there
-module _ (l m : List ℕ) (v w : ℕ) (h : (k : ℕ) → k < 4 → getD l (v * 4 + k) 0 ≡ getD m (w * 4 + k) 0) where
+module _ (l m : List ℕ) (v w : ℕ) (h : (k : ℕ) → k < cellSize → getD l (v * cellSize + k) 0 ≡ getD m (w * cellSize + k) 0) where
   sort-cong : sortAt l v ≡ sortAt m w
   sort-cong = simp add-zero at (h 0 (lit< tt))
 
@@ -38,7 +38,7 @@ module _ (l m : List ℕ) (v w : ℕ) (h : (k : ℕ) → k < 4 → getD l (v * 4
   unfolding cellKnown
   known-cong = rw (sort-cong, number-cong)
 
-pub cell-length : (b : Binding) → length (bindingBytes b) ≡ 4
+pub cell-length : (b : Binding) → length (bindingBytes b) ≡ cellSize
 unfolding bindingBytes
 cell-length b = refl
 
@@ -55,26 +55,26 @@ known-back Free = refl
 known-back (Bound (Const c)) = refl
 known-back (Bound (Var v)) = refl
 
-module _ (l : List ℕ) (v : ℕ) (b : Binding) (enough : v * 4 + 4 ≤ length l) where
+module _ (l : List ℕ) (v : ℕ) (b : Binding) (enough : v * cellSize + cellSize ≤ length l) where
   pub cell-put-length : length (putCell l v (bindingBytes b)) ≡ length l
   unfolding putCell
-  cell-put-length = splice-length l (v * 4) (bindingBytes b) 4 (cell-length b) enough
+  cell-put-length = splice-length l (v * cellSize) (bindingBytes b) cellSize (cell-length b) enough
 
   -- another row's bytes stay
-  byte-other : (w : ℕ) → (w ≡ v → ⊥) → (k : ℕ) → k < 4 → getD (putCell l v (bindingBytes b)) (w * 4 + k) 0 ≡ getD l (w * 4 + k) 0
+  byte-other : (w : ℕ) → (w ≡ v → ⊥) → (k : ℕ) → k < cellSize → getD (putCell l v (bindingBytes b)) (w * cellSize + k) 0 ≡ getD l (w * cellSize + k) 0
   unfolding putCell
   byte-other w ne k h =
-      ⊎-elim (λ lt. splice-before l (v * 4) (bindingBytes b) 4 (cell-length b) enough (w * 4 + k) (omega arith))
-      (λ ge. splice-after l (v * 4) (bindingBytes b) 4 (cell-length b) enough (w * 4 + k) (omega arith))
+      ⊎-elim (λ lt. splice-before l (v * cellSize) (bindingBytes b) cellSize (cell-length b) enough (w * cellSize + k) (omega arith))
+      (λ ge. splice-after l (v * cellSize) (bindingBytes b) cellSize (cell-length b) enough (w * cellSize + k) (omega arith))
       (apart w v ne)
 
-  pub cell-byte-past : (j : ℕ) → v * 4 + 4 ≤ j → getD (putCell l v (bindingBytes b)) j 0 ≡ getD l j 0
+  pub cell-byte-past : (j : ℕ) → v * cellSize + cellSize ≤ j → getD (putCell l v (bindingBytes b)) j 0 ≡ getD l j 0
   unfolding putCell
-  cell-byte-past j h = splice-after l (v * 4) (bindingBytes b) 4 (cell-length b) enough j h
+  cell-byte-past j h = splice-after l (v * cellSize) (bindingBytes b) cellSize (cell-length b) enough j h
 
-  byte-same : (k : ℕ) → k < 4 → getD (putCell l v (bindingBytes b)) (v * 4 + k) 0 ≡ getD (bindingBytes b) (0 * 4 + k) 0
+  byte-same : (k : ℕ) → k < cellSize → getD (putCell l v (bindingBytes b)) (v * cellSize + k) 0 ≡ getD (bindingBytes b) (0 * cellSize + k) 0
   unfolding putCell
-  byte-same k h = splice-in l (v * 4) (bindingBytes b) 4 (cell-length b) enough k h ∙ ap (λ (j : ℕ). getD (bindingBytes b) j 0) (omega arith)
+  byte-same k h = splice-in l (v * cellSize) (bindingBytes b) cellSize (cell-length b) enough k h ∙ ap (λ (j : ℕ). getD (bindingBytes b) j 0) (omega arith)
 
   pub binding-other : (w : ℕ) → (w ≡ v → ⊥) → bindingAt (putCell l v (bindingBytes b)) w ≡ bindingAt l w
   binding-other w ne = binding-cong (putCell l v (bindingBytes b)) l w w (byte-other w ne)
@@ -89,18 +89,18 @@ module _ (l : List ℕ) (v : ℕ) (b : Binding) (enough : v * 4 + 4 ≤ length l
   known-same = known-cong (putCell l v (bindingBytes b)) (bindingBytes b) v 0 byte-same ∙ known-back b
 
 -- four stores are a row
-stores : (l : List ℕ) (i a b c d : ℕ) → i + 4 ≤ length l → set (set (set (set l i a) (i + 1) b) (i + 2) c) (i + 3) d ≡ take i l ++ (a ∷ b ∷ c ∷ d ∷ []) ++ drop (i + 4) l
+stores : (l : List ℕ) (i a b c d : ℕ) → i + cellSize ≤ length l → set (set (set (set l i a) (i + 1) b) (i + 2) c) (i + 3) d ≡ take i l ++ (a ∷ b ∷ c ∷ d ∷ []) ++ drop (i + cellSize) l
 stores l i a b c d enough = rw (add-one i, add-two i, add-three i) (sets-eq (a ∷ b ∷ c ∷ d ∷ []) l i enough)
 
-pub four-stores : (l : List ℕ) (v m a b c d : ℕ) (t : Term) → v * 4 + 4 ≤ length l
+pub four-stores : (l : List ℕ) (v m a b c d : ℕ) (t : Term) → v * cellSize + cellSize ≤ length l
     → m ≡ numberCode (Bound t) → a ≡ sortCode (Bound t) → b ≡ m % 256 → c ≡ m / 256 % 256 → d ≡ m / 65536
-    → set (set (set (set l (v * 4) a) (v * 4 + 1) b) (v * 4 + 2) c) (v * 4 + 3) d ≡ putCell l v (bindingBytes (Bound t))
+    → set (set (set (set l (v * cellSize) a) (v * cellSize + 1) b) (v * cellSize + 2) c) (v * cellSize + 3) d ≡ putCell l v (bindingBytes (Bound t))
 unfolding putCell bindingBytes
-four-stores l v m a b c d t enough em ea eb ec ed = stores l (v * 4) a b c d enough ∙ rw (ea, eb, ec, ed, em)
+four-stores l v m a b c d t enough em ea eb ec ed = stores l (v * cellSize) a b c d enough ∙ rw (ea, eb, ec, ed, em)
 
 -- a row of zeros
-module _ (l : List ℕ) (v : ℕ) (none : (k : ℕ) → k < 4 → getD l (v * 4 + k) 0 ≡ 0) where
-  cleared : (k : ℕ) → k < 4 → getD l (v * 4 + k) 0 ≡ getD (bindingBytes Free) (0 * 4 + k) 0
+module _ (l : List ℕ) (v : ℕ) (none : (k : ℕ) → k < cellSize → getD l (v * cellSize + k) 0 ≡ 0) where
+  cleared : (k : ℕ) → k < cellSize → getD l (v * cellSize + k) 0 ≡ getD (bindingBytes Free) (0 * cellSize + k) 0
   unfolding bindingBytes
   cleared zero h = none zero h
   cleared (suc zero) h = none 1 h

@@ -12,7 +12,7 @@ use Rattle.parlog.proofs.Rows.{build-cong, build-is, build-more, build-past, bu
 use Rattle.parlog.proofs.Scans.{build-at, build-length, every-at, every-is}
 use Rattle.parlog.specs.Scan.{every}
 use Rattle.parlog.specs.TableRules.{cellKnown}
-use Rattle.parlog.specs.Tables.{bindingAt, bindingBytes, bindingOf, varsIn}
+use Rattle.parlog.specs.Tables.{bindingAt, bindingBytes, bindingOf, cellSize, varsIn}
 use Rattle.parlog.specs.declared.Binding.{Binding}
 use Rattle.parlog.specs.declared.Binding.the-variants.{Free}
 use Rattle.rows.proofs.Laws.{wiped-after, wiped-before, wiped-in, wiped-length}
@@ -49,7 +49,7 @@ vars-more-length l n k = length-append (varsIn l n) (replicate k Free) ∙ rw (v
 
 -- ---- one row written
 
-module _ (l : List ℕ) (n v : ℕ) (b : Binding) (enough : n * 4 ≤ length l) (h : v < n) where
+module _ (l : List ℕ) (n v : ℕ) (b : Binding) (enough : n * cellSize ≤ length l) (h : v < n) where
   pub vars-put : varsIn (putCell l v (bindingBytes b)) n ≡ set (varsIn l n) v b
   unfolding varsIn
   vars-put =
@@ -72,35 +72,35 @@ module _ (l : List ℕ) (n v : ℕ) (b : Binding) (enough : n * 4 ≤ length l) 
 
 -- ---- rows more
 
-module _ (l : List ℕ) (n k : ℕ) (enough : n * 4 + k * 4 ≤ length l) where
-  old-byte : (v : ℕ) → v < n → (j : ℕ) → j < 4 → getD (wiped l (n * 4) (k * 4)) (v * 4 + j) 0 ≡ getD l (v * 4 + j) 0
-  old-byte v h j u = wiped-before l (n * 4) (k * 4) enough (v * 4 + j) (omega arith)
+module _ (l : List ℕ) (n k : ℕ) (enough : n * cellSize + k * cellSize ≤ length l) where
+  old-byte : (v : ℕ) → v < n → (j : ℕ) → j < cellSize → getD (wiped l (n * cellSize) (k * cellSize)) (v * cellSize + j) 0 ≡ getD l (v * cellSize + j) 0
+  old-byte v h j u = wiped-before l (n * cellSize) (k * cellSize) enough (v * cellSize + j) (omega arith)
 
-  new-byte : (v : ℕ) → v < k → (j : ℕ) → j < 4 → getD (wiped l (n * 4) (k * 4)) ((n + v) * 4 + j) 0 ≡ 0
+  new-byte : (v : ℕ) → v < k → (j : ℕ) → j < cellSize → getD (wiped l (n * cellSize) (k * cellSize)) ((n + v) * cellSize + j) 0 ≡ 0
   new-byte v h j u =
-      ap (λ (i : ℕ). getD (wiped l (n * 4) (k * 4)) i 0) (omega arith) ∙ wiped-in l (n * 4) (k * 4) enough (v * 4 + j) (omega arith)
+      ap (λ (i : ℕ). getD (wiped l (n * cellSize) (k * cellSize)) i 0) (omega arith) ∙ wiped-in l (n * cellSize) (k * cellSize) enough (v * cellSize + j) (omega arith)
 
-  pub vars-grow : varsIn (wiped l (n * 4) (k * 4)) (n + k) ≡ varsIn l n ++ replicate k Free
+  pub vars-grow : varsIn (wiped l (n * cellSize) (k * cellSize)) (n + k) ≡ varsIn l n ++ replicate k Free
   unfolding varsIn
   vars-grow =
-      build-more (bindingAt (wiped l (n * 4) (k * 4))) n k Free (λ v h. binding-none (wiped l (n * 4) (k * 4)) (n + v) (new-byte v h))
+      build-more (bindingAt (wiped l (n * cellSize) (k * cellSize))) n k Free (λ v h. binding-none (wiped l (n * cellSize) (k * cellSize)) (n + v) (new-byte v h))
       ∙ ap (λ (vs : List Binding). vs ++ replicate k Free)
-      (build-cong (bindingAt (wiped l (n * 4) (k * 4))) (bindingAt l) n (λ v h. binding-cong (wiped l (n * 4) (k * 4)) l v v (old-byte v h)))
+      (build-cong (bindingAt (wiped l (n * cellSize) (k * cellSize))) (bindingAt l) n (λ v h. binding-cong (wiped l (n * cellSize) (k * cellSize)) l v v (old-byte v h)))
 
-  known-grow : every (cellKnown l) n ≡ true → every (cellKnown (wiped l (n * 4) (k * 4))) (n + k) ≡ true
-  known-grow e = every-is (cellKnown (wiped l (n * 4) (k * 4))) (n + k) (λ v u. split (ltb v n)
-      (λ q. let h : v < n = ltb-true v n q in known-cong (wiped l (n * 4) (k * 4)) l v v (old-byte v h) ∙ every-at (cellKnown l) n v e h)
+  known-grow : every (cellKnown l) n ≡ true → every (cellKnown (wiped l (n * cellSize) (k * cellSize))) (n + k) ≡ true
+  known-grow e = every-is (cellKnown (wiped l (n * cellSize) (k * cellSize))) (n + k) (λ v u. split (ltb v n)
+      (λ q. let h : v < n = ltb-true v n q in known-cong (wiped l (n * cellSize) (k * cellSize)) l v v (old-byte v h) ∙ every-at (cellKnown l) n v e h)
       (λ q. let h : n ≤ v = ltb-false v n q in
       let i : n + (v - n) ≡ v = omega arith in
-      rw i at (known-none (wiped l (n * 4) (k * 4)) (n + (v - n)) (new-byte (v - n) (omega arith)))))
+      rw i at (known-none (wiped l (n * cellSize) (k * cellSize)) (n + (v - n)) (new-byte (v - n) (omega arith)))))
 
-  pub cells-grow : Cells n l (wiped l (n * 4) (k * 4)) (varsIn l n ++ replicate k Free)
+  pub cells-grow : Cells n l (wiped l (n * cellSize) (k * cellSize)) (varsIn l n ++ replicate k Free)
   cells-grow =
       let m : length (varsIn l n ++ replicate k Free) ≡ n + k = length-append (varsIn l n) (replicate k Free) ∙ omega (arith, vars-length l n, length-replicate k Free) in
       record {
-        size = wiped-length l (n * 4) (k * 4) enough;
+        size = wiped-length l (n * cellSize) (k * cellSize) enough;
         cells = rw m vars-grow;
-        rest = λ j u. wiped-after l (n * 4) (k * 4) enough j (omega (arith, m));
+        rest = λ j u. wiped-after l (n * cellSize) (k * cellSize) enough j (omega (arith, m));
         known = λ e. rw m (known-grow e);
       }
 

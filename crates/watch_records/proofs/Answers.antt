@@ -4,7 +4,7 @@ use mathlib.Core.List.{List}
 use Prim.Native.Nat.{_/_, ℕ}
 use lib.ListN.{length}
 use Rattle.parlog.specs.Run.{watchOf}
-use Rattle.parlog.specs.Tables.{procsOf}
+use Rattle.parlog.specs.Tables.{procsOf, rowSize}
 use Rattle.parlog.specs.declared.Found.{Found}
 use Rattle.parlog.specs.declared.Found.the-variants.{At, Nothing}
 use Rattle.parlog.specs.declared.Process.{Process}
@@ -23,5 +23,5 @@ pub watch-once : (ps : List Process) (r q : Found) → r ≡ watchOf ps → q �
 watch-once ps r q a b = a ∙ sym b
 
 -- a row of records and a row of bytes that hold the same processes have the same answer
-pub same-answer : (ps : List Process) (l : List ℕ) (r q : Found) → ps ≡ procsOf l (length l / 24) → r ≡ watchOf ps → q ≡ watchOf (procsOf l (length l / 24)) → r ≡ q
+pub same-answer : (ps : List Process) (l : List ℕ) (r q : Found) → ps ≡ procsOf l (length l / rowSize) → r ≡ watchOf ps → q ≡ watchOf (procsOf l (length l / rowSize)) → r ≡ q
 same-answer ps l r q s a b = a ∙ ap watchOf s ∙ sym b

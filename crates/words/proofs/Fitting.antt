@@ -10,12 +10,12 @@ use native.Mathlib.Omega.{arith}
 use Rattle.parlog.proofs.Assume.{assume-counts}
 use Rattle.parlog.proofs.Bools.{and-true}
 use Rattle.parlog.proofs.Scans.{lowest-at}
+use Rattle.parlog.proofs.Walk.{walk-holds}
 use Rattle.parlog.specs.Calls.{enter, enterBy, entered, enterLoaded, Entry, runCall, runEntry, startBy, startCall, startLoaded, stepAnswer, stepCall, stepEntry, supplyAnswer, supplyCall, supplyEntry, turnCall, turned-away, turnEntry, valueAnswer, valueCall, valueEntry}
 use Rattle.parlog.specs.Codes.{isMode, suspended}
 use Rattle.parlog.specs.Delta.{Delta}
-use Rattle.parlog.specs.Image.{recordEnd}
-use Rattle.parlog.specs.Limits.{Limits, small}
-use Rattle.parlog.specs.Load.{after, loadEnd, loadOf, long, nothingRead, records, verdict}
+use Rattle.parlog.specs.Limits.{Limits, Usable}
+use Rattle.parlog.specs.Load.{after, broken, judged, loadEnd, loadOf, long, nothingRead, records, verdict}
 use Rattle.parlog.specs.Program.{Program, programOf}
 use Rattle.parlog.specs.Rules.{Applied, by-rule, fits, move, moved, no-rule, room, ruleOf, withRoom}
 use Rattle.parlog.specs.Run.{given, goalEnded, halt, Looking, made, procsIn, runFrom, Running, runStep, runTables, runTest, runTurn, seen, stepBy, Stepping, stepTables, Supplying, supplyTables, turnFor, turnTables, turnTo, ungiven, unmade, unseen, valueTables, watchOf}
@@ -51,14 +51,12 @@ module _ (s : List ℕ) where
   after-within rest go at h (Refuses k) = omega arith
   after-within rest go at h (Goes g) = go g
 
-  records-within : (n at : ℕ) (g : Progress) → LoadWithin (length s) (records s n at g)
-  unfolding records
-  records-within zero at g = ends-within g (eqb (g .kind) 3) refl
-  records-within (suc n) at g = by (ltb at (length s)) refl (records-within n (recordEnd s at))
-    where
-      by : (b : Bool) → ltb at (length s) ≡ b → ((k : Progress) → LoadWithin (length s) (records s n (recordEnd s at) k)) → LoadWithin (length s) (cond b (after (records s n (recordEnd s at)) at (verdict s g at)) (loadEnd s g))
-      by true e go = after-within (records s n (recordEnd s at)) go at (ltb-true at (length s) e) (verdict s g at)
-      by false e go = ends-within g (eqb (g .kind) 3) refl
+  records-within : LoadWithin (length s) (records s (length s) 0 nothingRead)
+  records-within = walk-holds s broken (judged s) (loadEnd s) (λ at g. Unit {0}) (LoadWithin (length s))
+      (λ at g p l e. omega arith)
+      (λ at g p l e rest go. after-within rest (λ t. go t tt) at l (verdict s g at))
+      (λ at g p h. ends-within g (eqb (g .kind) 3) refl)
+      (length s) 0 nothingRead (omega arith) tt
 
   -- an image that is not too long has no offset over its length
   pub load-fits : LoadWithin 4294967295 (loadOf s)
@@ -71,50 +69,49 @@ module _ (s : List ℕ) where
 
       by : (b : Bool) → ltb 32768 (length s) ≡ b → LoadWithin 4294967295 (cond b (Refused (record { number = 1; offset = 0 })) (records s (length s) 0 nothingRead))
       by true e = omega arith
-      by false e = wider (records s (length s) 0 nothingRead) (records-within (length s) 0 nothingRead) (ltb-false 32768 (length s) e)
+      by false e = wider (records s (length s) 0 nothingRead) records-within (ltb-false 32768 (length s) e)
 
 -- ---- the start
 
-pub start-fits : (s : List ℕ) (l : Lent) → StartFits (startCall small s l .answer)
+pub start-fits : (lim : Limits) (s : List ℕ) (l : Lent) → StartFits (startCall lim s l .answer)
 unfolding startCall
-start-fits s l = by (loadOf s) (load-fits s)
+start-fits lim s l = by (loadOf s) (load-fits s)
   where
-    sized : (b : Bool) (pr : Program) → StartFits (startBy b small pr l .answer)
+    sized : (b : Bool) (pr : Program) → StartFits (startBy b lim pr l .answer)
     sized false pr = omega arith
     sized true pr = tt
 
-    by : (a : Loaded) → LoadWithin 4294967295 a → StartFits (startLoaded a small s l .answer)
+    by : (a : Loaded) → LoadWithin 4294967295 a → StartFits (startLoaded a lim s l .answer)
     by (Refused r) h = h
-    by (Accepted r c) h = sized (fullSize small l) (programOf s r c)
+    by (Accepted r c) h = sized (fullSize lim l) (programOf s r c)
 
 -- ---- what a call knows that was let in
 
--- refused at an offset that fits, or with at most 512 processes
-abbrev EntryWithin : Entry → Type 0
-EntryWithin (turned-away r) = RefusalFits r
-EntryWithin (entered pr t) = procsIn t ≤ 512
+-- refused at an offset that fits, or with no more processes than there may be
+abbrev EntryWithin : Limits → Entry → Type 0
+EntryWithin lim (turned-away r) = RefusalFits r
+EntryWithin lim (entered pr t) = procsIn t ≤ lim .procs
 
-good-within : (pr : Program) (l : Lent) → lentOk small pr l ≡ true → procsIn (tablesIn l) ≤ 512
-unfolding lentOk tablesOk small
-good-within pr l e =
-    let lim : Limits = record { procs = 512; vars = 1024 } in
+good-within : (lim : Limits) (pr : Program) (l : Lent) → lentOk lim pr l ≡ true → procsIn (tablesIn l) ≤ lim .procs
+unfolding lentOk tablesOk
+good-within lim pr l e =
     let a = and-true (fullSize lim l) (every (cellKnown (l .vars)) (varCount (l .head)) && tablesOk lim pr (tablesIn l)) e in
     let b = and-true (every (cellKnown (l .vars)) (varCount (l .head))) (tablesOk lim pr (tablesIn l)) (a .1) in
     let t = and-true (stateOk lim pr (tablesIn l .state)) (ltb (tablesIn l .last) (length (tablesIn l .state .procs))) (b .1) in
     let k = assume-counts lim pr (tablesIn l .state) (t .0) in
     k .1
 
-pub enter-within : (s : List ℕ) (l : Lent) → EntryWithin (enter small s l)
+pub enter-within : (lim : Limits) (s : List ℕ) (l : Lent) → EntryWithin lim (enter lim s l)
 unfolding enter
-enter-within s l = by (loadOf s) (load-fits s)
+enter-within lim s l = by (loadOf s) (load-fits s)
   where
-    told : (pr : Program) (b : Bool) → lentOk small pr l ≡ b → EntryWithin (enterBy b pr l)
+    told : (pr : Program) (b : Bool) → lentOk lim pr l ≡ b → EntryWithin lim (enterBy b pr l)
     told pr false e = omega arith
-    told pr true e = good-within pr l e
+    told pr true e = good-within lim pr l e
 
-    by : (a : Loaded) → LoadWithin 4294967295 a → EntryWithin (enterLoaded a small s l)
+    by : (a : Loaded) → LoadWithin 4294967295 a → EntryWithin lim (enterLoaded a lim s l)
     by (Refused r) h = h
-    by (Accepted r c) h = told (programOf s r c) (lentOk small (programOf s r c) l) refl
+    by (Accepted r c) h = told (programOf s r c) (lentOk lim (programOf s r c) l) refl
 
 -- ---- a step and a turn
 
@@ -123,8 +120,8 @@ abbrev StepWithin : Stepping → Type 0
 StepWithin (unmade k) = Unit {0}
 StepWithin (made m t) = MoveWithin 4294967295 m
 
-module _ (pr : Program) (t : Tables) (h : procsIn t ≤ 512) where
-  step-within : (p : ℕ) → StepWithin (stepTables small pr t p)
+module _ (lim : Limits) (ok : Usable lim) (pr : Program) (t : Tables) (h : procsIn t ≤ lim .procs) where
+  step-within : (p : ℕ) → StepWithin (stepTables lim pr t p)
   unfolding stepTables move
   step-within p = by (ltb p (procsIn t)) refl
     where
@@ -132,19 +129,19 @@ module _ (pr : Program) (t : Tables) (h : procsIn t ≤ 512) where
       roomy m d true k = unfold stepBy in k
       roomy m d false k = unfold stepBy in tt
 
-      ruled : (a : Applied) → RuleWithin 4294967295 a → StepWithin (stepBy (withRoom small (t .state) a) t p)
+      ruled : (a : Applied) → RuleWithin 4294967295 a → StepWithin (stepBy (withRoom lim (t .state) a) t p)
       ruled no-rule k = unfold stepBy in tt
-      ruled (by-rule m d) k = roomy m d (fits small (t .state) d) k
+      ruled (by-rule m d) k = roomy m d (fits lim (t .state) d) k
 
-      by : (b : Bool) → ltb p (procsIn t) ≡ b → StepWithin (cond b (stepBy (withRoom small (t .state) (ruleOf pr (t .state) p)) t p) (unmade 9))
-      by true e = let u = ltb-true p (procsIn t) e in ruled (ruleOf pr (t .state) p) (rule-within 4294967295 pr (t .state) (omega (arith, h)) p (omega (arith, h, u)))
+      by : (b : Bool) → ltb p (procsIn t) ≡ b → StepWithin (cond b (stepBy (withRoom lim (t .state) (ruleOf pr (t .state) p)) t p) (unmade 9))
+      by true e = let u = ltb-true p (procsIn t) e in ruled (ruleOf pr (t .state) p) (rule-within 4294967295 pr (t .state) (omega (arith, h, ok .procs-counted)) p (omega (arith, h, u, ok .procs-counted)))
       by false e = tt
 
-  turn-within : StepWithin (turnTables small pr t)
+  turn-within : StepWithin (turnTables lim pr t)
   unfolding turnTables
   turn-within = by (turnFor pr t)
     where
-      by : (f : Found) → StepWithin (turnTo f small pr t)
+      by : (f : Found) → StepWithin (turnTo f lim pr t)
       by Nothing = unfold turnTo in tt
       by (At p) = unfold turnTo in step-within p
 
@@ -152,21 +149,21 @@ answer-fits : (x : Stepping) (l : Lent) → StepWithin x → StepFits (stepAnswe
 answer-fits (unmade k) l h = omega arith
 answer-fits (made m t) l h = h
 
-pub step-fits : (s : List ℕ) (l : Lent) (p : ℕ) → StepFits (stepCall small s l p .answer)
+pub step-fits : (lim : Limits) → Usable lim → (s : List ℕ) (l : Lent) (p : ℕ) → StepFits (stepCall lim s l p .answer)
 unfolding stepCall
-step-fits s l p = by (enter small s l) (enter-within s l)
+step-fits lim ok s l p = by (enter lim s l) (enter-within lim s l)
   where
-    by : (e : Entry) → EntryWithin e → StepFits (stepEntry e small l p .answer)
+    by : (e : Entry) → EntryWithin lim e → StepFits (stepEntry e lim l p .answer)
     by (turned-away r) h = h
-    by (entered pr t) h = answer-fits (stepTables small pr t p) l (step-within pr t h p)
+    by (entered pr t) h = answer-fits (stepTables lim pr t p) l (step-within lim ok pr t h p)
 
-pub turn-fits : (s : List ℕ) (l : Lent) → StepFits (turnCall small s l .answer)
+pub turn-fits : (lim : Limits) → Usable lim → (s : List ℕ) (l : Lent) → StepFits (turnCall lim s l .answer)
 unfolding turnCall
-turn-fits s l = by (enter small s l) (enter-within s l)
+turn-fits lim ok s l = by (enter lim s l) (enter-within lim s l)
   where
-    by : (e : Entry) → EntryWithin e → StepFits (turnEntry e small l .answer)
+    by : (e : Entry) → EntryWithin lim e → StepFits (turnEntry e lim l .answer)
     by (turned-away r) h = h
-    by (entered pr t) h = answer-fits (turnTables small pr t) l (turn-within pr t h)
+    by (entered pr t) h = answer-fits (turnTables lim pr t) l (turn-within lim ok pr t h)
 
 -- ---- a run
 
@@ -199,37 +196,37 @@ module _ (lim : Limits) (pr : Program) where
   unfolding runTables
   run-most limit t = let a = from-most limit 0 t in omega (arith, a)
 
-pub run-fits : (s : List ℕ) (l : Lent) (limit : ℕ) → limit ≤ 4294967295 → RunFits (runCall small s l limit .answer)
+pub run-fits : (lim : Limits) (s : List ℕ) (l : Lent) (limit : ℕ) → limit ≤ 4294967295 → RunFits (runCall lim s l limit .answer)
 unfolding runCall
-run-fits s l limit k = by (enter small s l) (enter-within s l)
+run-fits lim s l limit k = by (enter lim s l) (enter-within lim s l)
   where
-    by : (e : Entry) → EntryWithin e → RunFits (runEntry e small l limit .answer)
+    by : (e : Entry) → EntryWithin lim e → RunFits (runEntry e lim l limit .answer)
     by (turned-away r) h = h
-    by (entered pr t) h = let a = run-most small pr limit t in omega (arith, a, k)
+    by (entered pr t) h = let a = run-most lim pr limit t in omega (arith, a, k)
 
 -- ---- a supply and a look
 
-pub supply-fits : (s : List ℕ) (l : Lent) (v c : ℕ) → SupplyFits (supplyCall small s l v c .answer)
+pub supply-fits : (lim : Limits) (s : List ℕ) (l : Lent) (v c : ℕ) → SupplyFits (supplyCall lim s l v c .answer)
 unfolding supplyCall
-supply-fits s l v c = by (enter small s l) (enter-within s l)
+supply-fits lim s l v c = by (enter lim s l) (enter-within lim s l)
   where
     told : (x : Supplying) → SupplyFits (supplyAnswer x l .answer)
     told (ungiven k) = omega arith
     told (given w t) = tt
 
-    by : (e : Entry) → EntryWithin e → SupplyFits (supplyEntry e l v c .answer)
+    by : (e : Entry) → EntryWithin lim e → SupplyFits (supplyEntry e l v c .answer)
     by (turned-away r) h = h
     by (entered pr t) h = told (supplyTables pr t v c)
 
-pub value-fits : (s : List ℕ) (l : Lent) (v : ℕ) → ValueFits (valueCall small s l v)
+pub value-fits : (lim : Limits) (s : List ℕ) (l : Lent) (v : ℕ) → ValueFits (valueCall lim s l v)
 unfolding valueCall
-value-fits s l v = by (enter small s l) (enter-within s l)
+value-fits lim s l v = by (enter lim s l) (enter-within lim s l)
   where
     told : (x : Looking) → ValueFits (valueAnswer x)
     told (unseen k) = omega arith
     told (seen t) = tt
 
-    by : (e : Entry) → EntryWithin e → ValueFits (valueEntry e v)
+    by : (e : Entry) → EntryWithin lim e → ValueFits (valueEntry e v)
     by (turned-away r) h = h
     by (entered pr t) h = told (valueTables pr t v)
 

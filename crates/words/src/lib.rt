@@ -9,11 +9,31 @@ use parlog::Stepped;
 use parlog::Supplied;
 use parlog::Term;
 use parlog::Valued;
+use parlog::codes;
 ghost use mathlib.Core.Path.{_≡_};
 ghost use Prim.Native.Nat.{_≤_};
 ghost use Rattle.parlog.specs.Numbers.{endNumber, refusedAs, runNumbers, startNumbers, stepNumbers, supplyNumbers, termNumbers, valueNumbers, variable, watchNumbers, word};
 ghost use Rattle.parlog.specs.declared.Stepped.the-variants.{Moved};
 ghost use Rattle.words.specs.Fits.{MoveWithin, RefusalFits, RunFits, StartFits, StepFits, SupplyFits, ToldSays, ValueFits, reached};
+
+// The refusal of a call that is accepted.
+const ACCEPTED: usize = 0;
+
+// What a move touched.
+const PROCESS: u8 = 0;
+
+const VARIABLE: u8 = 1;
+
+// What a value is.
+const CONSTANT_VALUE: usize = codes::CONSTANT as usize;
+
+const VARIABLE_VALUE: usize = codes::VARIABLE as usize;
+
+// A watch found one.
+const SEEN: usize = 1;
+
+// The highest number of 32 bits.
+const MOST_NUMBER: usize = 4294967295;
 
 // The rule of a move, the sort of what it touched, and the number of that.
 struct Told(u8, u8, usize);
@@ -40,7 +60,7 @@ pub fn start_word(a: Started) -> u64
     ensures { λ w. ⌜ w ≡ word (startNumbers a) ⌝ }
 {
     match a {
-        Started::Begun => word(0, 0, 0, 0),
+        Started::Begun => word(ACCEPTED, 0, 0, 0),
         Started::Unstarted(r) => refused(r),
     }
 }
@@ -63,43 +83,43 @@ fn tell(m: Move) -> Told
     ensures { λ r. ⌜ ToldSays m (r .0) (r .1) (r .2) ⌝ }
 {
     match m {
-        Move::Ready(p) => Told(1, 0, p),
-        Move::Wake(p) => Told(2, 0, p),
-        Move::Stop(p) => Told(3, 0, p),
-        Move::AndParStart(p) => Told(4, 0, p),
-        Move::AndParSuccess(p) => Told(5, 0, p),
-        Move::AndParFailure(p) => Told(6, 0, p),
-        Move::AndSeqStart(p) => Told(7, 0, p),
-        Move::AndSeqNext(p) => Told(8, 0, p),
-        Move::AndSeqSuccess(p) => Told(9, 0, p),
-        Move::AndSeqFailure(p) => Told(10, 0, p),
-        Move::OrParStart(p) => Told(11, 0, p),
-        Move::OrParSpawn(p) => Told(12, 0, p),
-        Move::OrParSuccess(p) => Told(13, 0, p),
-        Move::OrParFailure(p) => Told(14, 0, p),
-        Move::SeqSearchNone(p) => Told(15, 0, p),
-        Move::SeqSearchStart(p) => Told(16, 0, p),
-        Move::SeqSearchNext(p) => Told(17, 0, p),
-        Move::SeqSearchSuccess(p) => Told(18, 0, p),
-        Move::SeqSearchFailure(p) => Told(19, 0, p),
-        Move::OrSearchStart(p) => Told(20, 0, p),
-        Move::OrSearchCommit(p) => Told(21, 0, p),
-        Move::OrSearchFailure(p) => Told(22, 0, p),
-        Move::TryClauseStart(p) => Told(23, 0, p),
-        Move::TryClauseSuccess(p) => Told(24, 0, p),
-        Move::TryClauseFailure(p) => Told(25, 0, p),
-        Move::InputMatchBind(t) => Told(26, 1, number_of(t)),
-        Move::InputMatchSuccess(p) => Told(26, 0, p),
-        Move::InputMatchFailure(p) => Told(27, 0, p),
-        Move::InputMatchSuspend(t) => Told(28, 1, number_of(t)),
-        Move::GuardEvalEmpty(p) => Told(29, 0, p),
-        Move::GuardEvalStart(p) => Told(30, 0, p),
-        Move::GuardEvalSuccess(p) => Told(31, 0, p),
-        Move::GuardEvalFailure(p) => Told(32, 0, p),
-        Move::EquateBind(t) => Told(33, 1, number_of(t)),
-        Move::EquateSuccess(p) => Told(33, 0, p),
-        Move::EquateFailure(p) => Told(34, 0, p),
-        Move::EquateSuspend(t) => Told(35, 1, number_of(t)),
+        Move::Ready(p) => Told(1, PROCESS, p),
+        Move::Wake(p) => Told(2, PROCESS, p),
+        Move::Stop(p) => Told(3, PROCESS, p),
+        Move::AndParStart(p) => Told(4, PROCESS, p),
+        Move::AndParSuccess(p) => Told(5, PROCESS, p),
+        Move::AndParFailure(p) => Told(6, PROCESS, p),
+        Move::AndSeqStart(p) => Told(7, PROCESS, p),
+        Move::AndSeqNext(p) => Told(8, PROCESS, p),
+        Move::AndSeqSuccess(p) => Told(9, PROCESS, p),
+        Move::AndSeqFailure(p) => Told(10, PROCESS, p),
+        Move::OrParStart(p) => Told(11, PROCESS, p),
+        Move::OrParSpawn(p) => Told(12, PROCESS, p),
+        Move::OrParSuccess(p) => Told(13, PROCESS, p),
+        Move::OrParFailure(p) => Told(14, PROCESS, p),
+        Move::SeqSearchNone(p) => Told(15, PROCESS, p),
+        Move::SeqSearchStart(p) => Told(16, PROCESS, p),
+        Move::SeqSearchNext(p) => Told(17, PROCESS, p),
+        Move::SeqSearchSuccess(p) => Told(18, PROCESS, p),
+        Move::SeqSearchFailure(p) => Told(19, PROCESS, p),
+        Move::OrSearchStart(p) => Told(20, PROCESS, p),
+        Move::OrSearchCommit(p) => Told(21, PROCESS, p),
+        Move::OrSearchFailure(p) => Told(22, PROCESS, p),
+        Move::TryClauseStart(p) => Told(23, PROCESS, p),
+        Move::TryClauseSuccess(p) => Told(24, PROCESS, p),
+        Move::TryClauseFailure(p) => Told(25, PROCESS, p),
+        Move::InputMatchBind(t) => Told(26, VARIABLE, number_of(t)),
+        Move::InputMatchSuccess(p) => Told(26, PROCESS, p),
+        Move::InputMatchFailure(p) => Told(27, PROCESS, p),
+        Move::InputMatchSuspend(t) => Told(28, VARIABLE, number_of(t)),
+        Move::GuardEvalEmpty(p) => Told(29, PROCESS, p),
+        Move::GuardEvalStart(p) => Told(30, PROCESS, p),
+        Move::GuardEvalSuccess(p) => Told(31, PROCESS, p),
+        Move::GuardEvalFailure(p) => Told(32, PROCESS, p),
+        Move::EquateBind(t) => Told(33, VARIABLE, number_of(t)),
+        Move::EquateSuccess(p) => Told(33, PROCESS, p),
+        Move::EquateFailure(p) => Told(34, PROCESS, p),
+        Move::EquateSuspend(t) => Told(35, VARIABLE, number_of(t)),
     }
 }
 
@@ -109,7 +129,7 @@ fn move_word(m: Move) -> u64
     ensures { λ w. ⌜ w ≡ word (stepNumbers (Moved m)) ⌝ }
 {
     let t = tell(m);
-    word(0, t.0 as usize, t.1 as usize, t.2)
+    word(ACCEPTED, t.0 as usize, t.1 as usize, t.2)
 }
 
 // Of a step or a turn: the rule, and what it touched.
@@ -144,7 +164,7 @@ pub fn run_word(a: Ran) -> u64
     ensures { λ w. ⌜ w ≡ word (runNumbers a) ⌝ }
 {
     match a {
-        Ran::Ended(e, n) => word(0, end_number(e) as usize, 0, n),
+        Ran::Ended(e, n) => word(ACCEPTED, end_number(e) as usize, 0, n),
         Ran::Unrun(r) => refused(r),
     }
 }
@@ -155,7 +175,7 @@ pub fn supply_word(a: Supplied) -> u64
     ensures { λ w. ⌜ w ≡ word (supplyNumbers a) ⌝ }
 {
     match a {
-        Supplied::Given(_) => word(0, 0, 0, 0),
+        Supplied::Given(_) => word(ACCEPTED, 0, 0, 0),
         Supplied::Ungiven(r) => refused(r),
     }
 }
@@ -165,8 +185,8 @@ fn term_word(t: Term) -> u64
     ensures { λ w. ⌜ w ≡ word (termNumbers t) ⌝ }
 {
     match t {
-        Term::Const(c) => word(0, 1, 0, c as usize),
-        Term::Var(v) => word(0, 2, 0, v as usize),
+        Term::Const(c) => word(ACCEPTED, CONSTANT_VALUE, 0, c as usize),
+        Term::Var(v) => word(ACCEPTED, VARIABLE_VALUE, 0, v as usize),
     }
 }
 
@@ -186,10 +206,10 @@ pub fn watch_word(a: Found) -> u64
     ensures { λ w. ⌜ w ≡ word (watchNumbers (reached a)) ⌝ }
 {
     let Found::At(i) = a else {
-        return word(0, 0, 0, 0);
+        return word(ACCEPTED, 0, 0, 0);
     };
-    if 4294967295 < i {
-        return word(0, 0, 0, 0);
+    if MOST_NUMBER < i {
+        return word(ACCEPTED, 0, 0, 0);
     }
-    word(0, 1, 0, i)
+    word(ACCEPTED, SEEN, 0, i)
 }

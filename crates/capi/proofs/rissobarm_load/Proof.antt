@@ -3,12 +3,6 @@ use borrow.Author.Needs.{needs}
 use Rattle.capi.proofs.Laws.{load-accepted, load-refused}
 use Rattle.capi.proofs.rissobarm_load.Statement.{statement}
 use Rattle.capi.proofs.rissobarm_load.Tie as tie
-use Rattle.capi.proofs.rissobarm_load.Reads as reads
-use Rattle.capi.proofs.rissobarm_load.Lts as lts
-use Rattle.load.proofs.load.Reads as load-reads
-use Rattle.load.proofs.refusal.Reads as refusal-reads
-use Rattle.words.proofs.refused.Reads as refused-reads
-use Rattle.words.proofs.word.Reads as word-reads
 
 refused-requires : tie.Need-refused-requires
 refused-requires c κs =

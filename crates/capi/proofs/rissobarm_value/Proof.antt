@@ -2,10 +2,6 @@ use Rattle.capi.proofs.Laws.{value-fit, value-tells}
 use borrow.Author.Needs.{needs}
 use Rattle.capi.proofs.rissobarm_value.Statement.{statement}
 use Rattle.capi.proofs.rissobarm_value.Tie as tie
-use Rattle.capi.proofs.rissobarm_value.Reads as reads
-use Rattle.capi.proofs.rissobarm_value.Lts as lts
-use Rattle.machine.proofs.value.Reads as value-reads
-use Rattle.words.proofs.value_word.Reads as value-word-reads
 
 pub rissobarm-value-spec : {M : Type 1} → statement M
-rissobarm-value-spec = tie.close (tie.spec (λ c κs. search needs) (λ c κs. value-fit _ _ _ (c .value .ensures)) (λ c. value-tells _ _ _ (c .before .value .ensures) (c .value-word .ensures)))
+rissobarm-value-spec = tie.close (tie.spec (λ c κs. search needs) (λ c κs. value-fit _ _ _ _ (c .value .ensures)) (λ c. value-tells _ _ _ _ (c .before .value .ensures) (c .value-word .ensures)))

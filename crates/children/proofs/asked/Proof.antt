@@ -9,10 +9,6 @@ use mathlib.Core.Path.{sym}
 use Rattle.rows.proofs.Tables.{procs-length}
 use Rattle.children.proofs.asked.Statement.{statement}
 use Rattle.children.proofs.asked.Tie as tie
-use Rattle.children.proofs.asked.Reads as reads
-use Rattle.children.proofs.asked.Lts as lts
-use Rattle.children.proofs.listen.Reads as listen-reads
-use Rattle.children.proofs.told_by.Reads as told-by-reads
 
 abbrev Inv-loop : tie.InvT-loop
 Inv-loop procs n p x₀ q₀ x q = (q ≤ n) × Noted (procsOf procs n) p q x

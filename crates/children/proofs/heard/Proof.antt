@@ -3,10 +3,6 @@ use Rattle.children.proofs.Ways.{news-none, news-some}
 use borrow.Author.Needs.{needs}
 use Rattle.children.proofs.heard.Statement.{statement}
 use Rattle.children.proofs.heard.Tie as tie
-use Rattle.children.proofs.heard.Reads as reads
-use Rattle.children.proofs.heard.Lts as lts
-use Rattle.children.proofs.heard_from.Reads as heard-from-reads
-use Rattle.children.proofs.wide.Reads as wide-reads
 
 pub heard-spec : {M : Type 1} → statement M
-heard-spec = tie.close (tie.spec (λ c κs. search needs) (λ c κs. search needs) (λ c. news-some (procsOf ((c .before .before .before .before .before .args .procs) .now) (c .before .before .before .before .before .args .n)) (c .before .before .before .before .before .args .x) (c .before .before .if1 .taken) (c .before .wide .ensures) (c .heard-from .ensures)) (λ c. news-none (procsOf ((c .before .before .before .args .procs) .now) (c .before .before .before .args .n)) (c .before .before .before .args .x) (c .if1 .left)))
+heard-spec = tie.close (tie.spec (λ c κs. search needs) (λ c κs. search needs) (λ c. news-some (procsOf ((c .before .before .before .before .before .args .procs) .now) (c .before .before .before .before .before .args .n)) (c .before .before .before .before .before .args .x) (c .before .before .if1 .taken) (c .before .wide-u16 .ensures) (c .heard-from .ensures)) (λ c. news-none (procsOf ((c .before .before .before .args .procs) .now) (c .before .before .before .args .n)) (c .before .before .before .args .x) (c .if1 .left)))

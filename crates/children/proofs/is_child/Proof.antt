@@ -3,20 +3,14 @@ use Rattle.parlog.specs.Tree.{isChild}
 use borrow.Author.Needs.{needs}
 use Rattle.children.proofs.is_child.Statement.{statement}
 use Rattle.children.proofs.is_child.Tie as tie
-use Rattle.children.proofs.is_child.Reads as reads
-use Rattle.children.proofs.is_child.Lts as lts
-use Rattle.children.proofs.wide.Reads as wide-reads
-use Rattle.rows.proofs.parent_at.Reads as parent-at-reads
 
--- src/lib.rt:181:9
 returns : tie.Need-returns
 unfolding isChild
 returns c = rw (eq-eqb _ _ (c .if1 .taken))
 
--- src/lib.rt:176:1
 returns-2 : tie.Need-returns-2
 unfolding isChild
-returns-2 c = rw (ne-eqb _ _ (c .before .before .if1 .left), (c .wide .ensures), (c .before .parent-at .ensures))
+returns-2 c = rw (ne-eqb _ _ (c .before .before .if1 .left), (c .wide-u16 .ensures), (c .before .parent-at .ensures))
 
 pub is-child-spec : {M : Type 1} → statement M
 is-child-spec = tie.close (tie.spec returns (λ c κs. search needs) (λ c κs. search needs) returns-2)

@@ -4,11 +4,6 @@ use Rattle.children.proofs.Noting.{noted-child, noted-other}
 use borrow.Author.Needs.{needs}
 use Rattle.children.proofs.listen.Statement.{statement}
 use Rattle.children.proofs.listen.Tie as tie
-use Rattle.children.proofs.listen.Reads as reads
-use Rattle.children.proofs.listen.Lts as lts
-use Rattle.children.proofs.hear.Reads as hear-reads
-use Rattle.children.proofs.is_child.Reads as is-child-reads
-use Rattle.children.proofs.note_of.Reads as note-of-reads
 
 pub listen-spec : {M : Type 1} → statement M
 listen-spec =

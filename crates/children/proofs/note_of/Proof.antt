@@ -2,10 +2,6 @@ use Rattle.children.proofs.Ways.{note-bad, note-good, note-none, note-u
 use borrow.Author.Needs.{needs}
 use Rattle.children.proofs.note_of.Statement.{statement}
 use Rattle.children.proofs.note_of.Tie as tie
-use Rattle.children.proofs.note_of.Reads as reads
-use Rattle.children.proofs.note_of.Lts as lts
-use Rattle.rows.proofs.mode_at.Reads as mode-at-reads
-use Rattle.rows.proofs.result_at.Reads as result-at-reads
 
 pub note-of-spec : {M : Type 1} → statement M
 note-of-spec =

@@ -2,15 +2,11 @@ use borrow.Author.Tests.{eq-eqb, ne-eqb}
 use Rattle.children.specs.Notes.{hear}
 use Rattle.children.proofs.with.Statement.{statement}
 use Rattle.children.proofs.with.Tie as tie
-use Rattle.children.proofs.with.Reads as reads
-use Rattle.children.proofs.with.Lts as lts
 
--- src/lib.rt:65:9
 returns : tie.Need-returns
 unfolding hear
 returns c = rw (eq-eqb _ _ (c .if1 .taken))
 
--- src/lib.rt:61:1
 returns-2 : tie.Need-returns-2
 unfolding hear
 returns-2 c = rw (ne-eqb _ _ (c .if1 .left))

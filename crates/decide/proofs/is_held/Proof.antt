@@ -5,7 +5,7 @@ use Rattle.decide.proofs.is_held.Tie as tie
 
 returns : tie.Need-returns
 unfolding heldBy
-returns c = cc
+returns c = rw (← (c .before .is-input .ensures)) (c .or .ensures)
 
 pub is-held-spec : {M : Type 1} → statement M
 is-held-spec = tie.close (tie.spec (λ c κs. search needs) (λ c κs. search needs) returns)

@@ -5,11 +5,6 @@ use Rattle.decide.proofs.Pairs.{pairs-four}
 use Rattle.decide.proofs.pairs_of.Statement.{statement}
 use Rattle.decide.proofs.pairs_of.Tie as tie
 
-returns : tie.Need-returns
-returns c = let p = (c .before .before .before .before .before .before .before .before .before .before .before .before .before .before .before .pre) in
-    pairs-four _ _ _ _ _ _ (p .3) (p .4) (p .5) (c .before .before .before .before .before .before .out-after .ensures .0) (c .before .before .before .before .before .out-after2 .ensures .0) (c .before .before .before .before .out-after3 .ensures .0)
-    (c .before .before .before .pair-of .ensures) (c .before .before .pair-of2 .ensures) (c .before .pair-of3 .ensures) (c .pair-of4 .ensures)
-
 pub pairs-of-spec : {M : Type 1} → statement M
 pairs-of-spec =
     tie.close
@@ -17,20 +12,11 @@ pairs-of-spec =
     (λ c. search needs)
     (λ c. search needs)
     (λ c. search needs)
-    (λ c. search needs)
-    (λ c. search needs)
-    (λ c. search needs)
-    (λ c. search needs)
-    (λ c. search needs)
-    (λ c. search needs)
-    (λ c. search needs)
-    (λ c. search needs)
-    (λ c. search needs)
     (λ c κs. search needs)
     (λ c κs. search needs)
     (λ c κs. search needs)
-    (λ c κs. ((c .before .before .before .before .before .before .before .before .before .before .before .pre .0) 0 (lit< tt), (c .before .before .before .before .before .before .before .before .before .before .before .pre .1) 0 (lit< tt), omega arith))
-    (λ c κs. ((c .before .before .before .before .before .before .before .before .before .before .before .before .pre .0) 1 (lit< tt), (c .before .before .before .before .before .before .before .before .before .before .before .before .pre .1) 1 (lit< tt), omega arith))
-    (λ c κs. ((c .before .before .before .before .before .before .before .before .before .before .before .before .before .pre .0) 2 (lit< tt), (c .before .before .before .before .before .before .before .before .before .before .before .before .before .pre .1) 2 (lit< tt), omega arith))
-    (λ c κs. ((c .before .before .before .before .before .before .before .before .before .before .before .before .before .before .pre .0) 3 (lit< tt), (c .before .before .before .before .before .before .before .before .before .before .before .before .before .before .pre .1) 3 (lit< tt), omega arith))
-    returns)
+    (λ c κs. let p = (c .before .before .before .pre) in (lit< tt, p .3, p .4, p .5, p .0 0 (lit< tt), p .1 0 (lit< tt), omega arith))
+    (λ c κs. let p = (c .before .before .before .before .pre) in (lit< tt, p .3, p .4, p .5, p .0 1 (lit< tt), p .1 1 (lit< tt), omega arith))
+    (λ c κs. let p = (c .before .before .before .before .before .pre) in (lit< tt, p .3, p .4, p .5, p .0 2 (lit< tt), p .1 2 (lit< tt), omega arith))
+    (λ c κs. let p = (c .before .before .before .before .before .before .pre) in (lit< tt, p .3, p .4, p .5, p .0 3 (lit< tt), p .1 3 (lit< tt), omega arith))
+    (λ c. let p = (c .before .before .before .before .before .before .before .pre) in pairs-four _ _ _ _ _ _ (p .3) (p .4) (p .5) (c .before .before .before .before .before .before .out-after .ensures .0) (c .before .before .before .before .before .out-after2 .ensures .0) (c .before .before .before .before .out-after3 .ensures .0) (c .before .before .before .pair-at .ensures) (c .before .before .pair-at2 .ensures) (c .before .pair-at3 .ensures) (c .pair-at4 .ensures)))

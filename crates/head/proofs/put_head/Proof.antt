@@ -1,19 +1,19 @@
 use Rattle.head.proofs.Laws.{paste-all, paste-one}
-use Rattle.parlog.specs.Tables.{headBytes}
+use Rattle.parlog.specs.Tables.{headBytes, headSize}
 use lib.Seq.{paste, paste-zero}
-use lib.ListN.{length, length-set}
+use lib.ListN.{length}
 use borrow.Author.Needs.{needs}
 use native.Mathlib.Omega.{arith}
-use mathlib.Core.Path.{_≡_, sym, _∙_}
-use Prim.Native.Nat.{_≤_, _-_, _+_, _<_}
+use mathlib.Core.Path.{_≡_, _∙_}
+use Prim.Native.Nat.{_≤_, _-_}
 use Rattle.head.proofs.put_head.Statement.{statement}
 use Rattle.head.proofs.put_head.Tie as tie
 
 abbrev Inv-loop : tie.InvT-loop
-Inv-loop head₀ n m last steps row k₀ head k = (k ≤ 10) × (length row ≡ 10) × (length head₀ ≡ 10) × (length head ≡ 10) × (row ≡ headBytes n m last steps) × (head ≡ paste head₀ 0 row k)
+Inv-loop head₀ n m last steps row k₀ head k = (k ≤ headSize) × (length row ≡ headSize) × (length head₀ ≡ headSize) × (length head ≡ headSize) × (row ≡ headBytes n m last steps) × (head ≡ paste head₀ 0 row k)
 
 abbrev μ-loop : tie.MeasureT-loop
-μ-loop head₀ n m last steps row k₀ head k = 10 - k
+μ-loop head₀ n m last steps row k₀ head k = headSize - k
 
 pub put-head-spec : {M : Type 1} → statement M
 put-head-spec =

@@ -1,10 +1,6 @@
 use borrow.Author.Needs.{needs}
 use Rattle.load.proofs.block_with.Statement.{statement}
 use Rattle.load.proofs.block_with.Tie as tie
-use Rattle.load.proofs.block_with.Reads as reads
-use Rattle.load.proofs.block_with.Lts as lts
-use Rattle.load.proofs.and.Reads as and-reads
-use Rattle.load.proofs.follows.Reads as follows-reads
 
 pub block-with-spec : {M : Type 1} → statement M
 block-with-spec =

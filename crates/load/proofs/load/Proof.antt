@@ -4,10 +4,6 @@ use native.Mathlib.Omega.{arith}
 use borrow.Author.Needs.{needs}
 use Rattle.load.proofs.load.Statement.{statement}
 use Rattle.load.proofs.load.Tie as tie
-use Rattle.load.proofs.load.Reads as reads
-use Rattle.load.proofs.load.Lts as lts
-use Rattle.load.proofs.records.Reads as records-reads
-use Rattle.load.proofs.refused.Reads as refused-reads
 
 returns : tie.Need-returns
 unfolding loadOf long

@@ -1,15 +1,10 @@
 use Rattle.load.proofs.Room.{few-relations, few-clauses, block-room}
 use Rattle.parlog.specs.Load.{progressed}
-use mathlib.Core.Path.{refl}
 use native.Mathlib.Omega.{arith}
 use borrow.Author.Tests.{eq-eqb, ne-eqb}
 use borrow.Author.Needs.{needs}
 use Rattle.load.proofs.progressed.Statement.{statement}
 use Rattle.load.proofs.progressed.Tie as tie
-use Rattle.load.proofs.progressed.Reads as reads
-use Rattle.load.proofs.progressed.Lts as lts
-use Rattle.load.proofs.block_with.Reads as block-with-reads
-use Rattle.place.proofs.byte_at.Reads as byte-at-reads
 
 returns : tie.Need-returns
 unfolding progressed
@@ -22,7 +17,7 @@ returns-2 : tie.Need-returns-2
 unfolding progressed
 returns-2 c = let b = c .before .before .before .before .before .before .before in
     let k = c .before .before .before .before .if2 .taken in (
-      rw (ne-eqb _ _ (c .before .before .before .before .before .if1 .left), eq-eqb _ _ k) (cc),
+      rw (ne-eqb _ _ (c .before .before .before .before .before .if1 .left), eq-eqb _ _ k, c .before .block-with .ensures, c .before .before .byte-at2 .ensures .0, c .before .before .before .byte-at .ensures .0),
       record {
         relations = b .pre .0 .relations;
         clauses = omega (arith, few-clauses (b .args .g) (b .args .kind) k (b .pre .1 .1 .0));

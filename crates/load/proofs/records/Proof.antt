@@ -1,32 +1,28 @@
 use borrow.Author.Needs.{needs}
 use Rattle.load.proofs.Accepted.{Reached, all-passed, reached, kept, nothing-reached}
-use Rattle.load.proofs.Turn.{Left, whole, stops, goes, ends}
-use Rattle.load.specs.Reading.{Arities}
+use Rattle.load.proofs.Turn.{ends, goes, passed, stops}
+use Rattle.load_names.specs.Reading.{Arities}
+use Rattle.parlog.proofs.Walk.{whole}
+use Rattle.parlog.specs.Records.{cut}
 use Rattle.load.specs.Bounds.{Small}
-use Rattle.parlog.specs.Load.{nothingRead, records}
+use Rattle.parlog.specs.Load.{nothingRead, records, verdict}
 use borrow.Author.Tests.{eq-eqb, ne-eqb}
 use lib.ListN.{length}
-use Prim.Native.Nat.{ℕ, _≤_, _+_, _-_}
-use mathlib.Core.Path.{_≡_, refl, sym, _∙_}
+use Prim.Native.Nat.{_-_}
+use mathlib.Core.Path.{_≡_, refl}
 use native.Mathlib.Omega.{arith}
 use Rattle.load.proofs.records.Statement.{statement}
 use Rattle.load.proofs.records.Tie as tie
-use Rattle.load.proofs.records.Reads as reads
-use Rattle.load.proofs.records.Lts as lts
-use Rattle.load.proofs.refused.Reads as refused-reads
-use Rattle.load.proofs.test_record.Reads as test-record-reads
-use Rattle.place.proofs.byte_at.Reads as byte-at-reads
-use Rattle.place.proofs.word_at.Reads as word-at-reads
 
 abbrev Inv-loop : tie.InvT-loop
-Inv-loop s n arities₀ at₀ g₀ arities at g = Left s at g (records s (length s) 0 nothingRead) × Small g × Reached s g at × Arities s (g .relations) arities × (length arities ≡ 33)
+Inv-loop s n arities₀ at₀ g₀ arities at g = (records s (length s) at g ≡ records s (length s) 0 nothingRead) × Small g × Reached s g at × Arities s (g .relations) arities × (length arities ≡ 33)
 
 abbrev μ-loop : tie.MeasureT-loop
 μ-loop s n arities₀ at₀ g₀ arities at g = length s - at
 
 loop-holds : tie.Need-loop-holds Inv-loop μ-loop
 loop-holds c = let s = (c .before .args .s .now) in
-    ((length s, omega arith, refl), record { relations = omega arith; clauses = omega arith; block = omega arith }, nothing-reached s, record { arity = λ k h. absurd (omega arith) }, refl)
+    (refl, record { relations = omega arith; clauses = omega arith; block = omega arith }, nothing-reached s, record { arity = λ k h. absurd (omega arith) }, refl)
 
 test-record-requires : tie.Need-test-record-requires Inv-loop μ-loop
 test-record-requires c κs = let i = (c .before .before .before .loop .inv) in
@@ -34,39 +30,42 @@ test-record-requires c κs = let i = (c .before .before .before .loop .inv) in
     (i .3, (i .1, omega arith))
 
 returns : tie.Need-returns Inv-loop μ-loop
-returns c = let l = (c .before .before .before .before .before .before .before .before .before .loop) in
-    let s = (c .before .before .before .before .before .before .before .before .before .before .before .args .s .now) in
+returns c = let l = c .before .before .before .before .before .before .before .before .before .loop in
+    let s = c .before .before .before .before .before .before .before .before .before .before .before .args .s .now in
     let w = l .inv .2 .within in
-    let z = rw (c .before .before .v .given .1) at (c .before .before .before .before .before .test-record .ensures .1) in
-    let e = stops s (l .g) (l .at) _ _ (c .before .before .before .before .before .before .before .before .loop-test .taken) (sym (c .before .before .before .before .before .test-record .ensures .0) ∙ (c .before .before .v .given .1)) (l .inv .0) in
-    ((c .refused .ensures) ∙ e, rw (c .refused .ensures) (z .0, z .1, omega arith))
+    let v = c .before .before .v .given .1 in
+    let z = rw v at (c .before .before .before .before .before .test-record .ensures .1) in
+    let e = stops s (l .g) (l .at) _ (c .before .before .before .before .before .before .before .before .loop-test .taken) (rw (c .before .before .before .before .before .test-record .ensures .0) at v) in
+    (rw (c .refused .ensures) (rw e at (l .inv .0)), rw (c .refused .ensures) (z .0, z .1, omega arith))
 
 loop-less : tie.Need-loop-less Inv-loop μ-loop
-loop-less c = let l = (c .before .before .before .before .before .before .before .before .loop) in
-    let s = (c .before .before .before .before .before .before .before .before .before .before .args .s .now) in
-    let w = whole s (l .g) _ (l .at) (sym ((c .before .before .before .before .test-record .ensures .0)) ∙ (c .before .v2 .given .1)) in
+loop-less c = let l = c .before .before .before .before .before .before .before .before .loop in
+    let s = c .before .before .before .before .before .before .before .before .before .before .args .s .now in
+    let p = passed (cut s (l .at)) 2 (verdict s (l .g) (l .at)) _ (rw (c .before .before .before .before .test-record .ensures .0) at (c .before .v2 .given .1)) in
+    let w = whole s (l .at) (p .0) in
     omega arith
 
 loop-again : tie.Need-loop-again Inv-loop μ-loop
-loop-again c = let l = (c .before .before .before .before .before .before .before .before .loop) in
-    let s = (c .before .before .before .before .before .before .before .before .before .before .args .s .now) in
-    let e = sym ((c .before .before .before .before .test-record .ensures .0)) ∙ (c .before .v2 .given .1) in
-    let p = all-passed s (l .g) _ (l .at) e in (
-      rw ((c .before .before .before .before .before .before .word-at .ensures .0)) (goes s (l .g) _ (l .at) _ ((c .before .before .before .before .before .before .before .loop-test .taken)) e (l .inv .0)),
-      rw ((c .before .v2 .given .1)) at ((c .before .before .before .before .test-record .ensures .1)),
-      rw ((c .before .before .before .before .before .before .word-at .ensures .0)) (reached s (l .g) _ (l .at) (l .inv .2) p),
-      rw ((c .before .before .before .byte-at .ensures .0)) (kept s (l .g) _ (l .at) (l .inv .2) p (l .arities) (l .inv .4) (l .inv .3)),
+loop-again c = let l = c .before .before .before .before .before .before .before .before .loop in
+    let s = c .before .before .before .before .before .before .before .before .before .before .args .s .now in
+    let v = c .before .v2 .given .1 in
+    let e = rw (c .before .before .before .before .test-record .ensures .0) at v in
+    let b = passed (cut s (l .at)) 2 (verdict s (l .g) (l .at)) _ e in
+    let p = all-passed s (l .g) _ (l .at) (b .0) (b .1) in (
+      rw (c .before .before .before .before .before .before .end-at .ensures .0) (rw (goes s (l .g) (l .at) _ (c .before .before .before .before .before .before .before .loop-test .taken) e) at (l .inv .0)),
+      rw v at (c .before .before .before .before .test-record .ensures .1),
+      rw (c .before .before .before .before .before .before .end-at .ensures .0) (reached s (l .g) _ (l .at) (l .inv .2) p),
+      rw (c .before .before .before .byte-at .ensures .0) (kept s (l .g) _ (l .at) (l .inv .2) p (l .arities) (l .inv .4) (l .inv .3)),
       search needs,
     )
 
 returns-2 : tie.Need-returns-2 Inv-loop μ-loop
-returns-2 c = let l = (c .before .before .before .loop) in
-    (rw (eq-eqb _ _ ((c .if1 .taken))) at (ends ((c .before .before .before .before .before .args .s .now)) (l .g) (l .at) _ ((c .before .before .loop-test .left)) (l .inv .0)), (l .inv .1 .relations, l .inv .1 .clauses, omega arith))
+returns-2 c = let l = c .before .before .before .loop in
+    (rw (ends (c .before .before .before .before .before .args .s .now) (l .g) (l .at) (c .before .before .loop-test .left), eq-eqb _ _ (c .if1 .taken)) at (l .inv .0), (l .inv .1 .relations, l .inv .1 .clauses, omega arith))
 
 returns-3 : tie.Need-returns-3 Inv-loop μ-loop
-returns-3 c = let l = (c .before .before .before .before .loop) in
-    let e = rw (ne-eqb _ _ (c .before .if1 .left)) at (ends (c .before .before .before .before .before .before .args .s .now) (l .g) (l .at) _ (c .before .before .before .loop-test .left) (l .inv .0)) in
-    ((c .refused2 .ensures) ∙ e, rw (c .refused2 .ensures) (omega arith))
+returns-3 c = let l = c .before .before .before .before .loop in
+    (rw (c .refused2 .ensures) (rw (ends (c .before .before .before .before .before .before .args .s .now) (l .g) (l .at) (c .before .before .before .loop-test .left), ne-eqb _ _ (c .before .if1 .left)) at (l .inv .0)), rw (c .refused2 .ensures) (omega arith))
 
 pub records-spec : {M : Type 1} → statement M
 records-spec =
@@ -76,7 +75,6 @@ records-spec =
     μ-loop
     loop-holds
     (λ c κs. let w = (c .before .loop .inv .2 .within) in omega arith)
-    (λ c. let w = (c .before .before .loop .inv .2 .within) in omega arith)
     test-record-requires
     (λ c. let w = (c .before .before .before .before .loop .inv .2 .within) in omega arith)
     (λ c κs. search needs)

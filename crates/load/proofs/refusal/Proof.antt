@@ -1,8 +1,6 @@
 use borrow.Author.Needs.{needs}
 use Rattle.load.proofs.refusal.Statement.{statement}
 use Rattle.load.proofs.refusal.Tie as tie
-use Rattle.load.proofs.refusal.Reads as reads
-use Rattle.load.proofs.refusal.Lts as lts
 
 pub refusal-spec : {M : Type 1} → statement M
 refusal-spec = tie.close (tie.spec (λ c. search needs) (λ c. search needs) (λ c. rw (c .enum-told .given .1)) (λ c. rw (c .before .l .given .1)))

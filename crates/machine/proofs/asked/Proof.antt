@@ -4,13 +4,6 @@ use native.Mathlib.Omega.{arith}
 use borrow.Author.Needs.{needs}
 use Rattle.machine.proofs.asked.Statement.{statement}
 use Rattle.machine.proofs.asked.Tie as tie
-use Rattle.machine.proofs.asked.Reads as reads
-use Rattle.machine.proofs.asked.Lts as lts
-use Rattle.head.proofs.var_count.Reads as var-count-reads
-use Rattle.machine.proofs.given.Reads as given-reads
-use Rattle.machine.proofs.refusal.Reads as refusal-reads
-use Rattle.program.proofs.goal_vars.Reads as goal-vars-reads
-use Rattle.unify.proofs.value_of.Reads as value-of-reads
 
 pub asked-spec : {M : Type 1} → statement M
 asked-spec =

@@ -1,15 +1,12 @@
 use Rattle.machine.proofs.Beginning.{begun}
+use Rattle.parlog.proofs.Limits.{small-usable}
+use Rattle.parlog.specs.Limits.{small}
 use borrow.Author.Needs.{needs}
 use Rattle.machine.proofs.begin.Statement.{statement}
 use Rattle.machine.proofs.begin.Tie as tie
-use Rattle.machine.proofs.begin.Reads as reads
-use Rattle.machine.proofs.begin.Lts as lts
-use Rattle.head.proofs.put_head.Reads as put-head-reads
-use Rattle.machine.proofs.begin_procs.Reads as begin-procs-reads
-use Rattle.program.proofs.goal_vars.Reads as goal-vars-reads
-use Rattle.rows.proofs.wipe.Reads as wipe-reads
 
 pub begin-spec : {M : Type 1} → statement M
+unfolding small
 begin-spec =
     tie.close
     (tie.spec
@@ -20,4 +17,4 @@ begin-spec =
     (λ c. search needs)
     (λ c. search needs)
     (λ c. search needs)
-    (λ c. begun _ (c .before .before .before .before .before .before .before .before .before .before .before .before .goal-vars .ensures .0) (c .before .before .before .before .before .before .before .before .before .before .before .before .goal-vars .ensures .1) _ _ _ _ (c .before .before .put-head .ensures) (c .before .before .before .before .before .before .before .before .before .before .begin-procs .ensures) (c .before .before .before .before .before .before .before .before .before .before .before .before .before .before .before .before .before .pre .4) (c .before .before .before .before .before .before .wipe .ensures)))
+    (λ c. begun _ small-usable _ (c .before .before .before .before .before .before .before .before .before .before .before .before .goal-vars .ensures .0) (c .before .before .before .before .before .before .before .before .before .before .before .before .goal-vars .ensures .1) _ _ _ _ (c .before .before .put-head .ensures) (c .before .before .before .before .before .before .before .before .before .before .begin-procs .ensures) (c .before .before .before .before .before .before .before .before .before .before .before .before .before .before .before .before .before .pre .4) (c .before .before .before .before .before .before .wipe .ensures)))

@@ -1,24 +1,21 @@
 use Rattle.machine.proofs.Entering.{enter-entered, enter-refused, enter-turned}
 use borrow.Author.Tests.{not-false, not-true}
 use native.Mathlib.Omega.{arith}
+use Rattle.parlog.specs.Limits.{small}
 use borrow.Author.Needs.{needs}
 use Rattle.machine.proofs.enter.Statement.{statement}
 use Rattle.machine.proofs.enter.Tie as tie
-use Rattle.machine.proofs.enter.Reads as reads
-use Rattle.machine.proofs.enter.Lts as lts
-use Rattle.load.proofs.load.Reads as load-reads
-use Rattle.machine.proofs.refusal.Reads as refusal-reads
-use Rattle.table_rules.proofs.lent_ok.Reads as lent-ok-reads
 
 pub enter-spec : {M : Type 1} → statement M
+unfolding small
 enter-spec =
     tie.close
     (tie.spec
     (λ c κs. search needs)
     (λ c. search needs)
     (λ c. search needs)
-    (λ c. enter-refused _ _ (c .before .before .load .ensures .0) (c .enum-told .given .1))
+    (λ c. enter-refused _ _ _ (c .before .before .load .ensures .0) (c .enum-told .given .1))
     (λ c κs. let h = rw (c .before .l .given .1) at (c .before .before .before .load .ensures .1) in (h .0, h .1, omega arith, omega arith))
     (λ c κs. search needs)
-    (λ c. enter-turned _ _ (c .before .before .before .before .before .before .load .ensures .0) (c .before .before .before .before .l .given .1) (c .before .before .lent-ok .ensures) (not-true _ (c .before .if1 .taken)) (c .refusal .ensures))
-    (λ c. enter-entered _ _ (c .before .before .before .before .before .load .ensures .0) (c .before .before .before .l .given .1) (c .before .lent-ok .ensures) (not-false _ (c .if1 .left)) (c .before .before .before .before .before .load .ensures .1)))
+    (λ c. enter-turned _ _ _ (c .before .before .before .before .before .before .load .ensures .0) (c .before .before .before .before .l .given .1) (c .before .before .lent-ok .ensures) (not-true _ (c .before .if1 .taken)) (c .refusal .ensures))
+    (λ c. enter-entered _ _ _ (c .before .before .before .before .before .load .ensures .0) (c .before .before .before .l .given .1) (c .before .lent-ok .ensures) (not-false _ (c .if1 .left)) (c .before .before .before .before .before .load .ensures .1)))

@@ -3,11 +3,6 @@ use borrow.Author.Tests.{ltb-false, ltb-true}
 use borrow.Author.Needs.{needs}
 use Rattle.machine.proofs.given.Statement.{statement}
 use Rattle.machine.proofs.given.Tie as tie
-use Rattle.machine.proofs.given.Reads as reads
-use Rattle.machine.proofs.given.Lts as lts
-use Rattle.machine.proofs.is_const.Reads as is-const-reads
-use Rattle.machine.proofs.number_of.Reads as number-of-reads
-use Rattle.machine.proofs.refusal.Reads as refusal-reads
 
 pub given-spec : {M : Type 1} → statement M
 given-spec =

@@ -2,9 +2,6 @@ use Rattle.machine.proofs.Beginning.{process-new}
 use borrow.Author.Needs.{needs}
 use Rattle.machine.proofs.goal_process.Statement.{statement}
 use Rattle.machine.proofs.goal_process.Tie as tie
-use Rattle.machine.proofs.goal_process.Reads as reads
-use Rattle.machine.proofs.goal_process.Lts as lts
-use Rattle.program.proofs.tag_of_goal_by.Reads as tag-of-goal-by-reads
 
 pub goal-process-spec : {M : Type 1} → statement M
-goal-process-spec = tie.close (tie.spec (λ c κs. search needs) (λ c. process-new _ (c .tag-of-goal-by .ensures .0)))
+goal-process-spec = tie.close (tie.spec (λ c κs. search needs) (λ c. process-new _ (c .tag-of-goal .ensures .0)))

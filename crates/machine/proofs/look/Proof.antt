@@ -3,12 +3,6 @@ use native.Mathlib.Omega.{arith}
 use borrow.Author.Needs.{needs}
 use Rattle.machine.proofs.look.Statement.{statement}
 use Rattle.machine.proofs.look.Tie as tie
-use Rattle.machine.proofs.look.Reads as reads
-use Rattle.machine.proofs.look.Lts as lts
-use Rattle.head.proofs.var_count.Reads as var-count-reads
-use Rattle.machine.proofs.refusal.Reads as refusal-reads
-use Rattle.program.proofs.goal_vars.Reads as goal-vars-reads
-use Rattle.unify.proofs.value_of.Reads as value-of-reads
 
 pub look-spec : {M : Type 1} → statement M
 look-spec =

@@ -1,12 +1,8 @@
 use Rattle.machine.proofs.Beginning.{sized-of, start-begun, start-refused}
+use Rattle.parlog.specs.Limits.{small}
 use borrow.Author.Needs.{needs}
 use Rattle.machine.proofs.start.Statement.{statement}
 use Rattle.machine.proofs.start.Tie as tie
-use Rattle.machine.proofs.start.Reads as reads
-use Rattle.machine.proofs.start.Lts as lts
-use Rattle.load.proofs.refusal.Reads as refusal-reads
-use Rattle.machine.proofs.begin.Reads as begin-reads
-use Rattle.machine.proofs.startable.Reads as startable-reads
 
 pub start-spec : {M : Type 1} → statement M
 start-spec =
@@ -19,9 +15,9 @@ start-spec =
     (λ c. search needs)
     (λ c. search needs)
     (λ c. search needs)
-    (λ c. start-refused _ _ (c .before .before .before .startable .ensures) (c .before .enum-told .given .1) (c .refusal .ensures))
-    (λ c κs. let k = sized-of _ _ (c .before .before .before .before .before .before .startable .ensures) (c .before .before .before .before .a .given .1) in (k .0, k .1, k .2, k .3, k .4))
+    (λ c. start-refused _ _ _ (c .before .before .before .startable .ensures) (c .before .enum-told .given .1) (c .refusal .ensures))
+    (λ c κs. unfold small in let k = sized-of _ _ _ (c .before .before .before .before .before .before .startable .ensures) (c .before .before .before .before .a .given .1) in (k .0, k .1, k .2, k .3, k .4))
     (λ c. search needs)
     (λ c. search needs)
     (λ c. search needs)
-    (λ c. start-begun _ _ (c .before .before .before .before .before .before .before .before .before .before .before .before .before .startable .ensures) (c .before .before .before .before .before .before .before .before .before .before .before .a .given .1) (c .before .before .before .before .before .before .begin .ensures)))
+    (λ c. start-begun _ _ _ (c .before .before .before .before .before .before .before .before .before .before .before .before .before .startable .ensures) (c .before .before .before .before .before .before .before .before .before .before .before .a .given .1) (c .before .before .before .before .before .before .begin .ensures)))

@@ -7,9 +7,6 @@ use native.Mathlib.Omega.{arith}
 use borrow.Author.Needs.{needs}
 use Rattle.place.proofs.literals_end.Statement.{statement}
 use Rattle.place.proofs.literals_end.Tie as tie
-use Rattle.place.proofs.literals_end.Reads as reads
-use Rattle.place.proofs.literals_end.Lts as lts
-use Rattle.place.proofs.byte_at.Reads as byte-at-reads
 
 abbrev Inv-loop : tie.InvT-loop
 Inv-loop s n from at₀ left₀ at left = (along (literalEnd s) left at ≡ literalsEnd s n from) × (at + 512 * left ≤ from + 512 * n)
@@ -19,11 +16,11 @@ abbrev μ-loop : tie.MeasureT-loop
 
 loop-again : tie.Need-loop-again Inv-loop μ-loop
 loop-again c = let p = c .before .before .loop in
-    (cc (along-more (literalEnd (c .before .before .before .before .args .s .now)) (p .left) (p .at) (c .before .loop-test .taken)), omega arith)
+    (rw (c .byte-at .ensures .0, ← along-more (literalEnd (c .before .before .before .before .args .s .now)) (p .left) (p .at) (c .before .loop-test .taken)) (p .inv .0), omega arith)
 
 returns : tie.Need-returns Inv-loop μ-loop
 returns c = let e : c .before .loop .left ≡ 0 = omega arith in
-    (cc (along-none (literalEnd (c .before .before .before .args .s .now)) (c .before .loop .at) e), omega arith)
+    (rw (← along-none (literalEnd (c .before .before .before .args .s .now)) (c .before .loop .at) e) (c .before .loop .inv .0), omega arith)
 
 pub literals-end-spec : {M : Type 1} → statement M
 literals-end-spec =

@@ -4,12 +4,8 @@ use Rattle.parlog.specs.Image.{recordEnd, recordAt}
 use mathlib.Core.Path.{_≡_, refl}
 use Prim.Native.Nat.{_≤_, _+_, _*_}
 use native.Mathlib.Omega.{arith}
-use borrow.Author.Needs.{needs}
 use Rattle.place.proofs.record_at.Statement.{statement}
 use Rattle.place.proofs.record_at.Tie as tie
-use Rattle.place.proofs.record_at.Reads as reads
-use Rattle.place.proofs.record_at.Lts as lts
-use Rattle.place.proofs.word_at.Reads as word-at-reads
 
 abbrev Inv-loop : tie.InvT-loop
 Inv-loop s k at₀ left₀ at left = (along (recordEnd s) left at ≡ recordAt s k) × (at + 65535 * left ≤ 65535 * k)
@@ -19,11 +15,11 @@ abbrev μ-loop : tie.MeasureT-loop
 
 loop-again : tie.Need-loop-again Inv-loop μ-loop
 loop-again c = let p = c .before .before .loop in
-    (cc (along-more (recordEnd (c .before .before .before .before .args .s .now)) (p .left) (p .at) (c .before .loop-test .taken)), omega arith)
+    (rw (c .word-at .ensures .0, ← along-more (recordEnd (c .before .before .before .before .args .s .now)) (p .left) (p .at) (c .before .loop-test .taken)) (p .inv .0), omega arith)
 
 returns : tie.Need-returns Inv-loop μ-loop
 returns c = let e : c .before .loop .left ≡ 0 = omega arith in
-    (cc (along-none (recordEnd (c .before .before .before .args .s .now)) (c .before .loop .at) e), omega arith)
+    (rw (← along-none (recordEnd (c .before .before .before .args .s .now)) (c .before .loop .at) e) (c .before .loop .inv .0), omega arith)
 
 pub record-at-spec : {M : Type 1} → statement M
 record-at-spec =

@@ -3,14 +3,10 @@ use native.Mathlib.Omega.{arith}
 use borrow.Author.Needs.{needs}
 use Rattle.place.proofs.stage_end.Statement.{statement}
 use Rattle.place.proofs.stage_end.Tie as tie
-use Rattle.place.proofs.stage_end.Reads as reads
-use Rattle.place.proofs.stage_end.Lts as lts
-use Rattle.place.proofs.byte_at.Reads as byte-at-reads
-use Rattle.place.proofs.literals_end.Reads as literals-end-reads
 
 returns : tie.Need-returns
 unfolding stageEnd
-returns c = (cc, omega arith)
+returns c = (rw (← c .before .byte-at .ensures .0) (c .literals-end .ensures .0), omega arith)
 
 pub stage-end-spec : {M : Type 1} → statement M
 stage-end-spec =

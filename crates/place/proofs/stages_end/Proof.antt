@@ -4,12 +4,8 @@ use Rattle.parlog.specs.Image.{stageEnd, stagesEnd}
 use mathlib.Core.Path.{_≡_, refl}
 use Prim.Native.Nat.{_≤_, _+_, _*_}
 use native.Mathlib.Omega.{arith}
-use borrow.Author.Needs.{needs}
 use Rattle.place.proofs.stages_end.Statement.{statement}
 use Rattle.place.proofs.stages_end.Tie as tie
-use Rattle.place.proofs.stages_end.Reads as reads
-use Rattle.place.proofs.stages_end.Lts as lts
-use Rattle.place.proofs.stage_end.Reads as stage-end-reads
 
 abbrev Inv-loop : tie.InvT-loop
 Inv-loop s n from at₀ left₀ at left = (along (stageEnd s) left at ≡ stagesEnd s n from) × (at + 130561 * left ≤ from + 130561 * n)
@@ -19,11 +15,11 @@ abbrev μ-loop : tie.MeasureT-loop
 
 loop-again : tie.Need-loop-again Inv-loop μ-loop
 loop-again c = let p = c .before .before .loop in
-    (cc (along-more (stageEnd (c .before .before .before .before .args .s .now)) (p .left) (p .at) (c .before .loop-test .taken)), omega arith)
+    (rw (c .stage-end .ensures .0, ← along-more (stageEnd (c .before .before .before .before .args .s .now)) (p .left) (p .at) (c .before .loop-test .taken)) (p .inv .0), omega arith)
 
 returns : tie.Need-returns Inv-loop μ-loop
 returns c = let e : c .before .loop .left ≡ 0 = omega arith in
-    (cc (along-none (stageEnd (c .before .before .before .args .s .now)) (c .before .loop .at) e), omega arith)
+    (rw (← along-none (stageEnd (c .before .before .before .args .s .now)) (c .before .loop .at) e) (c .before .loop .inv .0), omega arith)
 
 pub stages-end-spec : {M : Type 1} → statement M
 stages-end-spec =

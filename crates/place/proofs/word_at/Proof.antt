@@ -3,10 +3,6 @@ use native.Mathlib.Omega.{arith}
 use borrow.Author.Needs.{needs}
 use Rattle.place.proofs.word_at.Statement.{statement}
 use Rattle.place.proofs.word_at.Tie as tie
-use Rattle.place.proofs.word_at.Reads as reads
-use Rattle.place.proofs.word_at.Lts as lts
-use Rattle.place.proofs.byte_at.Reads as byte-at-reads
-use Rattle.place.proofs.wide.Reads as wide-reads
 
 pub word-at-spec : {M : Type 1} → statement M
 word-at-spec =
@@ -21,4 +17,4 @@ word-at-spec =
     (λ c. search needs)
     (λ c κs. search needs)
     (λ c. search needs)
-    (λ c. omega (arith, List·getD-eq-default ((c .before .before .before .args .s .now)) 0 ((c .before .if1 .left)))))
+    (λ c. omega (arith, List·getD-eq-default (c .before .before .before .args .s .now) 0 (c .before .if1 .left))))

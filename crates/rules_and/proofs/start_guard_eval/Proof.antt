@@ -9,13 +9,12 @@ pub start-guard-eval-spec : {M : Type 1} → statement M
 start-guard-eval-spec =
     tie.close
     (tie.spec
-    (λ c. search needs)
     (λ c κs. search needs)
     (λ c κs. search needs)
-    (λ c. (guard-ends _ _ _ _ (c .before .before .guard-size .ensures .0) (c .before .if1 .taken) ((c .report .ensures .0) success refl), (c .report .ensures .1), (c .report .ensures .2)))
-    (λ c κs. search needs)
-    (λ c κs. search needs)
+    (λ c. (guard-ends _ _ _ _ (c .before .before .goal-size .ensures .0) (c .before .if1 .taken) ((c .report .ensures .0) success refl), (c .report .ensures .1), (c .report .ensures .2)))
     (λ c κs. search needs)
     (λ c κs. search needs)
     (λ c κs. search needs)
-    (λ c. (guard-starts _ _ _ _ (c .before .before .before .before .before .before .guard-size .ensures .0) (c .before .before .before .before .before .if1 .left) (c .before .before .before .before .goal-spot .ensures) (c .before .before .before .tag-of-goal .ensures .0) (c .before .before .new-process .ensures) ((c .before .with-mode .ensures) waiting refl) (c .with-child .ensures .0), (c .with-child .ensures .1), (c .with-child .ensures .2))))
+    (λ c κs. search needs)
+    (λ c κs. search needs)
+    (λ c. (guard-starts _ _ _ _ (c .before .before .before .before .before .before .goal-size .ensures .0) (c .before .before .before .before .before .if1 .left) (c .before .before .before .before .goal-spot .ensures) (c .before .before .before .tag-of-goal .ensures .0) (c .before .before .new-process .ensures) ((c .before .with-mode .ensures) waiting refl) (c .with-child .ensures .0), (c .with-child .ensures .1), (c .with-child .ensures .2))))

@@ -2,13 +2,6 @@ use Rattle.run.proofs.Turning.{turn-below, turning, went-ended, went-on
 use borrow.Author.Needs.{needs}
 use Rattle.run.proofs.go.Statement.{statement}
 use Rattle.run.proofs.go.Tie as tie
-use Rattle.run.proofs.go.Reads as reads
-use Rattle.run.proofs.go.Lts as lts
-use Rattle.head.proofs.proc_count.Reads as proc-count-reads
-use Rattle.run.proofs.ended.Reads as ended-reads
-use Rattle.run.proofs.goal_end.Reads as goal-end-reads
-use Rattle.run.proofs.one.Reads as one-reads
-use Rattle.run.proofs.whose.Reads as whose-reads
 
 pub go-spec : {M : Type 1} → statement M
 go-spec =
@@ -19,16 +12,16 @@ go-spec =
     (λ c κs. search needs)
     (λ c. search needs)
     (λ c. search needs)
-    (λ c. went-ended _ (c .before .before .before .before .before .proc-count .ensures .0) (c .before .before .before .ended .ensures) _ _ _ (c .before .before .before .before .before .before .before .before .before .before .before .pre) (c .before .before .if1 .taken) (c .goal-end .ensures))
-    (λ c κs. turning _ _ _ _ (c .before .before .before .before .before .before .before .before .before .before .before .before .pre))
+    (λ c. went-ended _ _ (c .before .before .before .before .before .proc-count .ensures .0) (c .before .before .before .ended .ensures) _ _ _ (c .before .before .before .before .before .before .before .before .before .before .before .pre) (c .before .before .if1 .taken) (c .goal-end .ensures))
+    (λ c κs. turning _ _ _ _ _ (c .before .before .before .before .before .before .before .before .before .before .before .before .pre))
     (λ c. search needs)
     (λ c. search needs)
     (λ c. search needs)
     (λ c. search needs)
     (λ c. search needs)
-    (λ c. went-waits _ (c .before .before .before .before .before .before .before .before .before .proc-count .ensures .0) (c .before .before .before .before .before .before .before .ended .ensures) _ _ _ (c .before .before .before .before .before .before .before .before .before .before .before .before .before .before .before .pre) (c .before .before .before .before .before .before .if1 .left) (c .before .before .whose .ensures .who) (c .enum-told .given .1))
+    (λ c. went-waits _ _ (c .before .before .before .before .before .before .before .before .before .proc-count .ensures .0) (c .before .before .before .before .before .before .before .ended .ensures) _ _ _ (c .before .before .before .before .before .before .before .before .before .before .before .before .before .before .before .pre) (c .before .before .before .before .before .before .if1 .left) (c .before .before .whose .ensures .who) (c .enum-told .given .1))
     (λ c κs. ((c .before .before .before .before .before .before .before .before .before .before .before .before .before .before .before .before .before .before .before .pre), turn-below _ (c .before .before .before .before .before .before .whose .ensures .who) (c .before .before .before .before .f .given .1), (c .before .before .before .before .before .before .whose .ensures .told) _ (c .before .before .before .before .f .given .1)))
     (λ c. search needs)
     (λ c. search needs)
     (λ c. search needs)
-    (λ c. went-one _ (c .before .before .before .before .before .before .before .before .before .before .before .before .before .before .before .before .before .before .before .before .proc-count .ensures .0) (c .before .before .before .before .before .before .before .before .before .before .before .before .before .before .before .before .before .before .ended .ensures) _ _ _ (c .before .before .before .before .before .before .before .before .before .before .before .before .before .before .before .before .before .before .before .before .before .before .before .before .before .before .pre) (c .before .before .before .before .before .before .before .before .before .before .before .before .before .before .before .before .before .if1 .left) (c .before .before .before .before .before .before .before .before .before .before .before .before .before .whose .ensures .who) (c .before .before .before .before .before .before .before .before .before .before .before .f .given .1) (c .before .before .before .before .before .before .one .ensures)))
+    (λ c. went-one _ _ (c .before .before .before .before .before .before .before .before .before .before .before .before .before .before .before .before .before .before .before .before .proc-count .ensures .0) (c .before .before .before .before .before .before .before .before .before .before .before .before .before .before .before .before .before .before .ended .ensures) _ _ _ (c .before .before .before .before .before .before .before .before .before .before .before .before .before .before .before .before .before .before .before .before .before .before .before .before .before .before .pre) (c .before .before .before .before .before .before .before .before .before .before .before .before .before .before .before .before .before .if1 .left) (c .before .before .before .before .before .before .before .before .before .before .before .before .before .whose .ensures .who) (c .before .before .before .before .before .before .before .before .before .before .before .f .given .1) (c .before .before .before .before .before .before .one .ensures)))

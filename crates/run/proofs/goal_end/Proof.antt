@@ -4,10 +4,6 @@ use Rattle.parlog.specs.Run.{endOf}
 use borrow.Author.Needs.{needs}
 use Rattle.run.proofs.goal_end.Statement.{statement}
 use Rattle.run.proofs.goal_end.Tie as tie
-use Rattle.run.proofs.goal_end.Reads as reads
-use Rattle.run.proofs.goal_end.Lts as lts
-use Rattle.rows.proofs.result_at.Reads as result-at-reads
-use Rattle.run.proofs.end_by.Reads as end-by-reads
 
 pub goal-end-spec : {M : Type 1} → statement M
 goal-end-spec = tie.close (tie.spec (λ c κs. search needs) (λ c κs. search needs) (λ c. c .end-by .ensures ∙ ap (λ x. endOf (resultOf x)) (c .before .result-at .ensures)))

@@ -2,9 +2,6 @@ use Rattle.run.proofs.Turning.{one-moved, one-unmoved}
 use borrow.Author.Needs.{needs}
 use Rattle.run.proofs.one.Statement.{statement}
 use Rattle.run.proofs.one.Tie as tie
-use Rattle.run.proofs.one.Reads as reads
-use Rattle.run.proofs.one.Lts as lts
-use Rattle.step.proofs.stepped.Reads as stepped-reads
 
 pub one-spec : {M : Type 1} → statement M
 one-spec =
@@ -16,8 +13,8 @@ one-spec =
     (λ c. search needs)
     (λ c. search needs)
     (λ c. search needs)
-    (λ c. one-moved _ _ _ _ _ (c .before .before .before .before .before .before .before .before .stepped .ensures) (c .enum-told .given .1))
+    (λ c. one-moved _ _ _ _ _ _ (c .before .before .before .before .before .before .before .before .stepped .ensures) (c .enum-told .given .1))
     (λ c. search needs)
     (λ c. search needs)
     (λ c. search needs)
-    (λ c. one-unmoved _ _ _ _ _ (c .before .before .before .before .before .before .before .before .stepped .ensures) (c .enum-told2 .given .1)))
+    (λ c. one-unmoved _ _ _ _ _ _ (c .before .before .before .before .before .before .before .before .stepped .ensures) (c .enum-told2 .given .1)))

@@ -2,12 +2,6 @@ use Rattle.run.proofs.Turning.{stop-ended, stop-spent, stop-waits}
 use borrow.Author.Needs.{needs}
 use Rattle.run.proofs.stop.Statement.{statement}
 use Rattle.run.proofs.stop.Tie as tie
-use Rattle.run.proofs.stop.Reads as reads
-use Rattle.run.proofs.stop.Lts as lts
-use Rattle.head.proofs.proc_count.Reads as proc-count-reads
-use Rattle.run.proofs.ended.Reads as ended-reads
-use Rattle.run.proofs.goal_end.Reads as goal-end-reads
-use Rattle.run.proofs.whose.Reads as whose-reads
 
 pub stop-spec : {M : Type 1} → statement M
 stop-spec =
@@ -16,9 +10,9 @@ stop-spec =
     (λ c κs. search needs)
     (λ c κs. search needs)
     (λ c κs. search needs)
-    (λ c. stop-ended _ (c .before .before .before .proc-count .ensures .0) (c .before .before .ended .ensures) (c .before .if1 .taken) (c .goal-end .ensures))
+    (λ c. stop-ended _ _ (c .before .before .before .proc-count .ensures .0) (c .before .before .ended .ensures) (c .before .if1 .taken) (c .goal-end .ensures))
     (λ c κs. search needs)
     (λ c. search needs)
     (λ c. search needs)
-    (λ c. stop-spent _ (c .before .before .before .before .before .proc-count .ensures .0) (c .before .before .before .before .ended .ensures) (c .before .before .before .if1 .left) (c .before .before .whose .ensures .who) (c .enum-told .given .1))
-    (λ c. stop-waits _ (c .before .before .before .before .before .proc-count .ensures .0) (c .before .before .before .before .ended .ensures) (c .before .before .before .if1 .left) (c .before .before .whose .ensures .who) (c .enum-told2 .given .1)))
+    (λ c. stop-spent _ _ (c .before .before .before .before .before .proc-count .ensures .0) (c .before .before .before .before .ended .ensures) (c .before .before .before .if1 .left) (c .before .before .whose .ensures .who) (c .enum-told .given .1))
+    (λ c. stop-waits _ _ (c .before .before .before .before .before .proc-count .ensures .0) (c .before .before .before .before .ended .ensures) (c .before .before .before .if1 .left) (c .before .before .whose .ensures .who) (c .enum-told2 .given .1)))

@@ -3,11 +3,6 @@ use Rattle.machine.proofs.Entering.{inside-of}
 use borrow.Author.Needs.{needs}
 use Rattle.run.proofs.turn.Statement.{statement}
 use Rattle.run.proofs.turn.Tie as tie
-use Rattle.run.proofs.turn.Reads as reads
-use Rattle.run.proofs.turn.Lts as lts
-use Rattle.load.proofs.refusal.Reads as refusal-reads
-use Rattle.machine.proofs.enter.Reads as enter-reads
-use Rattle.run.proofs.turn_in.Reads as turn-in-reads
 
 pub turn-spec : {M : Type 1} → statement M
 turn-spec =
@@ -20,9 +15,9 @@ turn-spec =
     (λ c. search needs)
     (λ c. search needs)
     (λ c. search needs)
-    (λ c. turn-refused _ _ (c .before .before .before .enter .ensures) (c .before .enum-told .given .1) (c .refusal .ensures))
-    (λ c κs. inside-of _ _ (c .before .before .before .before .before .before .enter .ensures) (c .before .before .before .before .e .given .1))
+    (λ c. turn-refused _ _ _ (c .before .before .before .enter .ensures) (c .before .enum-told .given .1) (c .refusal .ensures))
+    (λ c κs. inside-of _ _ _ (c .before .before .before .before .before .before .enter .ensures) (c .before .before .before .before .e .given .1))
     (λ c. search needs)
     (λ c. search needs)
     (λ c. search needs)
-    (λ c. turn-turned _ _ (c .before .before .before .before .before .before .before .before .before .before .before .before .before .enter .ensures) (c .before .before .before .before .before .before .before .before .before .before .before .e .given .1) (c .before .before .before .before .before .before .turn-in .ensures)))
+    (λ c. turn-turned _ _ _ (c .before .before .before .before .before .before .before .before .before .before .before .before .before .enter .ensures) (c .before .before .before .before .before .before .before .before .before .before .before .e .given .1) (c .before .before .before .before .before .before .turn-in .ensures)))

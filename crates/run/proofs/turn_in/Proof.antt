@@ -2,26 +2,21 @@ use Rattle.run.proofs.Turning.{turn-below, turn-none, turn-some, turnin
 use borrow.Author.Needs.{needs}
 use Rattle.run.proofs.turn_in.Statement.{statement}
 use Rattle.run.proofs.turn_in.Tie as tie
-use Rattle.run.proofs.turn_in.Reads as reads
-use Rattle.run.proofs.turn_in.Lts as lts
-use Rattle.machine.proofs.refusal.Reads as refusal-reads
-use Rattle.run.proofs.whose.Reads as whose-reads
-use Rattle.step.proofs.stepped.Reads as stepped-reads
 
 pub turn-in-spec : {M : Type 1} → statement M
 turn-in-spec =
     tie.close
     (tie.spec
-    (λ c κs. turning _ _ _ _ (c .before .before .before .before .before .before .before .pre))
+    (λ c κs. turning _ _ _ _ _ (c .before .before .before .before .before .before .before .pre))
     (λ c. search needs)
     (λ c. search needs)
     (λ c κs. search needs)
     (λ c. search needs)
     (λ c. search needs)
     (λ c. search needs)
-    (λ c. turn-none _ _ _ _ (c .before .before .before .whose .ensures .who) (c .before .enum-told .given .1) (c .refusal .ensures))
+    (λ c. turn-none _ _ _ _ _ (c .before .before .before .whose .ensures .who) (c .before .enum-told .given .1) (c .refusal .ensures))
     (λ c κs. ((c .before .before .before .before .before .before .before .before .before .before .before .before .before .before .pre), turn-below _ (c .before .before .before .before .before .before .whose .ensures .who) (c .before .before .before .before .f .given .1), λ w. (c .before .before .before .before .before .before .whose .ensures .told) _ (c .before .before .before .before .f .given .1)))
     (λ c. search needs)
     (λ c. search needs)
     (λ c. search needs)
-    (λ c. turn-some _ _ _ _ (c .before .before .before .before .before .before .before .before .before .before .before .before .before .whose .ensures .who) (c .before .before .before .before .before .before .before .before .before .before .before .f .given .1) (c .before .before .before .before .before .before .stepped .ensures)))
+    (λ c. turn-some _ _ _ _ _ (c .before .before .before .before .before .before .before .before .before .before .before .before .before .whose .ensures .who) (c .before .before .before .before .before .before .before .before .before .before .before .f .given .1) (c .before .before .before .before .before .before .stepped .ensures)))

@@ -14,7 +14,7 @@ answer-spec =
     (λ c κs. search needs)
     (λ c κs. search needs)
     (λ c. search needs)
-    (λ c. told-refused _ (c .before .before .before .before .before .before .before .load .ensures .0) (c .before .before .before .before .before .enum-told .given .1) (c .before .before .before .before .refusal .ensures) (c .before .before .before .before .before .before .before .before .before .before .pre) (c .before .before .refused .ensures))
+    (λ c. told-refused _ _ (c .before .before .before .before .before .before .before .load .ensures .0) (c .before .before .before .before .before .enum-told .given .1) (c .before .before .before .before .refusal .ensures) (c .before .before .before .before .before .before .before .before .before .before .pre) (c .before .before .refused .ensures))
     (λ c. search needs)
     (λ c. search needs)
     (λ c. search needs)

@@ -1,4 +1,5 @@
 use Rattle.table_rules.proofs.Whole.{cell-is}
+use mathlib.Core.Path.{_∙_}
 use borrow.Author.Needs.{needs}
 use Rattle.table_rules.proofs.cell_ok.Statement.{statement}
 use Rattle.table_rules.proofs.cell_ok.Tie as tie
@@ -15,6 +16,8 @@ cell-ok-spec =
     (λ c. search needs)
     (λ c. search needs)
     (λ c κs. search needs)
+    (λ c κs. search needs)
     (λ c. search needs)
     (λ c κs. search needs)
-    (λ c. let s = c .before .before .before .before .before .before .before in cell-is (s .args .vars .now) (s .args .n) (s .args .v) (search needs) (c .before .before .number-of .ensures) (c .cell-ok .ensures)))
+    (λ c. let s = c .before .before .before .before .before .before .before .before in
+    cell-is (s .args .vars .now) (s .args .n) (s .args .v) (search needs) (c .before .before .wide-u32 .ensures ∙ c .before .before .before .join .ensures) (c .cell-ok .ensures)))

@@ -9,7 +9,7 @@ use Rattle.tree.proofs.above.Tie as tie
 returns : tie.Need-returns
 unfolding processAt
 returns c =
-    (c .wide .ensures) ∙ (c .before .get-u16 .ensures) ∙ sym (ap (λ (x : Process). x .parent) (procs-at (c .before .before .before .args .procs .now) _ _ (c .before .before .before .pre .1)))
+    (c .wide-u16 .ensures) ∙ (c .before .get-u16 .ensures) ∙ sym (ap (λ (x : Process). x .parent) (procs-at (c .before .before .before .args .procs .now) _ _ (c .before .before .before .pre .1)))
 
 pub above-spec : {M : Type 1} → statement M
 above-spec = tie.close (tie.spec (λ c. search needs) (λ c. search needs) (λ c κs. search needs) (λ c κs. search needs) returns)

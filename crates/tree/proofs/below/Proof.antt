@@ -3,9 +3,6 @@ use native.Mathlib.Omega.{arith}
 use Rattle.tree.proofs.Family.{climb-ends, climb-goes, climb-starts, Climbs}
 use Rattle.tree.proofs.below.Statement.{statement}
 use Rattle.tree.proofs.below.Tie as tie
-use Rattle.tree.proofs.below.Reads as reads
-use Rattle.tree.proofs.below.Lts as lts
-use Rattle.tree.proofs.above.Reads as above-reads
 
 abbrev Inv-loop : tie.InvT-loop
 Inv-loop procs n p i a₀ a = Climbs procs n p i a

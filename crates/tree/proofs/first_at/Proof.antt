@@ -5,4 +5,4 @@ use Rattle.tree.proofs.first_at.Statement.{statement}
 use Rattle.tree.proofs.first_at.Tie as tie
 
 pub first-at-spec : {M : Type 1} → statement M
-first-at-spec = tie.close (tie.spec (λ c κs. search needs) (λ c κs. search needs) (λ c. (c .wide .ensures) ∙ ap (λ (x : Process). x .spot .first) (c .before .before .get .ensures)))
+first-at-spec = tie.close (tie.spec (λ c κs. search needs) (λ c κs. search needs) (λ c. (c .wide-u16 .ensures) ∙ ap (λ (x : Process). x .spot .first) (c .before .before .get .ensures)))

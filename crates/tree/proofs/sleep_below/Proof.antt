@@ -7,10 +7,6 @@ use borrow.Author.Needs.{needs}
 use Prim.Native.Nat.{_-_, _<_, _≤_}
 use Rattle.tree.proofs.sleep_below.Statement.{statement}
 use Rattle.tree.proofs.sleep_below.Tie as tie
-use Rattle.tree.proofs.sleep_below.Reads as reads
-use Rattle.tree.proofs.sleep_below.Lts as lts
-use Rattle.tree.proofs.first_child.Reads as first-child-reads
-use Rattle.tree.proofs.sleep_one.Reads as sleep-one-reads
 
 abbrev Inv-loop : tie.InvT-loop
 Inv-loop procs₀ n p q₀ procs q = (q ≤ n) × (p < q) × Table procs₀ procs (build (passed (procsOf procs₀ n) p q) n)

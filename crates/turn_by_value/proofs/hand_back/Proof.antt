@@ -1,10 +1,6 @@
 use borrow.Author.Needs.{needs}
 use Rattle.turn_by_value.proofs.hand_back.Statement.{statement}
 use Rattle.turn_by_value.proofs.hand_back.Tie as tie
-use Rattle.turn_by_value.proofs.hand_back.Reads as reads
-use Rattle.turn_by_value.proofs.hand_back.Lts as lts
-use Rattle.head.proofs.marker_last.Reads as marker-last-reads
-use Rattle.head.proofs.marker_steps.Reads as marker-steps-reads
 
 pub hand-back-spec : {M : Type 1} → statement M
 hand-back-spec =

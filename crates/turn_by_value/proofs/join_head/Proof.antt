@@ -2,10 +2,6 @@ use borrow.Author.Needs.{needs}
 use Rattle.turn_by_value.proofs.Core.{joined}
 use Rattle.turn_by_value.proofs.join_head.Statement.{statement}
 use Rattle.turn_by_value.proofs.join_head.Tie as tie
-use Rattle.turn_by_value.proofs.join_head.Reads as reads
-use Rattle.turn_by_value.proofs.join_head.Lts as lts
-use Rattle.rows.proofs.high.Reads as high-reads
-use Rattle.rows.proofs.low.Reads as low-reads
 
 pub join-head-spec : {M : Type 1} → statement M
 join-head-spec =

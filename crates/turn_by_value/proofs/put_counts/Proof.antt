@@ -1,11 +1,10 @@
 use Rattle.head.proofs.Laws.{paste-one}
 use Rattle.turn_by_value.proofs.Core.{copied}
 use lib.Seq.{paste, paste-zero}
-use lib.ListN.{length, length-set}
+use lib.ListN.{length}
 use borrow.Author.Needs.{needs}
-use native.Mathlib.Omega.{arith}
-use mathlib.Core.Path.{_≡_, sym, _∙_}
-use Prim.Native.Nat.{_≤_, _-_, _+_, _<_}
+use mathlib.Core.Path.{_≡_, _∙_}
+use Prim.Native.Nat.{_≤_, _-_}
 use Rattle.turn_by_value.proofs.put_counts.Statement.{statement}
 use Rattle.turn_by_value.proofs.put_counts.Tie as tie
 

@@ -1,21 +1,15 @@
 use Rattle.turn_by_value.proofs.Core.{core-away, core-turned}
+use Rattle.parlog.specs.Limits.{small}
 use borrow.Author.Needs.{needs}
 use borrow.Author.Tests.{ne-eqb}
 use Rattle.turn_by_value.proofs.turn_core.Statement.{statement}
 use Rattle.turn_by_value.proofs.turn_core.Tie as tie
-use Rattle.turn_by_value.proofs.turn_core.Reads as reads
-use Rattle.turn_by_value.proofs.turn_core.Lts as lts
-use Rattle.turn_by_value.proofs.hand_back.Reads as hand-back-reads
-use Rattle.turn_by_value.proofs.join_head.Reads as join-head-reads
-use Rattle.turn_by_value.proofs.put_counts.Reads as put-counts-reads
-use Rattle.run.proofs.turn.Reads as turn-reads
-use Rattle.turn_by_value.proofs.turned_away.Reads as turned-away-reads
 
 -- counts of another size
 returns : tie.Need-returns
 returns c =
     let a = c .before .before .before .before .before .before .args in
-    core-away (a .image .now) (a .counts .now) (a .procs .now) (a .vars .now) (record { last = a .last; steps = a .steps }) (ne-eqb _ 4 (c .before .if1 .taken)) (c .turned-away .ensures)
+    core-away small (a .image .now) (a .counts .now) (a .procs .now) (a .vars .now) (record { last = a .last; steps = a .steps }) (ne-eqb _ 4 (c .before .if1 .taken)) (c .turned-away .ensures)
 
 -- the turn made
 returns-2 : tie.Need-returns-2
@@ -23,7 +17,7 @@ returns-2 c =
     let t = c .before .before .before .before .before .before .before .before .before .before .before .before in
     let j = t .before .before .before .before in
     let a = j .before .before .before .before .before .before .before .args in
-    core-turned (a .image .now) (a .counts .now) (a .procs .now) (a .vars .now) (record { last = a .last; steps = a .steps }) (j .before .before .if1 .left) (j .join-head .ensures) (t .turn .ensures) (c .before .before .before .before .put-counts .ensures) (c .hand-back .ensures)
+    core-turned small (a .image .now) (a .counts .now) (a .procs .now) (a .vars .now) (record { last = a .last; steps = a .steps }) (j .before .before .if1 .left) (j .join-head .ensures) (t .turn .ensures) (c .before .before .before .before .put-counts .ensures) (c .hand-back .ensures)
 
 pub turn-core-spec : {M : Type 1} → statement M
 turn-core-spec =

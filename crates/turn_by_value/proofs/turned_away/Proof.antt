@@ -2,10 +2,6 @@ use Rattle.turn_by_value.proofs.Core.{away-accepted, away-refused}
 use borrow.Author.Needs.{needs}
 use Rattle.turn_by_value.proofs.turned_away.Statement.{statement}
 use Rattle.turn_by_value.proofs.turned_away.Tie as tie
-use Rattle.turn_by_value.proofs.turned_away.Reads as reads
-use Rattle.turn_by_value.proofs.turned_away.Lts as lts
-use Rattle.load.proofs.load.Reads as load-reads
-use Rattle.load.proofs.refusal.Reads as refusal-reads
 
 pub turned-away-spec : {M : Type 1} → statement M
 turned-away-spec =

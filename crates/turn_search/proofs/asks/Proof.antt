@@ -2,40 +2,31 @@ use Rattle.parlog.specs.Codes.{tagOf}
 use Rattle.turn_search.proofs.Laws.{asks-at, asks-none}
 use Rattle.turn_search.proofs.asks.Statement.{statement}
 use Rattle.turn_search.proofs.asks.Tie as tie
-use Rattle.turn_search.proofs.asks.Reads as reads
-use Rattle.turn_search.proofs.asks.Lts as lts
 
--- src/lib.rt:32:1
 returns : tie.Need-returns
 unfolding tagOf
 returns c = asks-at 0 (c .match .keys1)
 
--- src/lib.rt:32:1
 returns-2 : tie.Need-returns-2
 unfolding tagOf
 returns-2 c = asks-at 1 (c .match .keys2)
 
--- src/lib.rt:32:1
 returns-3 : tie.Need-returns-3
 unfolding tagOf
 returns-3 c = asks-at 2 (c .match .keys3)
 
--- src/lib.rt:32:1
 returns-4 : tie.Need-returns-4
 unfolding tagOf
 returns-4 c = asks-at 3 (c .match .keys4)
 
--- src/lib.rt:32:1
 returns-5 : tie.Need-returns-5
 unfolding tagOf
 returns-5 c = asks-at 4 (c .match .keys5)
 
--- src/lib.rt:32:1
 returns-6 : tie.Need-returns-6
 unfolding tagOf
 returns-6 c = asks-at 5 (c .match .keys6)
 
--- src/lib.rt:32:1
 returns-7 : tie.Need-returns-7
 unfolding tagOf
 returns-7 c = asks-at 7 (c .match .keys7)

@@ -2,12 +2,6 @@ use Rattle.turn_search.proofs.Laws.{can-dormant, can-reporting, can-sta
 use borrow.Author.Needs.{needs}
 use Rattle.turn_search.proofs.can_move.Statement.{statement}
 use Rattle.turn_search.proofs.can_move.Tie as tie
-use Rattle.turn_search.proofs.can_move.Reads as reads
-use Rattle.turn_search.proofs.can_move.Lts as lts
-use Rattle.rows.proofs.mode_at.Reads as mode-at-reads
-use Rattle.rows.proofs.tag_at.Reads as tag-at-reads
-use Rattle.turn_search.proofs.tells.Reads as tells-reads
-use Rattle.turn_search.proofs.wakes.Reads as wakes-reads
 
 pub can-move-spec : {M : Type 1} → statement M
 can-move-spec =

@@ -1,15 +1,8 @@
-use mathlib.Core.Path.{_∙_, ap, refl}
-use lib.ListN.{length-set}
 use Rattle.rows.proofs.Tables.{procs-length}
 use Rattle.turn_search.proofs.Passing.{all-kept, all-silent, all-told}
 use borrow.Author.Needs.{needs}
 use Rattle.turn_search.proofs.hear_row.Statement.{statement}
 use Rattle.turn_search.proofs.hear_row.Tie as tie
-use Rattle.turn_search.proofs.hear_row.Reads as reads
-use Rattle.turn_search.proofs.hear_row.Lts as lts
-use Rattle.children.proofs.note_of.Reads as note-of-reads
-use Rattle.rows.proofs.parent_at.Reads as parent-at-reads
-use Rattle.turn_search.proofs.hear_told.Reads as hear-told-reads
 
 pub hear-row-spec : {M : Type 1} → statement M
 hear-row-spec =

@@ -1,12 +1,6 @@
-use mathlib.Core.Path.{ap}
-use lib.ListN.{set}
 use borrow.Author.Needs.{needs}
 use Rattle.turn_search.proofs.hear_told.Statement.{statement}
 use Rattle.turn_search.proofs.hear_told.Tie as tie
-use Rattle.turn_search.proofs.hear_told.Reads as reads
-use Rattle.turn_search.proofs.hear_told.Lts as lts
-use Rattle.children.proofs.with.Reads as with-reads
-use Rattle.turn_search.proofs.keep.Reads as keep-reads
 
 pub hear-told-spec : {M : Type 1} → statement M
 hear-told-spec =

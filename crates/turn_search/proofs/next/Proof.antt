@@ -1,4 +1,4 @@
-use mathlib.Core.Path.{_∙_, _≡_, refl, sym}
+use mathlib.Core.Path.{_∙_, refl, sym}
 use mathlib.Core.List.{[]}
 use Rattle.rows.proofs.Tables.{procs-length}
 use Rattle.parlog.specs.Program.{programOf}
@@ -6,10 +6,6 @@ use Rattle.turn_search.proofs.Passing.{all-start, turn-there}
 use borrow.Author.Needs.{needs}
 use Rattle.turn_search.proofs.next.Statement.{statement}
 use Rattle.turn_search.proofs.next.Tie as tie
-use Rattle.turn_search.proofs.next.Reads as reads
-use Rattle.turn_search.proofs.next.Lts as lts
-use Rattle.turn_search.proofs.pass.Reads as pass-reads
-use Rattle.turn_search.proofs.told_of.Reads as told-of-reads
 
 pub next-spec : {M : Type 1} → statement M
 next-spec =

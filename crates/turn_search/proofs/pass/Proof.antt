@@ -1,13 +1,8 @@
-use mathlib.Core.Path.{_∙_, _≡_}
 use native.Mathlib.Omega.{arith}
 use Rattle.turn_search.proofs.Order.{turn-is}
 use borrow.Author.Needs.{needs}
 use Rattle.turn_search.proofs.pass.Statement.{statement}
 use Rattle.turn_search.proofs.pass.Tie as tie
-use Rattle.turn_search.proofs.pass.Reads as reads
-use Rattle.turn_search.proofs.pass.Lts as lts
-use Rattle.turn_search.proofs.first_below.Reads as first-below-reads
-use Rattle.turn_search.proofs.sweep.Reads as sweep-reads
 
 pub pass-spec : {M : Type 1} → statement M
 pass-spec =

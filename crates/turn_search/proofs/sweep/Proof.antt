@@ -1,4 +1,4 @@
-use mathlib.Core.Path.{_∙_, _≡_}
+use mathlib.Core.Path.{_≡_}
 use Prim.Native.Nat.{_≤_}
 use lib.ListN.{length}
 use borrow.Author.Needs.{needs}
@@ -11,11 +11,6 @@ use Rattle.turn_search.proofs.Passing.{all-end, all-here, all-less}
 use Rattle.turn_search.proofs.Order.{sweep-end, sweep-next, sweep-start, Swept}
 use Rattle.turn_search.proofs.sweep.Statement.{statement}
 use Rattle.turn_search.proofs.sweep.Tie as tie
-use Rattle.turn_search.proofs.sweep.Reads as reads
-use Rattle.turn_search.proofs.sweep.Lts as lts
-use Rattle.turn_search.proofs.can_move.Reads as can-move-reads
-use Rattle.turn_search.proofs.found.Reads as found-reads
-use Rattle.turn_search.proofs.hear_row.Reads as hear-row-reads
 
 abbrev Inv-loop : tie.InvT-loop
 Inv-loop procs n vars m silent₀ said₀ latest₀ lowest₀ lo hi best₀ q₀ silent said latest lowest best q = (lo ≤ q) × (q ≤ n) × (length silent ≡ 512) × (length said ≡ 512) × (length latest ≡ 512) × (length lowest ≡ 512) × AllNoted (procsOf procs n) n q silent said latest lowest × Swept (stateIn procs n vars m) n lo hi q best

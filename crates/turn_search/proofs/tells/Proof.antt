@@ -2,9 +2,6 @@ use Rattle.turn_search.proofs.Laws.{tells-is}
 use borrow.Author.Needs.{needs}
 use Rattle.turn_search.proofs.tells.Statement.{statement}
 use Rattle.turn_search.proofs.tells.Tie as tie
-use Rattle.turn_search.proofs.tells.Reads as reads
-use Rattle.turn_search.proofs.tells.Lts as lts
-use Rattle.turn_search.proofs.asks.Reads as asks-reads
 
 pub tells-spec : {M : Type 1} → statement M
 tells-spec = tie.close (tie.spec (λ c κs. search needs) (λ c. tells-is _ _ (c .before .pre) (c .asks .ensures)))

@@ -3,11 +3,6 @@ use native.Mathlib.Omega.{arith}
 use borrow.Author.Needs.{needs}
 use Rattle.turn_search.proofs.told_of.Statement.{statement}
 use Rattle.turn_search.proofs.told_of.Tie as tie
-use Rattle.turn_search.proofs.told_of.Reads as reads
-use Rattle.turn_search.proofs.told_of.Lts as lts
-use Rattle.children.proofs.nothing.Reads as nothing-reads
-use Rattle.children.proofs.told_by.Reads as told-by-reads
-use Rattle.turn_search.proofs.note_at.Reads as note-at-reads
 
 pub told-of-spec : {M : Type 1} → statement M
 told-of-spec =

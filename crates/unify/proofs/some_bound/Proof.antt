@@ -8,9 +8,6 @@ use Rattle.parlog.specs.Unify.{someBound}
 use Rattle.unify.proofs.Laws.{some-done, some-hit, some-miss}
 use Rattle.unify.proofs.some_bound.Statement.{statement}
 use Rattle.unify.proofs.some_bound.Tie as tie
-use Rattle.unify.proofs.some_bound.Reads as reads
-use Rattle.unify.proofs.some_bound.Lts as lts
-use Rattle.unify.proofs.is_bound.Reads as is-bound-reads
 
 abbrev Inv-loop : tie.InvT-loop
 Inv-loop vars n count notes k₀ k = (k ≤ count) × (count ≤ 4) × (length notes ≡ 4) × (someBound (varsIn vars n) (drop k (take count notes)) ≡ someBound (varsIn vars n) (take count notes))

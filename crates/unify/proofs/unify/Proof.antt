@@ -1,5 +1,5 @@
 use mathlib.Core.List.{[]}
-use mathlib.Core.Path.{refl, sym, _∙_, _≡_}
+use mathlib.Core.Path.{sym, _∙_, _≡_}
 use Prim.Native.Nat.{_-_, _≤_}
 use lib.ListN.{drop, length, take}
 use borrow.Author.Needs.{needs}
@@ -7,7 +7,7 @@ use native.Mathlib.Omega.{arith}
 use Rattle.parlog.specs.Tables.{varsIn}
 use Rattle.parlog.specs.Unify.{bound, unify, unifyFrom}
 use Rattle.unify.proofs.Laws.{unify-done, unify-more}
-use Rattle.unify.specs.Pending.{outcome, pending}
+use Rattle.unify.specs.Pending.{outcome}
 use Rattle.unify.proofs.unify.Statement.{statement}
 use Rattle.unify.proofs.unify.Tie as tie
 
@@ -18,11 +18,10 @@ abbrev μ-loop : tie.MeasureT-loop
 μ-loop vars n count pairs u₀ i₀ u i = count - i
 
 loop-holds : tie.Need-loop-holds Inv-loop μ-loop
-unfolding outcome pending
-loop-holds c = (search needs, search needs, refl, search needs, refl)
+loop-holds c = let e = c .nothing .ensures in (search needs, omega (arith, e .2), e .3, search needs, rw (e .0))
 
 unify-one-requires : tie.Need-unify-one-requires Inv-loop μ-loop
-unify-one-requires c κs = let h = c .before .before .before .before .pre .2 (c .before .before .loop .i) (c .before .loop-test .taken) in
+unify-one-requires c κs = let h = c .before .before .before .before .before .pre .2 (c .before .before .loop .i) (c .before .loop-test .taken) in
     (search needs, h .0, h .1, omega arith, search needs)
 
 loop-again : tie.Need-loop-again Inv-loop μ-loop
@@ -44,6 +43,7 @@ unify-spec =
     (tie.spec
     Inv-loop
     μ-loop
+    (λ c κs. search needs)
     loop-holds
     (λ c. search needs)
     (λ c. search needs)

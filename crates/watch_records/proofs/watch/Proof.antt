@@ -31,7 +31,7 @@ use types.Share.{arr-parts}
 use sound.WpLaws.{fmOf, WpFn-mono}
 use denote.RattleType.{owns}
 use denote.Laws.{Is, shows}
-use denote.Memory.{mem, shares, pointee}
+use denote.Memory.{shares, pointee}
 use denote.Plain.{bool-lawful}
 use denote.Builtin.{bool}
 use denote.Ref.{RefT}
@@ -62,9 +62,9 @@ use Rattle.parlog.proofs.Found as F
 use Rattle.parlog.proofs.Found.Laws as F′
 use Rattle.watch_rows.proofs.is_suspended as test
 use Rattle.watch_rows.proofs.is_suspended.Symbol as test-def
-use Rattle.watch_rows.proofs.is_suspended.Symbol.{name as #watching·is-suspended}
+use Rattle.watch_rows.proofs.is_suspended.Symbol.{name as #watch-rows·is-suspended}
 use Rattle.watch_rows.proofs.is_suspended.Met as test-thm
-use Rattle.watch_records.proofs.watch.Key.{name as #watch·watch}
+use Rattle.watch_records.proofs.watch.Key.{name as #watch-records·watch}
 use Rattle.watch_records.proofs.watch as watch
 use Rattle.watch_records.proofs.watch.Statement as stated
 use Rattle.watch_records.proofs.watch.Code as code
@@ -156,7 +156,7 @@ module _ {M : Type 1} (𝓤 : URA M) (H : Heap 𝓤) (A : Atoms 𝓤) (W : Given
   abbrev start : State
   start = (0, (omega arith, quiet-start ys))
 
-  module _ (𝓣 : Tables 𝓤 H) (known : Triple 𝓤 (𝓣 .C #watching·is-suspended) (Test 𝓤 H A at-mem run)) (room : Room T.the-row n) (q′ : Share) (l₀ l₁ l₂ l₃ l₄ l₅ l₆ l₇ : ℕ) where
+  module _ (𝓣 : Tables 𝓤 H) (known : Triple 𝓤 (𝓣 .C #watch-rows·is-suspended) (Test 𝓤 H A at-mem run)) (room : Room T.the-row n) (q′ : Share) (l₀ l₁ l₂ l₃ l₄ l₅ l₆ l₇ : ℕ) where
     abbrev C : Calls 𝓤 H
     C = 𝓣 .C
 
@@ -269,7 +269,7 @@ module _ {M : Type 1} (𝓤 : URA M) (H : Heap 𝓤) (A : Atoms 𝓤) (W : Given
     scans = first ! $ blocks ! $ loops ! 𝓣 nearer ordered Inv turns start
 
   -- the MIR, up to the loop
-  walk : (𝓣 : Tables 𝓤 H) → Triple 𝓤 (𝓣 .C #watching·is-suspended) (Test 𝓤 H A at-mem run) → Room T.the-row n → ent 𝓤 (onEntry 𝓤 H A watch.signature (κ, tt) (q, tt) a vals) (WpFn 𝓤 H (𝓣 .C) (𝓣 .Λ) code.function (sliceVal (b, o) n ∷ []) Post)
+  walk : (𝓣 : Tables 𝓤 H) → Triple 𝓤 (𝓣 .C #watch-rows·is-suspended) (Test 𝓤 H A at-mem run) → Room T.the-row n → ent 𝓤 (onEntry 𝓤 H A watch.signature (κ, tt) (q, tt) a vals) (WpFn 𝓤 H (𝓣 .C) (𝓣 .Λ) code.function (sliceVal (b, o) n ∷ []) Post)
   walk 𝓣 known room =
       qed W ((‵ (flft κ q) ⊛ ‵ ftrue) ∷ ‵ (owns (ShrSlice (named 0) κ T.the-row ∷ []) a vals) ∷ []) ∵ enter ! (𝓣 .C) (𝓣 .Λ) code.function (sliceVal (b, o) n ∷ []) _ $
       alloc1 ! (λ l₀. alloc1 ! (λ l₁. alloc1 ! (λ l₂. alloc1 ! (λ l₃. alloc1 ! (λ l₄. alloc1 ! (λ l₅. alloc1 ! (λ l₆. alloc1 ! (λ l₇. alloc0 ! $ params1 ! $ pass1 ! (init ! 12 refl (tt, (tt, (record { fits = room .0 }, tt)))) $ pass0 ! $
@@ -281,20 +281,20 @@ module _ {M : Type 1} (𝓤 : URA M) (H : Heap 𝓤) (A : Atoms 𝓤) (W : Given
       keep ! (0 ∷ 17 ∷ 15 ∷ 13 ∷ 11 ∷ 9 ∷ 7 ∷ 21 ∷ 19 ∷ 1 ∷ 2 ∷ 4 ∷ 5 ∷ 22 ∷ 20 ∷ 18 ∷ 16 ∷ 14 ∷ 12 ∷ 10 ∷ 8 ∷ []) $ scans 𝓣 known room q′ l₀ l₁ l₂ l₃ l₄ l₅ l₆ l₇)))))))))
 
 module _ {M : Type 1} (𝓤 : URA M) (H : Heap 𝓤) (A : Atoms 𝓤) (W : Given 𝓤 H A) (at-mem : Memory → SProp 𝓤) (run : Routine → Fun 𝓤) (𝓣 : Tables 𝓤 H) where
-  watch-walks : Triple 𝓤 (𝓣 .C #watching·is-suspended) (Test 𝓤 H A at-mem run) → Walks 𝓤 H A watch.ended stayed (WpFn 𝓤 H (𝓣 .C) (𝓣 .Λ) code.function) (watch.clauses 𝓤 H A at-mem run)
+  watch-walks : Triple 𝓤 (𝓣 .C #watch-rows·is-suspended) (Test 𝓤 H A at-mem run) → Walks 𝓤 H A watch.ended stayed (WpFn 𝓤 H (𝓣 .C) (𝓣 .Λ) code.function) (watch.clauses 𝓤 H A at-mem run)
   watch-walks known = walked 𝓤 H A watch.ended stayed (watch.clauses 𝓤 H A at-mem run) (WpFn 𝓤 H (𝓣 .C) (𝓣 .Λ) code.function) (λ κs. (slice-vals, tt)) (λ κs. (shr-slice-tells (named 0) (κs .0) T.the-row, tt))
       (λ κs qs bounds a _ are. via 𝓤 _ (fst∗ 𝓤 _ (emp 𝓤)) (walk 𝓤 H A W at-mem run (κs .0) (qs .0) (a .0 .ptr .0) (a .0 .ptr .1) (a .0 .name) (a .0 .now) 𝓣 known (are .0 .0 .1)))
 
   all-go : AllGo 𝓤 H A W 1 (watch.signature .params) (watch.ended .kept) stayed
   all-go = (goes-none-slice 𝓤 H A W 1 (0 ∷ []) tt (plain (λ _. T.the-row)) yes, tt)
 
-  watch-meets : Triple 𝓤 (𝓣 .C #watching·is-suspended) (Test 𝓤 H A at-mem run) → Meets 𝓤 H A watch.signature (WpFn 𝓤 H (𝓣 .C) (𝓣 .Λ) code.function) (watch.spec 𝓤 H A at-mem run)
+  watch-meets : Triple 𝓤 (𝓣 .C #watch-rows·is-suspended) (Test 𝓤 H A at-mem run) → Meets 𝓤 H A watch.signature (WpFn 𝓤 H (𝓣 .C) (𝓣 .Λ) code.function) (watch.spec 𝓤 H A at-mem run)
   watch-meets known = walk-meets 𝓤 H A watch.ended stayed W all-go (watch.clauses 𝓤 H A at-mem run) (WpFn 𝓤 H (𝓣 .C) (𝓣 .Λ) code.function) (WpFn-mono 𝓤 H (W .laws) 𝓣 code.function) (watch-walks known)
 
 pub watch-spec : {M : Type 1} → stated.statement M
 unfolding code.routine tablesOf
 watch-spec 𝓤 H 𝓜 𝓖 𝓡 =
     entered 𝓤 H (tripleOf 𝓤 H (𝓖 .A) watch.signature (watch.spec 𝓤 H (𝓖 .A) (𝓜 .mem) (𝓡 .run)))
-    (tables 𝓤 H 𝓜 𝓡 code.env .C) (tables 𝓤 H 𝓜 𝓡 code.env .Λ) #watch·watch code.function (code.unfolded 𝓤 H 𝓜 𝓡)
+    (tables 𝓤 H 𝓜 𝓡 code.env .C) (tables 𝓤 H 𝓜 𝓡 code.env .Λ) #watch-records·watch code.function (code.unfolded 𝓤 H 𝓜 𝓡)
     (watch-meets 𝓤 H (𝓖 .A) (givenOf 𝓤 H 𝓜 𝓖) (𝓜 .mem) (𝓡 .run) (tablesOf 𝓤 H 𝓜 (tables 𝓤 H 𝓜 𝓡 code.env))
-    (cited 𝓤 H (Test 𝓤 H (𝓖 .A) (𝓜 .mem) (𝓡 .run)) 𝓜 𝓡 code.env #watching·is-suspended test-def.routine code.calls-watching·is-suspended (test-thm.met 𝓤 H 𝓜 𝓖 𝓡)))
+    (cited 𝓤 H (Test 𝓤 H (𝓖 .A) (𝓜 .mem) (𝓡 .run)) 𝓜 𝓡 code.env #watch-rows·is-suspended test-def.routine code.calls-watch-rows·is-suspended (test-thm.met 𝓤 H 𝓜 𝓖 𝓡)))

@@ -2,10 +2,6 @@ use Rattle.words.proofs.Laws.{move-told}
 use borrow.Author.Needs.{needs}
 use Rattle.words.proofs.move_word.Statement.{statement}
 use Rattle.words.proofs.move_word.Tie as tie
-use Rattle.words.proofs.move_word.Reads as reads
-use Rattle.words.proofs.move_word.Lts as lts
-use Rattle.words.proofs.tell.Reads as tell-reads
-use Rattle.words.proofs.word.Reads as word-reads
 
 pub move-word-spec : {M : Type 1} → statement M
 move-word-spec = tie.close (tie.spec (λ c κs. search needs) (λ c. search needs) (λ c. search needs) (λ c κs. search needs) (λ c. move-told (c .before .before .before .tell .ensures) (c .word .ensures)))

@@ -5,11 +5,6 @@ use Rattle.words.proofs.Laws.{case-at, run-ended, word-at}
 use borrow.Author.Needs.{needs}
 use Rattle.words.proofs.run_word.Statement.{statement}
 use Rattle.words.proofs.run_word.Tie as tie
-use Rattle.words.proofs.run_word.Reads as reads
-use Rattle.words.proofs.run_word.Lts as lts
-use Rattle.words.proofs.end_number.Reads as end-number-reads
-use Rattle.words.proofs.refused.Reads as refused-reads
-use Rattle.words.proofs.word.Reads as word-reads
 
 pub run-word-spec : {M : Type 1} → statement M
 run-word-spec =

@@ -4,10 +4,6 @@ use Rattle.words.proofs.Laws.{case-at, word-at}
 use borrow.Author.Needs.{needs}
 use Rattle.words.proofs.step_word.Statement.{statement}
 use Rattle.words.proofs.step_word.Tie as tie
-use Rattle.words.proofs.step_word.Reads as reads
-use Rattle.words.proofs.step_word.Lts as lts
-use Rattle.words.proofs.move_word.Reads as move-word-reads
-use Rattle.words.proofs.refused.Reads as refused-reads
 
 pub step-word-spec : {M : Type 1} → statement M
 step-word-spec =

@@ -4,10 +4,6 @@ use Rattle.words.proofs.Laws.{case-at, word-at}
 use borrow.Author.Needs.{needs}
 use Rattle.words.proofs.supply_word.Statement.{statement}
 use Rattle.words.proofs.supply_word.Tie as tie
-use Rattle.words.proofs.supply_word.Reads as reads
-use Rattle.words.proofs.supply_word.Lts as lts
-use Rattle.words.proofs.refused.Reads as refused-reads
-use Rattle.words.proofs.word.Reads as word-reads
 
 pub supply-word-spec : {M : Type 1} → statement M
 supply-word-spec =

@@ -5,9 +5,6 @@ use Rattle.words.proofs.Laws.{case-at, told-process, told-variable}
 use borrow.Author.Needs.{needs}
 use Rattle.words.proofs.tell.Statement.{statement}
 use Rattle.words.proofs.tell.Tie as tie
-use Rattle.words.proofs.tell.Reads as reads
-use Rattle.words.proofs.tell.Lts as lts
-use Rattle.words.proofs.number_of.Reads as number-of-reads
 
 pub tell-spec : {M : Type 1} → statement M
 tell-spec =

@@ -3,9 +3,6 @@ use Rattle.words.proofs.Laws.{word-at}
 use borrow.Author.Needs.{needs}
 use Rattle.words.proofs.term_word.Statement.{statement}
 use Rattle.words.proofs.term_word.Tie as tie
-use Rattle.words.proofs.term_word.Reads as reads
-use Rattle.words.proofs.term_word.Lts as lts
-use Rattle.words.proofs.word.Reads as word-reads
 
 pub term-word-spec : {M : Type 1} → statement M
 term-word-spec =

@@ -4,10 +4,6 @@ use Rattle.words.proofs.Laws.{case-at, word-at}
 use borrow.Author.Needs.{needs}
 use Rattle.words.proofs.value_word.Statement.{statement}
 use Rattle.words.proofs.value_word.Tie as tie
-use Rattle.words.proofs.value_word.Reads as reads
-use Rattle.words.proofs.value_word.Lts as lts
-use Rattle.words.proofs.refused.Reads as refused-reads
-use Rattle.words.proofs.term_word.Reads as term-word-reads
 
 pub value-word-spec : {M : Type 1} → statement M
 value-word-spec =

@@ -4,9 +4,6 @@ use Rattle.words.proofs.Laws.{watch-at, watch-beyond, word-at}
 use borrow.Author.Needs.{needs}
 use Rattle.words.proofs.watch_word.Statement.{statement}
 use Rattle.words.proofs.watch_word.Tie as tie
-use Rattle.words.proofs.watch_word.Reads as reads
-use Rattle.words.proofs.watch_word.Lts as lts
-use Rattle.words.proofs.word.Reads as word-reads
 
 pub watch-word-spec : {M : Type 1} → statement M
 watch-word-spec =

@@ -3,8 +3,6 @@ use borrow.Author.Needs.{needs}
 use Rattle.parlog.specs.Numbers.{word}
 use Rattle.words.proofs.word.Statement.{statement}
 use Rattle.words.proofs.word.Tie as tie
-use Rattle.words.proofs.word.Reads as reads
-use Rattle.words.proofs.word.Lts as lts
 
 returns : tie.Need-returns
 unfolding word

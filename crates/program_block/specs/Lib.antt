@@ -1,0 +1,2 @@
+-- What the contracts of the scan name beside the definitions.
+pub mod Parts

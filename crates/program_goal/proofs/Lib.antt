@@ -1,0 +1,5 @@
+pub mod Rows
+pub mod Outs
+pub mod Homes
+pub mod Goals
+pub mod Tags

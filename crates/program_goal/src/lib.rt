@@ -1,0 +1,318 @@
+// The goals of an image, their stages and literals, read where they stand, and the tags that they call for.
+use parlog::Spot;
+use parlog::Term;
+use parlog::codes;
+use program_clause::Outs;
+ghost use mathlib.Core.Path.{_≡_};
+ghost use mathlib.Core.Bool.{cond};
+ghost use mathlib.Core.List.{[]};
+ghost use Prim.Native.Nat.{_+_, _*_, _≤_, _<_};
+ghost use lib.Dec.{eqb, ltb};
+ghost use lib.ListN.{length, getD};
+ghost use Rattle.parlog.specs.Codes.{kindOf, tagCode};
+ghost use Rattle.parlog.specs.Image.{bodyAt, byteAt, guardAt, termAt};
+ghost use Rattle.parlog.specs.Program.{noLiteral, equation, literalOf, programOf, goalBy, stageAt, literalAt, tagOfLiteral, tagOfStage, tagOfGoal};
+ghost use Rattle.program_goal.specs.Parts.{shown, front, goalIn, Near, stagesOf, relationTag};
+
+// A literal: its relation, its arity, and the four arguments that it may have.
+pub struct Lit {
+    pub rel: usize,
+    pub arity: usize,
+    pub a: Term,
+    pub b: Term,
+    pub c: Term,
+    pub d: Term,
+}
+
+// ---- literals in the image
+
+// What stands past the end.
+fn none() -> Lit
+    ensures { λ r. ⌜ (r ≡ shown noLiteral) × (r .rel ≤ 255) ⌝ }
+{
+    Lit {
+        rel: codes::EQUALITY,
+        arity: 0,
+        a: Term::Const(0),
+        b: Term::Const(0),
+        c: Term::Const(0),
+        d: Term::Const(0),
+    }
+}
+
+// The literal at a place.
+fn literal_here(s: &[u8], at: usize) -> Lit
+    requires { ⌜ at ≤ 268435000 ⌝ }
+    ensures { λ r. ⌜ (r ≡ shown (literalOf (now (s .entry)) at)) × (r .rel ≤ 255) ⌝ }
+{
+    let rel = place::byte_at(s, at);
+    let n = place::byte_at(s, at + 1);
+    let first = at + 2;
+    let a = program_clause::term_of(s, n, first, 0);
+    let b = program_clause::term_of(s, n, first, 1);
+    let c = program_clause::term_of(s, n, first, 2);
+    let d = program_clause::term_of(s, n, first, 3);
+    Lit {
+        rel,
+        arity: n,
+        a,
+        b,
+        c,
+        d,
+    }
+}
+
+// Literal j of stage i of n stages at a place.
+fn literal_in(s: &[u8], n: usize, at: usize, i: usize, j: usize) -> Lit
+    requires { ⌜ (n ≤ 255) × (at ≤ 134217728) ⌝ }
+    ensures { λ r. ⌜ (r ≡ shown (getD (getD (stagesOf (now (s .entry)) n at) i []) j noLiteral)) × (r .rel ≤ 255) ⌝ }
+{
+    if n <= i {
+        return none();
+    }
+    let st = place::stages_end(s, i, at);
+    let m = place::byte_at(s, st);
+    if m <= j {
+        return none();
+    }
+    let l = place::literals_end(s, j, st + 1);
+    literal_here(s, l)
+}
+
+// One output equation.
+fn equation(t: Term, v: usize) -> Lit
+    requires { ⌜ v ≤ 4096 ⌝ }
+    ensures { λ r. ⌜ (r ≡ shown (equation t v)) × (r .rel ≤ 255) ⌝ }
+{
+    Lit {
+        rel: codes::EQUALITY,
+        arity: 2,
+        a: t,
+        b: Term::Var(v as u32),
+        c: Term::Const(0),
+        d: Term::Const(0),
+    }
+}
+
+// ---- where a goal stands
+
+// The stages of a goal: how many, and where; for a committed body also its clause, whose output equations come first.
+pub struct Home {
+    pub stages: usize,
+    pub at: usize,
+    pub body: bool,
+    pub clause: usize,
+}
+
+// The place of the guard of the clause at a place, or of its body.
+fn part_place(s: &[u8], clause: usize, kind: u8) -> usize
+    requires { ⌜ clause ≤ 8388608 ⌝ }
+    ensures { λ r. ⌜ (r ≡ cond (eqb kind 1) (guardAt (now (s .entry)) clause) (bodyAt (now (s .entry)) clause)) × (r ≤ 67108864) ⌝ }
+{
+    let guard = clause + 8 + 2 * place::byte_at(s, clause + 5);
+    if kind == codes::THE_GUARD {
+        return guard;
+    }
+    place::goal_end(s, guard)
+}
+
+// The goal that kind and k name: the image's goal, the guard of clause k, or its committed body.
+fn goal_home(s: &[u8], rels: usize, clauses: usize, kind: u8, k: u8) -> Home
+    requires { ⌜ (rels ≤ 32) × (clauses ≤ 64) ⌝ }
+    ensures { λ r. ⌜ (goalBy (kindOf kind) (programOf (now (s .entry)) rels clauses) k ≡ goalIn (now (s .entry)) rels r) × Near r ⌝ }
+{
+    if kind == codes::THE_GOAL {
+        let at = place::record_at(s, rels + clauses) + 5;
+        let stages = place::byte_at(s, at);
+        return Home {
+            stages,
+            at: at + 1,
+            body: false,
+            clause: 0,
+        };
+    }
+    let number = k as usize;
+    if clauses <= number {
+        return Home {
+            stages: 0,
+            at: 0,
+            body: false,
+            clause: 0,
+        };
+    }
+    let clause = place::record_at(s, rels + number);
+    let at = part_place(s, clause, kind);
+    let stages = place::byte_at(s, at);
+    Home {
+        stages,
+        at: at + 1,
+        body: kind != codes::THE_GUARD,
+        clause,
+    }
+}
+
+fn least(a: usize, b: usize) -> usize
+    ensures { λ r. ⌜ (r ≡ cond (ltb a b) a b) × (r ≤ a) ⌝ }
+{
+    if a < b { a } else { b }
+}
+
+// The output equations that come before stage i: how many, and the number of the argument of equation j.
+fn outs_before(s: &[u8], rels: usize, h: Home, i: usize, j: usize) -> Outs
+    requires { ⌜ (rels ≤ 32) × Near h ⌝ }
+    ensures { λ r. ⌜ (r .count ≡ length (front (h .body) i (now (s .entry)) rels (h .clause))) × ((j < r .count) → equation (termAt (now (s .entry)) (h .clause + 8 + 2 * r .number)) (byteAt (now (s .entry)) (h .clause + 7) + j) ≡ getD (front (h .body) i (now (s .entry)) rels (h .clause)) j noLiteral) × (r .count ≤ 255) × (r .number ≤ 255) ⌝ }
+{
+    let clause = h.clause;
+    if !basics::and(h.body, i == 0) {
+        return Outs {
+            count: 0,
+            number: 0,
+        };
+    }
+    let q = place::byte_at(s, clause + 4);
+    let m = place::byte_at(s, clause + 5);
+    let ms = program_clause::modes_of(s, rels, q);
+    let n = ms.n;
+    let at = ms.at;
+    let few = least(m, n);
+    program_clause::outs_of(s, few, at, j)
+}
+
+// ---- reads of a goal where it stands
+
+// Literal j of its stage i.
+fn literal_at(s: &[u8], rels: usize, h: Home, i: usize, j: usize) -> Lit
+    requires { ⌜ (rels ≤ 32) × Near h ⌝ }
+    ensures { λ r. ⌜ (r ≡ shown (getD (getD (goalIn (now (s .entry)) rels h) i []) j noLiteral)) × (r .rel ≤ 255) ⌝ }
+{
+    let outs = outs_before(s, rels, h, i, j);
+    let count = outs.count;
+    let number = outs.number;
+    let clause = h.clause;
+    if j < count {
+        let t = place::term_at(s, clause + 8 + 2 * number);
+        let v = place::byte_at(s, clause + 7);
+        return equation(t, v + j);
+    }
+    let stages = h.stages;
+    let at = h.at;
+    literal_in(s, stages, at, i, j - count)
+}
+
+// The number of literals of its stage i.
+fn stage_size_at(s: &[u8], rels: usize, h: Home, i: usize) -> usize
+    requires { ⌜ (rels ≤ 32) × Near h ⌝ }
+    ensures { λ r. ⌜ (r ≡ length (getD (goalIn (now (s .entry)) rels h) i [])) × (r ≤ 510) ⌝ }
+{
+    let outs = outs_before(s, rels, h, i, 0);
+    let count = outs.count;
+    let stages = h.stages;
+    let at = h.at;
+    if stages <= i {
+        return count;
+    }
+    let st = place::stages_end(s, i, at);
+    count + place::byte_at(s, st)
+}
+
+// The number of its stages.
+fn goal_size_at(s: &[u8], rels: usize, h: Home) -> usize
+    requires { ⌜ (rels ≤ 32) × Near h ⌝ }
+    ensures { λ r. ⌜ (r ≡ length (goalIn (now (s .entry)) rels h)) × (r ≤ 255) ⌝ }
+{
+    let stages = h.stages;
+    if stages != 0 {
+        return stages;
+    }
+    let outs = outs_before(s, rels, h, 0, 0);
+    let count = outs.count;
+    if count == 0 { 0 } else { 1 }
+}
+
+// The tag of a literal of relation rel.
+fn relation_tag(rel: usize) -> u8
+    ensures { λ r. ⌜ (r ≡ relationTag rel) × (r ≤ 8) ⌝ }
+{
+    if rel == codes::EQUALITY {
+        codes::EQUATE
+    } else {
+        codes::OR_PAR
+    }
+}
+
+// The tag of its stage i.
+fn stage_tag(s: &[u8], rels: usize, h: Home, i: usize) -> u8
+    requires { ⌜ (rels ≤ 32) × Near h ⌝ }
+    ensures { λ r. ⌜ (r ≡ tagCode (tagOfStage (getD (goalIn (now (s .entry)) rels h) i []))) × (r ≤ 8) ⌝ }
+{
+    let n = stage_size_at(s, rels, h, i);
+    if n != 1 {
+        return codes::AND_PAR;
+    }
+    let l = literal_at(s, rels, h, i, 0);
+    let rel = l.rel;
+    relation_tag(rel)
+}
+
+// ---- goals by kind and clause
+
+// The number of stages of the goal that kind and k name.
+pub fn goal_size(s: &[u8], rels: usize, clauses: usize, kind: u8, k: u8) -> usize
+    requires { ⌜ (rels ≤ 32) × (clauses ≤ 64) ⌝ }
+    ensures { λ r. ⌜ (r ≡ length (goalBy (kindOf kind) (programOf (now (s .entry)) rels clauses) k)) × (r ≤ 255) ⌝ }
+{
+    let h = goal_home(s, rels, clauses, kind, k);
+    goal_size_at(s, rels, h)
+}
+
+// The tag of that goal.
+pub fn tag_of_goal(s: &[u8], rels: usize, clauses: usize, kind: u8, k: u8) -> u8
+    requires { ⌜ (rels ≤ 32) × (clauses ≤ 64) ⌝ }
+    ensures { λ r. ⌜ (r ≡ tagCode (tagOfGoal (goalBy (kindOf kind) (programOf (now (s .entry)) rels clauses) k))) × (r ≤ 8) ⌝ }
+{
+    let h = goal_home(s, rels, clauses, kind, k);
+    let n = goal_size_at(s, rels, h);
+    if n != 1 {
+        return codes::AND_SEQ;
+    }
+    stage_tag(s, rels, h, 0)
+}
+
+// ---- the stage and the literal that a process names
+
+// The number of literals of the stage.
+pub fn stage_size(s: &[u8], rels: usize, clauses: usize, z: Spot) -> usize
+    requires { ⌜ (rels ≤ 32) × (clauses ≤ 64) ⌝ }
+    ensures { λ r. ⌜ (r ≡ length (stageAt (programOf (now (s .entry)) rels clauses) z)) × (r ≤ 510) ⌝ }
+{
+    let h = goal_home(s, rels, clauses, z.kind, z.clause);
+    stage_size_at(s, rels, h, z.stage as usize)
+}
+
+// The tag of the stage.
+pub fn tag_of_stage(s: &[u8], rels: usize, clauses: usize, z: Spot) -> u8
+    requires { ⌜ (rels ≤ 32) × (clauses ≤ 64) ⌝ }
+    ensures { λ r. ⌜ (r ≡ tagCode (tagOfStage (stageAt (programOf (now (s .entry)) rels clauses) z))) × (r ≤ 8) ⌝ }
+{
+    let h = goal_home(s, rels, clauses, z.kind, z.clause);
+    stage_tag(s, rels, h, z.stage as usize)
+}
+
+// The literal.
+pub fn literal(s: &[u8], rels: usize, clauses: usize, z: Spot) -> Lit
+    requires { ⌜ (rels ≤ 32) × (clauses ≤ 64) ⌝ }
+    ensures { λ r. ⌜ (r ≡ shown (literalAt (programOf (now (s .entry)) rels clauses) z)) × (r .rel ≤ 255) ⌝ }
+{
+    let h = goal_home(s, rels, clauses, z.kind, z.clause);
+    literal_at(s, rels, h, z.stage as usize, z.literal as usize)
+}
+
+// The tag of the literal.
+pub fn tag_of_literal(s: &[u8], rels: usize, clauses: usize, z: Spot) -> u8
+    requires { ⌜ (rels ≤ 32) × (clauses ≤ 64) ⌝ }
+    ensures { λ r. ⌜ (r ≡ tagCode (tagOfLiteral (literalAt (programOf (now (s .entry)) rels clauses) z))) × (r ≤ 8) ⌝ }
+{
+    let l = literal(s, rels, clauses, z);
+    let rel = l.rel;
+    relation_tag(rel)
+}

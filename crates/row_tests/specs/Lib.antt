@@ -1,2 +1,0 @@
--- What the tests on numbers name beside the definitions.
-pub mod Tests
