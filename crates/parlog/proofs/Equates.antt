@@ -11,6 +11,7 @@ use native.Mathlib.Omega.{arith}
 use Rattle.parlog.proofs.Assume.{assume-bindings, assume-counts}
 use Rattle.parlog.proofs.Bindings.{bindings-test}
 use Rattle.parlog.proofs.Bools.{and-true, never, split}
+use Rattle.parlog.proofs.Changing.{changed-only}
 use Rattle.parlog.proofs.Coded.{code-tag}
 use Rattle.parlog.proofs.Effects.{after-apply, apply-count, apply-vars}
 use Rattle.parlog.proofs.Exact.{makes-exactly}
@@ -78,7 +79,7 @@ module _ (lim : Limits) (pr : Program) (sane : Sane pr) (s : State) (ok : stateO
     after = after-apply s p (reporting-with success (me s p) bs) (Below s p) here (agrees-below s p (good .kin) _ _ _ _)
 
     vars-next : next .vars ≡ changed (s .vars) bs
-    vars-next = after .bindings ∙ rw (append-nil (s .vars))
+    vars-next = changed-only (after .bindings) ∙ rw (append-nil (s .vars))
 
     fits-next : Fits lim next
     fits-next =
