@@ -13,7 +13,7 @@ use Rattle.parlog.specs.Codes.{Result}
 use Rattle.parlog.specs.Delta.{Delta, fourOf, report, reporting-with, withNotes}
 use Rattle.parlog.specs.Limits.{Limits}
 use Rattle.parlog.specs.Rules.{Applied, by-rule, fits, no-rule}
-use Rattle.parlog.specs.Tables.{at, State}
+use Rattle.parlog.specs.Tables.{State}
 use Rattle.parlog.specs.declared.Move.{Move}
 use Rattle.parlog.specs.declared.Process.{Process}
 use Rattle.move_plan.specs.Plans.{appliedOf, changesOf, deltaOf, fitsIn}

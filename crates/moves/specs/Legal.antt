@@ -5,7 +5,7 @@ use Prim.Native.Nat.{_<_, _≤_, ℕ}
 use lib.ListN.{length}
 use Rattle.move_plan.specs.Plans.{newMost}
 use Rattle.parlog.specs.Program.{Program, stageAt}
-use Rattle.parlog.specs.Rules.{blockAt, members, tries}
+use Rattle.parlog.specs.Rules.{blockAt}
 use Rattle.parlog.specs.Tables.{at, State}
 use Rattle.parlog.specs.declared.Binding.{Binding}
 use Rattle.parlog.specs.declared.Process.{Process}

@@ -6,7 +6,6 @@ use lib.ListN.{drop, getD, length, length-set, set, take}
 use lib.Seq.{drop-cons, drop-length, take-set-le}
 use borrow.Author.Tests.{le-ltb, lt-ltb}
 use native.Mathlib.Omega.{arith}
-use Rattle.parlog.specs.Scan.{some}
 use Rattle.parlog.specs.Text.{decimal, digits}
 use Rattle.runner_text.specs.Fronting.{Fronted}
 

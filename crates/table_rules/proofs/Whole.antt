@@ -15,7 +15,7 @@ use Rattle.parlog.specs.Limits.{Limits}
 use Rattle.parlog.specs.Program.{Program}
 use Rattle.parlog.specs.Scan.{every, implies}
 use Rattle.parlog.specs.TableRules.{bindingOk, cellKnown, countsOk, fullSize, lentOk, rowOk, stateOk, tablesOk, varOk}
-use Rattle.parlog.specs.Tables.{at, bindingAt, bindingBy, cellSize, headSize, Lent, markerLast, numberAt, procCount, procsOf, rowSize, sortAt, tablesIn, varCount, varsIn}
+use Rattle.parlog.specs.Tables.{bindingAt, bindingBy, cellSize, headSize, Lent, markerLast, numberAt, procCount, procsOf, rowSize, sortAt, tablesIn, varCount, varsIn}
 use Rattle.rows.proofs.Tables.{procs-length}
 use Rattle.table_rules.proofs.Places.{and-none}
 use Rattle.table_rules.specs.Parts.{cellOk}

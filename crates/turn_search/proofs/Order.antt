@@ -12,7 +12,7 @@ use Rattle.parlog.proofs.Scans.{lowest-at, lowest-is, lowest-none, lowest-nothi
 use Rattle.parlog.specs.Program.{Program}
 use Rattle.parlog.specs.Run.{canMove, turnOf}
 use Rattle.parlog.specs.Scan.{lowest, orElse}
-use Rattle.parlog.specs.Tables.{at, State}
+use Rattle.parlog.specs.Tables.{State}
 use Rattle.parlog.specs.declared.Found.{Found}
 use Rattle.parlog.specs.declared.Found.the-variants.{At, Nothing}
 use Rattle.turn_search.specs.Notes.{firstFrom, foundIn}

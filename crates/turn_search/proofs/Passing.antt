@@ -23,7 +23,6 @@ use Rattle.parlog.specs.Codes.{failure, success}
 use Rattle.parlog.specs.Limits.{small}
 use Rattle.parlog.specs.Program.{Program}
 use Rattle.parlog.specs.Run.{canMove, turnFor, turnOf}
-use Rattle.parlog.specs.Scan.{lowest}
 use Rattle.parlog.specs.Tables.{at, State}
 use Rattle.parlog.specs.Tree.{isChild, reports}
 use Rattle.parlog.specs.declared.Found.{Found}

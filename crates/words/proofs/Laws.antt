@@ -4,7 +4,6 @@ use Prim.Native.Nat.{_<_, _≤_, ℕ}
 use borrow.Author.Tests.{le-ltb, lt-ltb}
 use native.Mathlib.Omega.{arith}
 use Rattle.parlog.specs.Numbers.{endNumber, Numbers, ruleNumber, runNumbers, stepNumbers, touched, variable, watchNumbers, word}
-use Rattle.parlog.specs.Tables.{at}
 use Rattle.parlog.specs.declared.End.{End}
 use Rattle.parlog.specs.declared.Found.{Found}
 use Rattle.parlog.specs.declared.Found.the-variants.{At}

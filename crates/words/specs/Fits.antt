@@ -4,7 +4,6 @@ use mathlib.Core.Bool.{cond}
 use Prim.Native.Nat.{_≤_, suc, zero, ℕ}
 use lib.Dec.{ltb}
 use Rattle.parlog.specs.Numbers.{ruleNumber, touched}
-use Rattle.parlog.specs.Rules.{fits}
 use Rattle.parlog.specs.declared.Found.{Found}
 use Rattle.parlog.specs.declared.Found.the-variants.{At, Nothing}
 use Rattle.parlog.specs.declared.Move.{Move}

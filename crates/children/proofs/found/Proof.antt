@@ -1,4 +1,3 @@
-use borrow.Author.Tests.{eq-eqb, ne-eqb}
 use borrow.Author.Needs.{needs}
 use Rattle.children.proofs.found.Statement.{statement}
 use Rattle.children.proofs.found.Tie as tie

@@ -1,4 +1,3 @@
-use mathlib.Core.Path.{_∙_}
 use Rattle.children.proofs.Noting.{tells}
 use borrow.Author.Needs.{needs}
 use Rattle.children.proofs.told_by.Statement.{statement}

@@ -1,11 +1,11 @@
 use Rattle.head.proofs.Laws.{paste-all, paste-one}
 use Rattle.parlog.specs.Tables.{headBytes, headSize}
 use lib.Seq.{paste, paste-zero}
-use lib.ListN.{length, length-set}
+use lib.ListN.{length}
 use borrow.Author.Needs.{needs}
 use native.Mathlib.Omega.{arith}
-use mathlib.Core.Path.{_≡_, sym, _∙_}
-use Prim.Native.Nat.{_≤_, _-_, _+_, _<_}
+use mathlib.Core.Path.{_≡_, _∙_}
+use Prim.Native.Nat.{_≤_, _-_}
 use Rattle.head.proofs.put_head.Statement.{statement}
 use Rattle.head.proofs.put_head.Tie as tie
 

@@ -1,4 +1,3 @@
-use lib.ListN.{length}
 use native.Mathlib.Omega.{arith}
 use Rattle.runner_text.proofs.Laws.{word-done, word-on, word-start, Wording}
 use Rattle.runner_text.proofs.word.Statement.{statement}

@@ -1,5 +1,3 @@
-use mathlib.Core.Path.{_∙_, ap, refl}
-use lib.ListN.{length-set}
 use Rattle.rows.proofs.Tables.{procs-length}
 use Rattle.turn_search.proofs.Passing.{all-kept, all-silent, all-told}
 use borrow.Author.Needs.{needs}

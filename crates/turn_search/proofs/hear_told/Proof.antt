@@ -1,5 +1,3 @@
-use mathlib.Core.Path.{ap}
-use lib.ListN.{set}
 use borrow.Author.Needs.{needs}
 use Rattle.turn_search.proofs.hear_told.Statement.{statement}
 use Rattle.turn_search.proofs.hear_told.Tie as tie

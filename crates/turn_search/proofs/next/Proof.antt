@@ -1,4 +1,4 @@
-use mathlib.Core.Path.{_∙_, _≡_, refl, sym}
+use mathlib.Core.Path.{_∙_, refl, sym}
 use mathlib.Core.List.{[]}
 use Rattle.rows.proofs.Tables.{procs-length}
 use Rattle.parlog.specs.Program.{programOf}

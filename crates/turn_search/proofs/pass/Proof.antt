@@ -1,4 +1,3 @@
-use mathlib.Core.Path.{_∙_, _≡_}
 use native.Mathlib.Omega.{arith}
 use Rattle.turn_search.proofs.Order.{turn-is}
 use borrow.Author.Needs.{needs}

@@ -31,7 +31,7 @@ use types.Share.{arr-parts}
 use sound.WpLaws.{fmOf, WpFn-mono}
 use denote.RattleType.{owns}
 use denote.Laws.{Is, shows}
-use denote.Memory.{mem, shares, pointee}
+use denote.Memory.{shares, pointee}
 use denote.Plain.{bool-lawful}
 use denote.Builtin.{bool}
 use denote.Ref.{RefT}
