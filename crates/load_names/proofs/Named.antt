@@ -1,16 +1,18 @@
 -- What the names of a relation, a literal, a stage and a clause come to by their parts.
-use mathlib.Core.Path.{_≡_, refl}
+use mathlib.Core.Path.{_∙_, _≡_, refl, sym}
 use mathlib.Core.Bool.{_&&_, Bool, cond, false, true}
 use mathlib.Core.List.{List}
 use Prim.Native.Nat.{_*_, _+_, _<_, _≤_, ℕ}
-use lib.Dec.{eqb}
-use borrow.Author.Tests.{le-ltb, lt-ltb}
+use lib.Dec.{eqb, ltb}
+use borrow.Author.Tests.{le-ltb, lt-ltb, ltb-false, ltb-true}
 use native.Mathlib.Omega.{arith}
-use Rattle.load_names.specs.Reading.{Arities}
-use Rattle.parlog.specs.Image.{bodyAt, equality, goalEnd, guardAt, literalsEnd, stageEnd, termAt}
+use Rattle.parlog.proofs.Bools.{split}
+use Rattle.load_names.specs.Reading.{Arities, wordOf}
+use Rattle.parlog.specs.Image.{bodyAt, equality, goalEnd, guardAt, literalsEnd, numberOf, stageEnd, termAt}
 use Rattle.parlog.specs.Names.{clauseInside, goalNamed, literalNamed, literalsNamed, relationNamed, stageNamed, termNamed, termNamedAt, termsNamed}
 use Rattle.parlog.specs.Records.{byteAt}
 use Rattle.parlog.specs.declared.Term.{Term}
+use Rattle.parlog.specs.declared.Term.the-variants.{Const, Var}
 use Rattle.place.proofs.Grows.{goal-grows}
 
 -- ---- terms
@@ -18,6 +20,14 @@ use Rattle.place.proofs.Grows.{goal-grows}
 pub term-read : (s : List ℕ) (vars at : ℕ) (t : Term) (b : Bool) → t ≡ termAt s at → b ≡ termNamed vars t → termNamedAt s vars at ≡ b
 unfolding termNamedAt
 term-read s vars at t b e q = rw (← e, ← q)
+
+-- constants have the lower numbers, so one comparison tells
+pub word-below : (vars : ℕ) (t : Term) → numberOf t ≤ 32767 → ltb (wordOf t) (32768 + vars) ≡ termNamed vars t
+word-below vars (Const c) h = lt-ltb c (32768 + vars) (omega arith)
+word-below vars (Var v) h =
+    split (ltb v vars)
+    (λ e. let l = ltb-true v vars e in lt-ltb (32768 + v) (32768 + vars) (omega arith) ∙ sym e)
+    (λ e. let l = ltb-false v vars e in le-ltb (32768 + v) (32768 + vars) (omega arith) ∙ sym e)
 
 -- ---- relations by the table of arities
 

@@ -5,6 +5,8 @@ use Prim.Native.Nat.{_+_, _<_, _≤_, ℕ}
 use lib.ListN.{length}
 use Rattle.parlog.specs.Image.{bodyAt, byteAt, goalEnd}
 use Rattle.parlog.specs.Names.{arityOf}
+use Rattle.parlog.specs.declared.Term.{Term}
+use Rattle.parlog.specs.declared.Term.the-variants.{Const, Var}
 
 -- the table t holds the arities of the first n relations
 pub record Arities (s : List ℕ) (n : ℕ) (t : List ℕ) : Type 0 where
@@ -14,3 +16,8 @@ pub record Arities (s : List ℕ) (n : ℕ) (t : List ℕ) : Type 0 where
 pub record GoalsIn (s : List ℕ) (at kind : ℕ) : Type 0 where
   pub clause : kind ≡ 2 → goalEnd s (bodyAt s at) ≤ length s
   pub ask : (kind ≡ 1 → ⊥) → (kind ≡ 2 → ⊥) → goalEnd s (at + 5) ≤ length s
+
+-- Image 9: the number that a term is in an image
+abbrev pub wordOf : Term → ℕ
+wordOf (Const c) = c
+wordOf (Var v) = 32768 + v

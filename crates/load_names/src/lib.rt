@@ -7,18 +7,27 @@ ghost use mathlib.Core.Bool.{cond};
 ghost use Prim.Native.Nat.{_+_, _*_, _≤_};
 ghost use lib.ListN.{length};
 ghost use lib.Dec.{eqb};
-ghost use Rattle.parlog.specs.Image.{byteAt, equality, literalEnd, literalsEnd, stagesEnd, goalEnd, bodyAt};
+ghost use Rattle.parlog.specs.Image.{byteAt, equality, numberOf, literalEnd, literalsEnd, stagesEnd, goalEnd, bodyAt};
 ghost use Rattle.parlog.specs.Names.{termNamed, termsNamed, relationNamed, literalNamed, literalsNamed, stagesNamed, goalNamed, follows, clausePlaced, clauseInside, namesRight};
-ghost use Rattle.load_names.specs.Reading.{Arities, GoalsIn};
+ghost use Rattle.load_names.specs.Reading.{Arities, GoalsIn, wordOf};
 
-// NAME: a term that is a variable is below the count.
-fn term_named(vars: usize, t: Term) -> bool
-    ensures { λ r. ⌜ r ≡ termNamed vars t ⌝ }
+// The number that a term is in an image.
+fn word_of(t: Term) -> usize
+    requires { ⌜ numberOf t ≤ 32767 ⌝ }
+    ensures { λ r. ⌜ r ≡ wordOf t ⌝ }
 {
     match t {
-        Term::Const(_) => true,
-        Term::Var(v) => basics::wide_u32(v) < vars,
+        Term::Const(c) => basics::wide_u32(c),
+        Term::Var(v) => codes::FIRST_VARIABLE + basics::wide_u32(v),
     }
+}
+
+// NAME: a term that is a variable is below the count; one comparison, since constants have the lower numbers.
+fn term_named(vars: usize, t: Term) -> bool
+    requires { ⌜ (numberOf t ≤ 32767) × (vars ≤ 255) ⌝ }
+    ensures { λ r. ⌜ r ≡ termNamed vars t ⌝ }
+{
+    word_of(t) < codes::FIRST_VARIABLE + vars
 }
 
 // NAME: each of n terms is.

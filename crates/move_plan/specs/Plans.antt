@@ -2,7 +2,7 @@
 use mathlib.Core.Path.{_≡_}
 use mathlib.Core.Bool.{_&&_, Bool, cond, false, true}
 use mathlib.Core.List.{_++_, List}
-use Prim.Native.Nat.{_*_, _+_, _<_, ℕ}
+use Prim.Native.Nat.{_*_, _+_, _<_, suc, zero, ℕ}
 use lib.Dec.{leb}
 use lib.ListN.{getD, length, replicate, set, take}
 use Rattle.parlog.specs.Codes.{dormant, Mode, modeCode, Tag, tagCode}
@@ -62,6 +62,11 @@ appliedOf pl = cond (pl .acts) (by-rule (pl .mv) (deltaOf pl)) no-rule
 -- 11 ROOM, by numbers: the limits, the counts
 unfoldable pub fitsIn : ℕ → ℕ → ℕ → ℕ → Plan → Bool
 fitsIn procs vars n m pl = leb (n + pl .count) procs && leb (m + pl .fresh) vars
+
+-- Turns 9: the row that a move touches which makes k processes after n
+unfoldable pub touched : ℕ → ℕ → ℕ → ℕ
+touched n p zero = p
+touched n p (suc k) = n
 
 -- ---- the writers
 

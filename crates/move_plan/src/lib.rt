@@ -1,6 +1,6 @@
 // What a move will do, decided before anything is written, and the one function that carries it out.
 ghost use mathlib.Core.Path.{_≡_};
-ghost use mathlib.Core.List.{_++_};
+ghost use mathlib.Core.List.{[], _∷_, _++_};
 ghost use Prim.Native.Nat.{_+_, _*_, _≤_, _<_};
 ghost use lib.ListN.{getD, length, take};
 ghost use Rattle.parlog.specs.Codes.{kindCode, modeCode, resultCode};
@@ -11,7 +11,7 @@ ghost use Rattle.parlog.specs.Unify.{changed};
 ghost use Rattle.rows.specs.Rows.{Table};
 ghost use Rattle.tree.specs.Family.{Falls};
 ghost use Rattle.vars.specs.Cells.{Cells};
-ghost use Rattle.move_plan.specs.Plans.{appliedOf, Born, changesOf, cutBelow, deltaOf, fitsIn, napped, newMost, Of, procsAfter, sleptAt, stateIn, varsAfter, Within};
+ghost use Rattle.move_plan.specs.Plans.{appliedOf, Born, changesOf, cutBelow, deltaOf, fitsIn, napped, newMost, Of, procsAfter, sleptAt, stateIn, touched, varsAfter, Within};
 use parlog::Change;
 use parlog::Found;
 use parlog::Move;
@@ -274,6 +274,25 @@ pub fn make(
         changes,
         fresh,
     }
+}
+
+// One new process, and perhaps a child that falls asleep.
+pub fn make_one(mv: Move, x: Process, nap: Found, y: Process) -> Plan
+    ensures { λ r. ⌜ (appliedOf r ≡ by-rule mv (making x nap (y ∷ []) 0)) × (r .count ≤ newMost) × (r .changes .count ≡ 0) ⌝ }
+{
+    let mut new = [0u8; NEW_SIZE];
+    rows::append(&mut new, 0, y);
+    make(mv, x, nap, 1, new, 0)
+}
+
+// The row that a move touches which makes k processes after n: the first of them, or the mover.
+pub fn touched(n: usize, p: usize, k: usize) -> usize
+    ensures { λ r. ⌜ r ≡ touched n p k ⌝ }
+{
+    if k == 0 {
+        return p;
+    }
+    n
 }
 
 // The mover alone changes.

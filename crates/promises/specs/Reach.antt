@@ -34,7 +34,7 @@ pub data Follow (lim : Limits) (s : List ℕ) : Lent → Type 0 where
   a-turn-call : {l l′ : Lent} {w : ℕ} → TurnMeets lim s l w l′ → Follow lim s l′ → Follow lim s l
   a-supply-call : {l l′ : Lent} {v k w : ℕ} → SupplyMeets lim s l v k w l′ → Follow lim s l′ → Follow lim s l
 
--- ServedBy s p n l f: of the next n turn steps made as the calls f follow, one is p's, or p is dormant before that.
+-- ServedBy lim s p n l f: of the next n turn steps made as the calls f follow, one is p's, or p is dormant before that.
 -- A turn refused for room makes no step, so that it does not count. Calls that are over while steps are left ask for nothing more.
 pub data ServedBy (lim : Limits) (s : List ℕ) (p : ℕ) : ℕ → (l : Lent) → Follow lim s l → Type 0 where
   is-dormant : {n : ℕ} {l : Lent} {f : Follow lim s l} → HasMode (stateIn l) p dormant → ServedBy lim s p n l f

@@ -21,10 +21,10 @@ use Rattle.parlog.specs.declared.Found.the-variants.{At, Nothing}
 use Rattle.parlog.specs.declared.Move.the-variants.{AndParFailure, AndParStart, AndParSuccess, AndSeqFailure, AndSeqNext, AndSeqStart, AndSeqSuccess, GuardEvalEmpty, GuardEvalFailure, GuardEvalStart, GuardEvalSuccess, Ready, Stop, TryClauseFailure, TryClauseStart, TryClauseSuccess}
 use Rattle.parlog.specs.declared.Process.{Process}
 use Rattle.parlog.specs.declared.Spot.{Spot}
-use Rattle.move_plan.specs.Plans.{Born, Of}
+use Rattle.move_plan.specs.Plans.{Born, Of, touched}
 use Rattle.rows.proofs.Tables.{procs-length, procs-none}
-use Rattle.rules_and.proofs.Children.{touches}
-use Rattle.rules_and.specs.Says.{nextStage, Readies, Starts, touched, Waits}
+use Rattle.move_plan.proofs.Made.{touches}
+use Rattle.rules_and.specs.Says.{nextStage, Readies, Starts, Waits}
 
 -- ---- ready and stop
 

@@ -1,7 +1,7 @@
 -- What a rule's answer says: it is what the definition has for that tag, whatever else the tables hold.
 use mathlib.Core.Path.{_≡_}
 use mathlib.Core.List.{List}
-use Prim.Native.Nat.{suc, zero, ℕ}
+use Prim.Native.Nat.{suc, ℕ}
 use lib.ListN.{length}
 use Rattle.parlog.specs.Codes.{ready, starting, Tag}
 use Rattle.parlog.specs.Delta.{atStage, withSpot}
@@ -22,11 +22,6 @@ Starts t pr n p x a = (s : State) → length (s .procs) ≡ n → a ≡ startRul
 -- one that waits, among these processes
 abbrev pub Waits : Tag → List Process → ℕ → Process → Applied → Type 0
 Waits t ps p x a = (pr : Program) (vs : List Binding) → a ≡ waitRule t pr (record { procs = ps; vars = vs }) p x
-
--- Turns 9: the row that a move touches which makes k processes after n
-unfoldable pub touched : ℕ → ℕ → ℕ → ℕ
-touched n p zero = p
-touched n p (suc k) = n
 
 -- Tags 15: about to start the stage behind
 unfoldable pub nextStage : Process → Process

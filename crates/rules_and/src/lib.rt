@@ -14,7 +14,7 @@ ghost use Rattle.parlog.specs.declared.Found.the-variants.{At, Nothing};
 ghost use Rattle.parlog.specs.declared.Move.the-variants.{AndSeqNext};
 ghost use Rattle.parlog.specs.declared.Process.{Process};
 ghost use Rattle.move_plan.specs.Plans.{appliedOf, newMost, newSize};
-ghost use Rattle.rules_and.specs.Says.{nextStage, Readies, Starts, touched, Waits};
+ghost use Rattle.rules_and.specs.Says.{nextStage, Readies, Starts, Waits};
 use children::News;
 use children::Told;
 use move_plan::Plan;
@@ -41,27 +41,6 @@ pub fn stop(p: usize, x: Process) -> Plan
         return move_plan::only(Move::Stop(0), me);
     }
     move_plan::none()
-}
-
-// ---- plans that make processes
-
-// The row that a move touches which makes k processes after n.
-fn touched(n: usize, p: usize, k: usize) -> usize
-    ensures { λ r. ⌜ r ≡ touched n p k ⌝ }
-{
-    if k == 0 {
-        return p;
-    }
-    n
-}
-
-// The mover and one child.
-fn with_child(mv: Move, x: Process, child: Process) -> Plan
-    ensures { λ r. ⌜ (appliedOf r ≡ by-rule mv (making x Nothing (child ∷ []) 0)) × (r .count ≤ newMost) × (r .changes .count ≡ 0) ⌝ }
-{
-    let mut new = [0u8; move_plan::NEW_SIZE];
-    rows::append(&mut new, 0, child);
-    move_plan::make(mv, x, Found::Nothing, 1, new, 0)
 }
 
 // The mover and two children.
@@ -116,7 +95,7 @@ pub fn start_and_par(
     let mut new = [0u8; move_plan::NEW_SIZE];
     members(image, rels, clauses, p, z, k, &mut new);
     let me = move_plan::with_mode(x, codes::WAITING);
-    let q = touched(n, p, k);
+    let q = move_plan::touched(n, p, k);
     move_plan::make(Move::AndParStart(q), me, Found::Nothing, k, new, 0)
 }
 
@@ -157,7 +136,7 @@ pub fn start_and_seq(
     let y = move_plan::literal_spot(z, 0);
     let child = move_plan::new_process(t, codes::STARTING, p, y);
     let me = move_plan::with_mode(x, codes::WAITING);
-    with_child(Move::AndSeqStart(n), me, child)
+    move_plan::make_one(Move::AndSeqStart(n), me, Found::Nothing, child)
 }
 
 // About to start the stage behind.
@@ -245,7 +224,7 @@ pub fn start_guard_eval(
     let t = program_goal::tag_of_goal(image, rels, clauses, codes::THE_GUARD, z.found);
     let child = move_plan::new_process(t, codes::STARTING, p, y);
     let me = move_plan::with_mode(x, codes::WAITING);
-    with_child(Move::GuardEvalStart(n), me, child)
+    move_plan::make_one(Move::GuardEvalStart(n), me, Found::Nothing, child)
 }
 
 // Tells what the guard tells.

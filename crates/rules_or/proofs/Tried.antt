@@ -15,7 +15,8 @@ use Rattle.parlog.specs.declared.Found.the-variants.{Nothing}
 use Rattle.parlog.specs.declared.Move.the-variants.{OrSearchStart}
 use Rattle.parlog.specs.declared.Process.{Process}
 use Rattle.parlog.specs.declared.Spot.{Spot}
-use Rattle.move_plan.specs.Plans.{Born, Of}
+use Rattle.move_plan.proofs.Made.{touches}
+use Rattle.move_plan.specs.Plans.{Born, Of, touched}
 use Rattle.rows.proofs.Tables.{procs-length, procs-none, table-rows}
 use Rattle.rows.specs.Rows.{Table}
 
@@ -75,23 +76,16 @@ pub block-size-is : (pr : Program) (z : Spot) {rel size : ℕ} → rel ≡ liter
 unfolding blockAt
 block-size-is pr z er es = rw (← er) es
 
--- the process that the move touches
-first-is : (pr : Program) (s : State) (p : ℕ) (z : Spot) (v : ℕ) (ks : List ℕ) {n f : ℕ} → length (s .procs) ≡ n → (length ks ≡ 0 → f ≡ p) → (0 < length ks → f ≡ n)
-    → f ≡ firstMade s p (tries pr p z v ks)
-unfolding tries
-first-is pr s p z v [] en e0 e1 = e0 refl
-first-is pr s p z v (k ∷ ks) en e0 e1 = e1 (omega arith) ∙ sym en
-
 pub or-search-starts : (pr : Program) (s : State) (p : ℕ) (x : Process) {rel size n m v first : ℕ} {me : Process} (rows : List ℕ)
     → rel ≡ literalAt pr (x .spot) .rel → size ≡ length (blockOf pr rel (x .spot .block))
     → procsOf rows size ≡ tries pr p (x .spot) m (blockOf pr rel (x .spot .block)) → v ≡ m + triesVars pr (blockOf pr rel (x .spot .block))
-    → Of modeCode 3 (λ t. withMode t x) me → (size ≡ 0 → first ≡ p) → (0 < size → first ≡ n)
+    → Of modeCode 3 (λ t. withMode t x) me → first ≡ touched n p size
     → {a : Applied} → a ≡ by-rule (OrSearchStart first) (making me Nothing (procsOf rows size) (v - m))
     → length (s .procs) ≡ n → length (s .vars) ≡ m → a ≡ startRule or-search pr s p x
 unfolding startRule orSearchStart blockAt
-or-search-starts pr s p x {rel} {size} {n} {m} {v} {first} {me} rows er es et ev em e0 e1 ea en evs =
+or-search-starts pr s p x {rel} {size} {n} {m} {v} {first} {me} rows er es et ev em ef ea en evs =
     let w : v - m ≡ triesVars pr (blockOf pr rel (x .spot .block)) = omega arith in
     let f : first ≡ firstMade s p (tries pr p (x .spot) m (blockOf pr rel (x .spot .block))) =
-    first-is pr s p (x .spot) m (blockOf pr rel (x .spot .block)) en (λ q. e0 (es ∙ q)) (λ q. e1 (rw es q)) in
+    ef ∙ touches s n p size (tries pr p (x .spot) m (blockOf pr rel (x .spot .block))) en (ap length (sym et) ∙ procs-length rows size) in
     let g : me ≡ withMode waiting x = em waiting refl in
     rw (← er, evs, ← f, ← g, ← et, ← w) ea

@@ -1,7 +1,7 @@
 -- The ways through the rules of or-par, seq-search and or-search.
 use mathlib.Core.Path.{_∙_, _≡_, ap, refl, sym}
 use mathlib.Core.Bool.{Bool, false, true}
-use mathlib.Core.List.{[], _++_, _∷_, List}
+use mathlib.Core.List.{[], _∷_, List}
 use Prim.Native.Nat.{_+_, _<_, _≤_, suc, zero, ℕ}
 use lib.Dec.{ltb}
 use lib.ListN.{length}
@@ -27,18 +27,9 @@ use Rattle.parlog.specs.declared.Spot.{Spot}
 use Rattle.move_plan.specs.Plans.{Born, Of}
 use Rattle.program_goal.specs.Parts.{shown}
 use Rattle.program_goal.specs.declared.Lit.{Lit}
-use Rattle.rows.proofs.Tables.{procs-length, procs-none, table-rows}
-use Rattle.rows.specs.Rows.{Table}
+use Rattle.rows.proofs.Tables.{procs-length}
 
 -- ---- what the rules share
-
--- the buffer's one row
-pub made-one : (l m : List ℕ) {mv : Move} {x : Process} {nap : Found} {y : Process} → Table l m (procsOf l 0 ++ (y ∷ []))
-    → {a : Applied} → a ≡ by-rule mv (making x nap (procsOf m 1) 0) → a ≡ by-rule mv (making x nap (y ∷ []) 0)
-made-one l m {y = y} t ea =
-    let e : procsOf l 0 ++ (y ∷ []) ≡ y ∷ [] = rw (procs-none l) in
-    let g : procsOf m 1 ≡ y ∷ [] = table-rows 1 t (ap length e) ∙ e in
-    rw g at ea
 
 pub called-is : (pr : Program) (z : Spot) {l : Lit} → l ≡ shown (literalAt pr z) → l .rel ≡ literalAt pr z .rel
 unfolding shown

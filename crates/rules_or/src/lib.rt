@@ -6,7 +6,7 @@ ghost use lib.Dec.{ltb};
 ghost use lib.ListN.{getD, length};
 ghost use Rattle.children.specs.Telling.{Tells};
 ghost use Rattle.parlog.specs.Codes.{isTag, or-par, or-search, ready, seq-search, success, try-clause};
-ghost use Rattle.parlog.specs.Delta.{making, report, trySpot};
+ghost use Rattle.parlog.specs.Delta.{report, trySpot};
 ghost use Rattle.parlog.specs.Program.{blockCount, blockOf, literalAt, Program, programOf, varsOf};
 ghost use Rattle.parlog.specs.Rules.{blockAt, bodyChild, by-rule, orParHeard, orSearchWait, searching, seqSearchNext, startRule, tries, triesVars, waitRule, withFound};
 ghost use Rattle.parlog.specs.Tables.{at, newProcess, procsOf, rowSize, State};
@@ -24,15 +24,6 @@ use parlog::Spot;
 use parlog::codes;
 
 // ---- what the rules share
-
-// One new process, and perhaps a child that falls asleep.
-fn make_one(mv: Move, x: Process, nap: Found, y: Process) -> Plan
-    ensures { λ r. ⌜ (appliedOf r ≡ by-rule mv (making x nap (y ∷ []) 0)) × (r .count ≤ newMost) × (r .changes .count ≡ 0) ⌝ }
-{
-    let mut new = [0u8; move_plan::NEW_SIZE];
-    rows::append(&mut new, 0, y);
-    move_plan::make(mv, x, nap, 1, new, 0)
-}
 
 // The relation that the literal at z calls.
 fn called(image: &[u8], rels: usize, clauses: usize, z: Spot) -> usize
@@ -67,7 +58,7 @@ pub fn start_or_par(n: usize, p: usize, x: Process) -> Plan
     let z = move_plan::call_spot(own);
     let y = move_plan::new_process(codes::SEQ_SEARCH, codes::STARTING, p, z);
     let me = move_plan::with_mode(x, codes::WAITING);
-    make_one(Move::OrParStart(n), me, Found::Nothing, y)
+    move_plan::make_one(Move::OrParStart(n), me, Found::Nothing, y)
 }
 
 // The process for the committed body of clause k, its first variable v.
@@ -100,7 +91,7 @@ fn or_par_heard(
     }
     let told = y.spot;
     let child = body_child(image, rels, clauses, p, told.found, told.first);
-    make_one(Move::OrParSpawn(n), x, Found::At(c), child)
+    move_plan::make_one(Move::OrParSpawn(n), x, Found::At(c), child)
 }
 
 // Waits for the search, then for the body.
@@ -137,7 +128,7 @@ fn searching(mv: Move, b: u8, p: usize, x: Process, nap: Found) -> Plan
     let me = move_plan::with_spot(x, codes::WAITING, here);
     let z = move_plan::block_spot(own, b);
     let y = move_plan::new_process(codes::OR_SEARCH, codes::STARTING, p, z);
-    make_one(mv, me, nap, y)
+    move_plan::make_one(mv, me, nap, y)
 }
 
 // How many blocks the relation has that the literal at z calls.
@@ -271,13 +262,6 @@ fn try_all(
     v
 }
 
-// The first process made, or the mover where there is none.
-fn first_made(size: usize, n: usize, p: usize) -> usize
-    ensures { λ r. ⌜ ((size ≡ 0) → r ≡ p) × ((0 < size) → r ≡ n) ⌝ }
-{
-    if size == 0 { p } else { n }
-}
-
 // Tries every clause of the block.
 pub fn start_or_search(
     image: &[u8],
@@ -298,7 +282,7 @@ pub fn start_or_search(
     let mut new = [0u8; move_plan::NEW_SIZE];
     let v = try_all(image, rels, clauses, &mut new, m, p, z, rel, b, size);
     let me = move_plan::with_mode(x, codes::WAITING);
-    let first = first_made(size, n, p);
+    let first = move_plan::touched(n, p, size);
     move_plan::make(
         Move::OrSearchStart(first),
         me,

@@ -14,4 +14,5 @@ told-by-spec =
     (λ c κs. search needs)
     (λ c κs. search needs)
     (λ c κs. search needs)
-    (λ c. λ p so. tells _ _ _ so (c .before .before .before .before .before .before .some-bad .ensures) (rw (← (c .before .before .before .before .before .before .some-bad .ensures), ← (c .before .before .before .before .none-silent .ensures)) (c .before .before .before .and .ensures)) (rw (← (c .before .before .before .before .before .some-good .ensures), ← (c .before .before .before .before .none-silent .ensures)) (c .before .before .and2 .ensures)) (rw (← (c .before .before .before .before .before .some-good .ensures)) (c .before .found .ensures)) (c .heard .ensures)))
+    (λ c. let s = c .before .before .before .before in
+    λ p so. tells _ _ _ so (s .before .before .some-bad .ensures) (rw (← (s .before .before .some-bad .ensures), ← (s .none-silent .ensures)) (c .before .before .before .and .ensures)) (rw (← (s .before .some-good .ensures), ← (s .none-silent .ensures)) (c .before .before .and2 .ensures)) (rw (← (s .before .some-good .ensures)) (c .before .found .ensures)) (c .heard .ensures)))

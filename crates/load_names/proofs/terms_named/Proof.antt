@@ -43,7 +43,7 @@ terms-named-spec =
     μ-loop
     (λ c. (refl, omega arith))
     (λ c κs. omega arith)
-    (λ c κs. tt)
+    (λ c κs. (c .term-in .ensures .1, omega arith))
     returns
     (λ c. omega arith)
     (λ c. omega arith)

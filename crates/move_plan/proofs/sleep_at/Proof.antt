@@ -7,4 +7,11 @@ use Rattle.move_plan.proofs.sleep_at.Tie as tie
 
 pub sleep-at-spec : {M : Type 1} → statement M
 sleep-at-spec =
-    tie.close (tie.spec (λ c κs. search needs) (λ c κs. search needs) (λ c κs. search needs) (λ c. search needs) (λ c. sleep-one _ _ _ (c .before .before .before .before .before .get .ensures) ((c .before .before .before .before .with-mode .ensures) dormant refl) (c .before .before .put .ensures)) (λ c. sleep-none _ _ _ (c .if1 .left)))
+    tie.close
+    (tie.spec
+    (λ c κs. search needs)
+    (λ c κs. search needs)
+    (λ c κs. search needs)
+    (λ c. search needs)
+    (λ c. sleep-one _ _ _ (c .before .before .before .before .before .get .ensures) ((c .before .before .before .before .with-mode .ensures) dormant refl) (c .before .before .put .ensures))
+    (λ c. sleep-none _ _ _ (c .if1 .left)))

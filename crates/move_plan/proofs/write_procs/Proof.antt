@@ -12,4 +12,5 @@ write-procs-spec =
     (λ c κs. search needs)
     (λ c κs. search needs)
     (λ c. search needs)
-    (λ c. procs-done _ _ _ _ _ _ _ (c .before .before .before .before .before .before .before .before .before .before .before .before .before .before .before .before .before .before .before .args .plan) (c .before .before .before .before .before .before .before .before .before .before .before .before .before .before .before .before .before .before .before .pre .2) (c .before .before .before .before .before .before .before .before .before .before .before .before .before .before .cut-below .ensures) (c .before .before .before .before .before .before .before .before .before .before .nap-at .ensures) (c .before .before .before .before .before .before .put .ensures) (c .before .before .append-all .ensures)))
+    (λ c. let t = c .before .before .before .before .before .before .before .before .before .before in let s = t .before .before .before .before .before .before .before .before .before in
+    procs-done _ _ _ _ _ _ _ (s .args .plan) (s .pre .2) (t .before .before .before .before .cut-below .ensures) (t .nap-at .ensures) (c .before .before .before .before .before .before .put .ensures) (c .before .before .append-all .ensures)))

@@ -5,4 +5,10 @@ use Rattle.move_plan.proofs.write_vars.Tie as tie
 
 pub write-vars-spec : {M : Type 1} → statement M
 write-vars-spec =
-    tie.close (tie.spec (λ c κs. search needs) (λ c. search needs) (λ c κs. search needs) (λ c. search needs) (λ c. vars-done _ _ _ _ (c .before .before .before .before .before .before .before .before .before .before .before .before .args .plan) (c .before .before .before .before .before .before .before .grow .ensures) (c .before .before .bind-all .ensures)))
+    tie.close
+    (tie.spec
+    (λ c κs. search needs)
+    (λ c. search needs)
+    (λ c κs. search needs)
+    (λ c. search needs)
+    (λ c. vars-done _ _ _ _ (c .before .before .before .before .before .before .before .before .before .before .before .before .args .plan) (c .before .before .before .before .before .before .before .grow .ensures) (c .before .before .bind-all .ensures)))

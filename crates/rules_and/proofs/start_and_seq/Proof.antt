@@ -18,4 +18,5 @@ start-and-seq-spec =
     (λ c κs. search needs)
     (λ c κs. search needs)
     (λ c κs. search needs)
-    (λ c. (seq-starts _ _ _ _ (c .before .before .before .before .before .before .before .goal-size .ensures .0) (c .before .before .before .before .before .if1 .left) (c .before .before .before .before .tag-of-stage .ensures .0) (c .before .before .before .literal-spot .ensures) (c .before .before .new-process .ensures) ((c .before .with-mode .ensures) waiting refl) (c .with-child .ensures .0), (c .with-child .ensures .1), (c .with-child .ensures .2))))
+    (λ c. let s = c .before .before .before in
+    (seq-starts _ _ _ _ (s .before .before .before .before .goal-size .ensures .0) (s .before .before .if1 .left) (s .before .tag-of-stage .ensures .0) (s .literal-spot .ensures) (c .before .before .new-process .ensures) ((c .before .with-mode .ensures) waiting refl) (c .make-one .ensures .0), (c .make-one .ensures .1), (c .make-one .ensures .2))))

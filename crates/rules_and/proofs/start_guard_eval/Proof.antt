@@ -17,4 +17,5 @@ start-guard-eval-spec =
     (λ c κs. search needs)
     (λ c κs. search needs)
     (λ c κs. search needs)
-    (λ c. (guard-starts _ _ _ _ (c .before .before .before .before .before .before .goal-size .ensures .0) (c .before .before .before .before .before .if1 .left) (c .before .before .before .before .goal-spot .ensures) (c .before .before .before .tag-of-goal .ensures .0) (c .before .before .new-process .ensures) ((c .before .with-mode .ensures) waiting refl) (c .with-child .ensures .0), (c .with-child .ensures .1), (c .with-child .ensures .2))))
+    (λ c. let s = c .before .before .before in
+    (guard-starts _ _ _ _ (s .before .before .before .goal-size .ensures .0) (s .before .before .if1 .left) (s .before .goal-spot .ensures) (s .tag-of-goal .ensures .0) (c .before .before .new-process .ensures) ((c .before .with-mode .ensures) waiting refl) (c .make-one .ensures .0), (c .make-one .ensures .1), (c .make-one .ensures .2))))

@@ -16,4 +16,5 @@ match-at-spec =
     (λ c κs. search needs)
     (λ c κs. search needs)
     (λ c κs. (search needs, search needs, arity-few _ _ _ (vars-length _ _) (c .before .before .before .before .before .before .before .before .before .pre .4) (c .before .before .before .before .before .before .literal .ensures .0) (c .before .before .before .before .four-modes .ensures) (c .before .mode-count .ensures .0) (c .least .ensures), args-fit _ _ _ (vars-length _ _) (c .before .before .before .before .before .before .before .before .before .pre .4) (c .before .before .before .before .before .before .literal .ensures .0), head-fit _ _ _ (vars-length _ _) (c .before .before .before .before .before .before .before .before .before .pre .4) (c .before .before .before .before .before .before .literal .ensures .0) (c .before .before .before .four-terms .ensures), outs-fit _ _ _ (vars-length _ _) (c .before .before .before .before .before .before .before .before .before .pre .4) (c .before .before .before .before .before .before .literal .ensures .0) (c .before .before .before .before .four-modes .ensures) (c .before .mode-count .ensures .0) (c .least .ensures) (c .before .before .clause-vars .ensures .0)))
-    (λ c. match-way _ _ _ (vars-length _ _) (c .before .before .before .before .before .before .before .before .before .before .pre .4) (c .before .before .before .before .before .before .before .literal .ensures .0) (c .before .before .before .before .before .four-modes .ensures) (c .before .before .mode-count .ensures .0) (c .before .least .ensures) (c .before .before .before .before .four-terms .ensures) (c .before .before .before .clause-vars .ensures .0) (c .match-of .ensures)))
+    (λ c. let s = c .before .before .before in
+    match-way _ _ _ (vars-length _ _) (s .before .before .before .before .before .before .before .pre .4) (s .before .before .before .before .literal .ensures .0) (s .before .before .four-modes .ensures) (c .before .before .mode-count .ensures .0) (c .before .least .ensures) (s .before .four-terms .ensures) (s .clause-vars .ensures .0) (c .match-of .ensures)))

@@ -10,7 +10,7 @@ try-all-requires c κs = let a = (c .before .before .before .before .before .arg
 
 returns : tie.Need-returns
 returns c = let a = (c .before .before .before .before .before .before .before .before .before .before .args) in let pr = programOf (a .image .now) (a .rels) (a .clauses) in
-    (λ s en ev. or-search-starts pr s (a .p) (a .x) _ (c .before .before .before .before .before .before .before .called .ensures .0) (c .before .before .before .before .before .before .block-size .ensures .0) (c .before .before .before .before .try-all .ensures .0) (c .before .before .before .before .try-all .ensures .1) (c .before .before .with-mode .ensures) (c .before .first-made .ensures .0) (c .before .first-made .ensures .1) (c .make .ensures .0) en ev, (c .make .ensures .1), (c .make .ensures .2))
+    (λ s en ev. or-search-starts pr s (a .p) (a .x) _ (c .before .before .before .before .before .before .before .called .ensures .0) (c .before .before .before .before .before .before .block-size .ensures .0) (c .before .before .before .before .try-all .ensures .0) (c .before .before .before .before .try-all .ensures .1) (c .before .before .with-mode .ensures) (c .before .touched .ensures) (c .make .ensures .0) en ev, (c .make .ensures .1), (c .make .ensures .2))
 
 pub start-or-search-spec : {M : Type 1} → statement M
 start-or-search-spec =

@@ -14,4 +14,5 @@ line-spec =
     (λ c. search needs)
     (λ c κs. search needs)
     (λ c. search needs)
-    (λ c. line-is _ _ (c .before .before .before .before .before .before .before .before .before .before .before .before .before .before .before .before .term .ensures) (c .before .before .before .before .before .before .before .before .before .before .before .word .ensures) (c .before .before .before .before .before .before .before .number .ensures) (c .before .before .word2 .ensures)))
+    (λ c. let s = c .before .before .before .before .before .before .before in
+    line-is _ _ (s .before .before .before .before .before .before .before .before .before .term .ensures) (s .before .before .before .before .word .ensures) (s .number .ensures) (c .before .before .word2 .ensures)))

@@ -18,13 +18,17 @@ number-spec =
     μ-loop
     (λ c. number-start _ _ _)
     (λ c κs. omega arith)
-    (λ c κs. (omega (arith, (c .before .before .before .before .loop .inv .near), (c .before .before .before .loop-test .taken), (c .before .before .before .before .before .before .pre .0)), omega (arith, (c .before .before .before .before .loop .inv .lower), (c .before .before .before .before .loop .inv .size), (c .before .before .before .before .before .before .pre .1))))
+    (λ c κs. let s = c .before .before .before .before in
+    (omega (arith, (s .loop .inv .near), (c .before .before .before .loop-test .taken), (s .before .before .pre .0)), omega (arith, (s .loop .inv .lower), (s .loop .inv .size), (s .before .before .pre .1))))
     (λ c. (c .before .before .put .ensures .size) ∙ (c .before .before .before .before .before .before .before .loop .inv .size))
-    (λ c. number-last _ _ _ _ _ _ _ (c .before .before .before .before .before .before .before .loop .inv) _ _ _ (c .before .before .before .before .before .before .loop-test .taken) (c .before .before .before .before .before .if1 .taken) (c .before .before .before .digit .ensures) (c .before .before .put .ensures))
+    (λ c. let s = c .before .before .before .before .before in
+    number-last _ _ _ _ _ _ _ (s .before .before .loop .inv) _ _ _ (s .before .loop-test .taken) (s .if1 .taken) (c .before .before .before .digit .ensures) (c .before .before .put .ensures))
     (λ c κs. omega arith)
-    (λ c κs. (omega (arith, (c .before .before .before .before .loop .inv .near), (c .before .before .before .loop-test .taken), (c .before .before .before .before .before .before .pre .0)), omega (arith, (c .before .before .before .before .loop .inv .lower), (c .before .before .before .before .loop .inv .size), (c .before .before .before .before .before .before .pre .1))))
+    (λ c κs. let s = c .before .before .before .before in
+    (omega (arith, (s .loop .inv .near), (c .before .before .before .loop-test .taken), (s .before .before .pre .0)), omega (arith, (s .loop .inv .lower), (s .loop .inv .size), (s .before .before .pre .1))))
     (λ c. omega arith)
     (λ c. omega arith)
-    (λ c. number-on _ _ _ _ _ _ _ (c .before .before .before .before .before .before .before .loop .inv) _ _ _ (c .before .before .before .before .before .before .loop-test .taken) (c .before .before .before .before .before .if1 .left) (c .before .before .before .digit2 .ensures) (c .before .before .put2 .ensures))
+    (λ c. let s = c .before .before .before .before .before in
+    number-on _ _ _ _ _ _ _ (s .before .before .loop .inv) _ _ _ (s .before .loop-test .taken) (s .if1 .left) (c .before .before .before .digit2 .ensures) (c .before .before .put2 .ensures))
     (λ c. (c .before .loop .inv .size))
     (λ c. number-done _ _ _ _ _ _ _ (c .before .loop .inv) (omega arith)))

@@ -15,4 +15,5 @@ ran-spec =
     (λ c. search needs)
     (λ c κs. search needs)
     (λ c. search needs)
-    (λ c. ran-is _ _ (c .before .before .before .before .before .before .before .before .before .before .before .before .before .before .before .before .before .before .before .before .put .ensures) (c .before .before .before .before .before .before .before .before .before .before .before .before .before .before .before .before .end-word .ensures) (c .before .before .before .before .before .before .before .before .before .before .before .word .ensures) (c .before .before .before .before .before .before .before .number .ensures) (c .before .before .word2 .ensures)))
+    (λ c. let s = c .before .before .before .before .before .before .before .before .before .before .before in
+    ran-is _ _ (s .before .before .before .before .before .before .before .before .before .put .ensures) (s .before .before .before .before .before .end-word .ensures) (s .word .ensures) (c .before .before .before .before .before .before .before .number .ensures) (c .before .before .word2 .ensures)))

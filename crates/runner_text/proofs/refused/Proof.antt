@@ -16,4 +16,5 @@ refused-spec =
     (λ c. search needs)
     (λ c κs. search needs)
     (λ c. search needs)
-    (λ c. refused-is _ (c .before .before .before .before .before .before .before .before .before .before .before .before .before .before .before .before .before .before .before .before .before .put .ensures) (c .before .before .before .before .before .before .before .before .before .before .before .before .before .before .before .before .before .number .ensures) (c .before .before .before .before .before .before .before .before .before .before .before .before .word .ensures) (c .before .before .before .before .before .before .before .number2 .ensures) (c .before .before .word2 .ensures)))
+    (λ c. let s = c .before .before .before .before .before .before .before .before .before .before .before .before in
+    refused-is _ (s .before .before .before .before .before .before .before .before .before .put .ensures) (s .before .before .before .before .before .number .ensures) (s .word .ensures) (c .before .before .before .before .before .before .before .number2 .ensures) (c .before .before .word2 .ensures)))

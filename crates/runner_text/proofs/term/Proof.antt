@@ -18,4 +18,5 @@ term-spec =
     (λ c. search needs)
     (λ c. term-const _ (c .before .before .before .before .before .before .before .before .before .put .ensures) (c .before .before .number .ensures) (c .before .before .before .before .before .t .given .1))
     (λ c. search needs)
-    (λ c. term-var _ (c .before .before .before .before .before .before .before .before .before .before .before .before .before .put .ensures) (c .before .before .before .before .before .before .number2 .ensures) (c .before .before .before .before .before .before .before .before .before .t2 .given .1) (c .before .before .put2 .ensures)))
+    (λ c. let s = c .before .before .before .before .before .before in
+    term-var _ (s .before .before .before .before .before .before .before .put .ensures) (s .number2 .ensures) (s .before .before .before .t2 .given .1) (c .before .before .put2 .ensures)))

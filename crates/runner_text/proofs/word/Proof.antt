@@ -18,7 +18,8 @@ word-spec =
     (λ c. word-start _ _ _)
     (λ c. omega arith)
     (λ c. omega (arith, (c .before .before .before .loop .inv .some)))
-    (λ c κs. (omega (arith, (c .before .before .before .loop .inv .near), (c .before .before .before .loop .inv .some), (c .before .before .loop-test .taken), (c .before .before .before .before .before .before .pre .0)), omega (arith, (c .before .before .before .loop .inv .lower), (c .before .before .before .loop .inv .size), (c .before .before .before .before .before .before .pre .1))))
+    (λ c κs. let s = c .before .before .before in
+    (omega (arith, (s .loop .inv .near), (s .loop .inv .some), (c .before .before .loop-test .taken), (s .before .before .before .pre .0)), omega (arith, (s .loop .inv .lower), (s .loop .inv .size), (s .before .before .before .pre .1))))
     (λ c. omega arith)
     (λ c. word-on _ _ _ _ _ _ _ _ (c .before .before .before .before .before .loop-test .taken) (c .before .before .before .before .before .before .loop .inv) (c .before .before .put .ensures))
     (λ c. (c .before .loop .inv .size))

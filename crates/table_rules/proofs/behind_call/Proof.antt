@@ -18,4 +18,5 @@ behind-call-spec =
     (λ c. search needs)
     (λ c κs. search needs)
     (λ c κs. search needs)
-    (λ c. let s = c .before .before .before .before .before .before .before .before .before in call-try (programOf (s .args .image .now) (s .args .rels) (s .args .clauses)) (s .args .n) (s .args .z) (s .args .rel) (s .args .waits) (s .args .t) (c .before .before .before .before .before .before .before .and .ensures) (c .before .before .before .before .before .before .or .ensures) (c .before .before .before .before .before .if1 .left) (c .before .before .before .before .if2 .left) (c .before .before .before .clause-in .ensures) (c .before .clause-relation .ensures .0) (c .and2 .ensures)))
+    (λ c. let u = c .before .before .before .before in
+    let s = u .before .before .before .before .before in call-try (programOf (s .args .image .now) (s .args .rels) (s .args .clauses)) (s .args .n) (s .args .z) (s .args .rel) (s .args .waits) (s .args .t) (u .before .before .before .and .ensures) (u .before .before .or .ensures) (u .before .if1 .left) (u .if2 .left) (c .before .before .before .clause-in .ensures) (c .before .clause-relation .ensures .0) (c .and2 .ensures)))

@@ -18,4 +18,5 @@ sleep-one-spec =
     (λ c κs. search needs)
     (λ c κs. search needs)
     (λ c. search needs)
-    (λ c. sleep-now _ _ _ _ (c .before .before .before .before .before .before .before .before .below .ensures) (not-false _ (c .before .before .before .before .before .before .before .if2 .left)) (c .before .before .before .before .before .get .ensures) (c .before .before .before .before .dormant .ensures) (c .before .before .put .ensures)))
+    (λ c. let s = c .before .before .before .before in
+    sleep-now _ _ _ _ (s .before .before .before .before .below .ensures) (not-false _ (s .before .before .before .if2 .left)) (s .before .get .ensures) (s .dormant .ensures) (c .before .before .put .ensures)))

@@ -13,7 +13,8 @@ can-move-spec =
     (λ c. search needs)
     (λ c. search needs)
     (λ c κs. (c .before .before .before .before .before .before .before .before .before .before .before .before .pre .4 .small))
-    (λ c. λ pr. can-waiting _ _ _ _ _ (c .before .before .before .before .before .before .mode-at .ensures) pr _ (c .before .before .before .before .if2 .taken) (c .before .before .before .before .before .before .before .before .before .before .before .before .before .pre .4) (c .before .before .before .tag-at .ensures) (c .tells .ensures))
+    (λ c. let s = c .before .before .before in
+    λ pr. can-waiting _ _ _ _ _ (s .before .before .before .mode-at .ensures) pr _ (s .before .if2 .taken) (s .before .before .before .before .before .before .before .before .before .before .pre .4) (s .tag-at .ensures) (c .tells .ensures))
     (λ c. λ pr. can-reporting _ _ _ _ _ (c .before .before .before .mode-at .ensures) pr (c .if3 .taken))
     (λ c. λ pr. can-start _ _ _ _ _ (c .before .before .before .before .mode-at .ensures) pr (c .before .before .before .if1 .left) (c .if4 .taken))
     (λ c κs. search needs)

@@ -15,10 +15,13 @@ hear-row-spec =
     (λ c. search needs)
     (λ c κs. search needs)
     (λ c. search needs)
-    (λ c. all-silent _ _ (procs-length _ _) (c .before .before .before .before .before .before .before .before .before .pre .3) _ _ _ _ _ (c .before .before .before .before .before .before .before .before .before .pre .2) (c .before .before .before .before .before .before .before .before .before .pre .8) (c .before .before .before .parent-at .ensures) (c .before .before .if1 .taken) (c .before .before .before .before .before .before .before .before .before .pre .1) (c .before .before .before .before .before .before .before .before .before .pre .4) (c .before .before .before .before .before .before .before .before .before .pre .5) (c .before .before .before .before .before .before .before .before .before .pre .6) (c .before .before .before .before .before .before .before .before .before .pre .7) (c .before .note-of .ensures) (c .if2 .taken))
+    (λ c. let s = c .before .before .before .before .before .before .before .before .before in
+    all-silent _ _ (procs-length _ _) (s .pre .3) _ _ _ _ _ (s .pre .2) (s .pre .8) (c .before .before .before .parent-at .ensures) (c .before .before .if1 .taken) (s .pre .1) (s .pre .4) (s .pre .5) (s .pre .6) (s .pre .7) (c .before .note-of .ensures) (c .if2 .taken))
     (λ c. search needs)
     (λ c. search needs)
     (λ c. search needs)
     (λ c. search needs)
-    (λ c. all-told _ _ (procs-length _ _) (c .before .before .before .before .before .before .before .before .before .before .before .before .before .before .before .before .before .before .before .before .pre .3) _ _ _ _ _ (c .before .before .before .before .before .before .before .before .before .before .before .before .before .before .before .before .before .before .before .before .pre .2) (c .before .before .before .before .before .before .before .before .before .before .before .before .before .before .before .before .before .before .before .before .pre .8) (c .before .before .before .before .before .before .before .before .before .before .before .before .before .before .parent-at .ensures) (c .before .before .before .before .before .before .before .before .before .before .before .before .before .if1 .taken) (c .before .before .before .before .before .before .before .before .before .before .before .before .before .before .before .before .before .before .before .before .pre .1) (c .before .before .before .before .before .before .before .before .before .before .before .before .before .before .before .before .before .before .before .before .pre .4) (c .before .before .before .before .before .before .before .before .before .before .before .before .before .before .before .before .before .before .before .before .pre .5) (c .before .before .before .before .before .before .before .before .before .before .before .before .before .before .before .before .before .before .before .before .pre .6) (c .before .before .before .before .before .before .before .before .before .before .before .before .before .before .before .before .before .before .before .before .pre .7) (c .before .before .before .before .before .before .before .before .before .before .before .before .note-of .ensures) (c .before .before .before .before .before .before .before .before .before .before .before .if2 .left) (c .before .before .before .before .before .before .hear-told .ensures .0) (c .before .before .before .before .before .before .hear-told .ensures .1) (c .before .before .before .before .before .before .hear-told .ensures .2))
-    (λ c. ((c .before .before .before .before .before .before .before .pre .4), (c .before .before .before .before .before .before .before .pre .5), (c .before .before .before .before .before .before .before .pre .6), (c .before .before .before .before .before .before .before .pre .7), all-kept _ _ (procs-length _ _) (c .before .before .before .before .before .before .before .pre .3) _ _ _ _ _ (c .before .before .before .before .before .before .before .pre .2) (c .before .before .before .before .before .before .before .pre .8) (c .before .parent-at .ensures) (c .if1 .left))))
+    (λ c. let u = c .before .before .before .before .before .before in let t = u .before .before .before .before .before in let s = t .before .before .before .before .before .before .before .before .before in
+    all-told _ _ (procs-length _ _) (s .pre .3) _ _ _ _ _ (s .pre .2) (s .pre .8) (t .before .before .before .parent-at .ensures) (t .before .before .if1 .taken) (s .pre .1) (s .pre .4) (s .pre .5) (s .pre .6) (s .pre .7) (t .before .note-of .ensures) (t .if2 .left) (u .hear-told .ensures .0) (u .hear-told .ensures .1) (u .hear-told .ensures .2))
+    (λ c. let s = c .before .before .before .before .before .before .before in
+    ((s .pre .4), (s .pre .5), (s .pre .6), (s .pre .7), all-kept _ _ (procs-length _ _) (s .pre .3) _ _ _ _ _ (s .pre .2) (s .pre .8) (c .before .parent-at .ensures) (c .if1 .left))))

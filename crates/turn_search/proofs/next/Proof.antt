@@ -15,10 +15,12 @@ next-spec =
     (λ c. search needs)
     (λ c. search needs)
     (λ c. search needs)
-    (λ c κs. ((c .before .before .before .before .before .before .pre .0), (c .before .before .before .before .before .before .pre .1), (c .before .before .before .before .before .before .pre .2), (c .before .before .before .before .before .before .pre .3), (c .before .before .before .before .before .before .pre .4), refl, refl, refl, refl, all-start _ _ (procs-length _ _) 512 _ _ (c .before .before .before .before .before .before .pre .1)))
+    (λ c κs. let s = c .before .before .before .before .before .before in
+    ((s .pre .0), (s .pre .1), (s .pre .2), (s .pre .3), (s .pre .4), refl, refl, refl, refl, all-start _ _ (procs-length _ _) 512 _ _ (s .pre .1)))
     (λ c. search needs)
     (λ c. search needs)
     (λ c. search needs)
     (λ c. search needs)
-    (λ c κs. ((c .before .before .before .before .before .before .before .before .before .before .before .before .before .before .before .pre .0), (c .before .before .before .before .before .before .before .before .before .before .before .before .before .before .before .pre .1), (c .before .before .before .before .before .before .before .before .pass .ensures .1), (c .before .before .before .before .before .before .before .before .pass .ensures .2), (c .before .before .before .before .before .before .before .before .pass .ensures .3), (c .before .before .before .before .before .before .before .before .pass .ensures .4), (c .before .before .before .before .before .before .before .before .pass .ensures .5), λ p e. turn-there (programOf [] 0 0) _ _ _ (procs-length _ _) (sym ((c .before .before .before .before .before .before .before .before .pass .ensures .0) (programOf [] 0 0)) ∙ e)))
+    (λ c κs. let s = c .before .before .before .before .before .before .before .before in
+    ((s .before .before .before .before .before .before .before .pre .0), (s .before .before .before .before .before .before .before .pre .1), (s .pass .ensures .1), (s .pass .ensures .2), (s .pass .ensures .3), (s .pass .ensures .4), (s .pass .ensures .5), λ p e. turn-there (programOf [] 0 0) _ _ _ (procs-length _ _) (sym ((s .pass .ensures .0) (programOf [] 0 0)) ∙ e)))
     (λ c. ((c .before .before .before .before .before .before .before .before .before .pass .ensures .0), (c .told-of .ensures))))

@@ -9,12 +9,15 @@ pass-spec =
     tie.close
     (tie.spec
     (λ c. search needs)
-    (λ c κs. ((c .before .before .before .before .before .before .before .before .before .before .pre .0), (c .before .before .before .before .before .before .before .before .before .before .pre .1), (c .before .before .before .before .before .before .before .before .before .before .pre .2), (c .before .before .before .before .before .before .before .before .before .before .pre .3), omega arith, omega arith, (c .before .before .before .before .before .before .before .before .before .before .pre .5), (c .before .before .before .before .before .before .before .before .before .before .pre .6), (c .before .before .before .before .before .before .before .before .before .before .pre .7), (c .before .before .before .before .before .before .before .before .before .before .pre .8), (c .before .before .before .before .before .before .before .before .before .before .pre .9)))
+    (λ c κs. let s = c .before .before .before .before .before .before .before .before .before .before in
+    ((s .pre .0), (s .pre .1), (s .pre .2), (s .pre .3), omega arith, omega arith, (s .pre .5), (s .pre .6), (s .pre .7), (s .pre .8), (s .pre .9)))
     (λ c. search needs)
-    (λ c κs. ((c .before .before .before .before .before .before .before .before .before .before .before .before .before .before .before .before .before .before .before .before .before .before .before .pre .0), (c .before .before .before .before .before .before .before .before .before .before .before .before .before .before .before .before .before .before .before .before .before .before .before .pre .1), (c .before .before .before .before .before .before .before .before .before .before .before .before .before .before .before .before .before .before .before .before .before .before .before .pre .2), (c .before .before .before .before .before .before .before .before .before .before .before .before .before .before .before .before .before .before .before .before .before .before .before .pre .3), omega arith, omega arith, (c .before .before .before .before .before .before .before .before .before .before .before .before .sweep .ensures .1), (c .before .before .before .before .before .before .before .before .before .before .before .before .sweep .ensures .2), (c .before .before .before .before .before .before .before .before .before .before .before .before .sweep .ensures .3), (c .before .before .before .before .before .before .before .before .before .before .before .before .sweep .ensures .4), (c .before .before .before .before .before .before .before .before .before .before .before .before .sweep .ensures .5)))
+    (λ c κs. let t = c .before .before .before .before .before .before .before .before .before .before .before .before in let s = t .before .before .before .before .before .before .before .before .before .before .before in
+    ((s .pre .0), (s .pre .1), (s .pre .2), (s .pre .3), omega arith, omega arith, (t .sweep .ensures .1), (t .sweep .ensures .2), (t .sweep .ensures .3), (t .sweep .ensures .4), (t .sweep .ensures .5)))
     (λ c κs. search needs)
     (λ c. search needs)
     (λ c. search needs)
     (λ c. search needs)
     (λ c. search needs)
-    (λ c. (λ pr. turn-is _ (c .before .before .before .before .before .before .before .before .before .before .before .before .before .before .before .before .before .before .before .before .before .before .before .before .before .before .before .before .before .before .before .before .before .args .n) (c .before .before .before .before .before .before .before .before .before .before .before .before .before .before .before .before .before .before .before .before .before .before .before .before .before .before .before .before .before .before .before .before .before .args .last) (c .before .before .before .before .before .before .before .before .before .before .before .before .before .before .before .before .before .before .before .before .before .before .before .before .before .before .before .before .before .before .before .before .before .pre .4) (c .before .before .before .before .before .before .before .before .before .before .before .before .before .before .before .before .before .before .before .before .before .before .sweep .result) (c .before .before .before .before .before .before .before .before .before .sweep2 .result) ((c .before .before .before .before .before .before .before .before .before .before .before .before .before .before .before .before .before .before .before .before .before .before .sweep .ensures .0) pr) ((c .before .before .before .before .before .before .before .before .before .sweep2 .ensures .0) pr) (c .first-below .ensures), (c .before .before .before .before .before .before .before .before .before .sweep2 .ensures .1), (c .before .before .before .before .before .before .before .before .before .sweep2 .ensures .2), (c .before .before .before .before .before .before .before .before .before .sweep2 .ensures .3), (c .before .before .before .before .before .before .before .before .before .sweep2 .ensures .4), (c .before .before .before .before .before .before .before .before .before .sweep2 .ensures .5))))
+    (λ c. let u = c .before .before .before .before .before .before .before .before .before in let t = u .before .before .before .before .before .before .before .before .before .before .before .before .before in let s = t .before .before .before .before .before .before .before .before .before .before .before in
+    (λ pr. turn-is _ (s .args .n) (s .args .last) (s .pre .4) (t .sweep .result) (u .sweep2 .result) ((t .sweep .ensures .0) pr) ((u .sweep2 .ensures .0) pr) (c .first-below .ensures), (u .sweep2 .ensures .1), (u .sweep2 .ensures .2), (u .sweep2 .ensures .3), (u .sweep2 .ensures .4), (u .sweep2 .ensures .5))))

@@ -26,11 +26,18 @@ sweep-spec =
     μ-loop
     (λ c. (search needs, search needs, search needs, search needs, search needs, search needs, (c .before .before .before .before .before .before .pre .10), sweep-start _ (c .before .before .before .before .before .before .args .n) _ _))
     (λ c. omega arith)
-    (λ c κs. (search needs, search needs, omega arith, omega arith, all-here _ _ (procs-length _ _) (c .before .before .before .before .before .before .before .before .before .before .before .before .pre .3) _ _ _ _ _ (omega arith) (c .before .before .before .before .before .loop .inv .1) (c .before .before .before .before .before .loop .inv .6)))
+    (λ c κs. (
+      search needs,
+      search needs,
+      omega arith,
+      omega arith,
+      let s = c .before .before .before .before .before in all-here _ _ (procs-length _ _) (s .before .before .before .before .before .before .before .pre .3) _ _ _ _ _ (omega arith) (s .loop .inv .1) (s .loop .inv .6),
+    ))
     (λ c κs. search needs)
     (λ c κs. (search needs, search needs, omega arith, (c .before .before .before .before .before .before .before .before .before .before .before .before .before .before .before .before .before .before .pre .3), search needs, search needs, search needs, search needs, all-less _ _ _ _ _ _ _ (omega arith) (c .before .before .before .before .before .before .before .before .before .before .before .loop .inv .6)))
     (λ c. omega arith)
-    (λ c. (omega arith, omega arith, (c .before .before .before .before .before .before .before .before .hear-row .ensures .0), (c .before .before .before .before .before .before .before .before .hear-row .ensures .1), (c .before .before .before .before .before .before .before .before .hear-row .ensures .2), (c .before .before .before .before .before .before .before .before .hear-row .ensures .3), (c .before .before .before .before .before .before .before .before .hear-row .ensures .4), sweep-next _ (c .before .before .before .before .before .before .before .before .before .before .before .before .before .before .before .before .before .before .before .before .before .before .before .before .before .before .before .args .n) _ _ _ (c .before .before .before .before .before .before .before .before .before .before .before .before .before .before .before .before .before .before .before .before .loop .best) (c .before .before .before .before .before .before .before .before .before .before .before .before .before .before .before .before .before .before .before .loop-test .taken) (c .before .before .before .before .before .before .before .before .before .before .before .before .before .before .before .before .before .before .before .before .loop .inv .1) (c .before .before .before .before .before .before .before .before .before .before .before .before .before .before .before .before .before .before .before .before .loop .inv .7) (c .before .before .before .before .before .before .before .before .before .before .before .before .before .before .can-move .ensures) (c .before .before .before .before .before .before .before .before .before .before .before .before .before .found .ensures)))
+    (λ c. let u = c .before .before .before .before .before .before .before .before in let t = u .before .before .before .before .before in let s = t .before .before .before .before .before .before in
+    (omega arith, omega arith, (u .hear-row .ensures .0), (u .hear-row .ensures .1), (u .hear-row .ensures .2), (u .hear-row .ensures .3), (u .hear-row .ensures .4), sweep-next _ (s .before .before .before .before .before .before .before .before .args .n) _ _ _ (s .before .loop .best) (s .loop-test .taken) (s .before .loop .inv .1) (s .before .loop .inv .7) (t .before .can-move .ensures) (t .found .ensures)))
     (λ c. search needs)
     (λ c. search needs)
     (λ c. search needs)

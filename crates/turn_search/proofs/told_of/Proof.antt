@@ -12,6 +12,8 @@ told-of-spec =
     (λ c. search needs)
     (λ c κs. search needs)
     (λ c. λ p e. asks-nothing (c .before .enum-told .given .1) e)
-    (λ c κs. (let h = (c .before .before .before .before .before .before .before .before .pre .7) _ (c .before .who .given .1) in omega arith, let h = (c .before .before .before .before .before .before .before .before .pre .7) _ (c .before .who .given .1) in omega arith, let h = (c .before .before .before .before .before .before .before .before .pre .7) _ (c .before .who .given .1) in omega arith, let h = (c .before .before .before .before .before .before .before .before .pre .7) _ (c .before .who .given .1) in omega arith))
+    (λ c κs. let s = c .before .before .before .before .before .before .before .before in
+    (let h = (s .pre .7) _ (c .before .who .given .1) in omega arith, let h = (s .pre .7) _ (c .before .who .given .1) in omega arith, let h = (s .pre .7) _ (c .before .who .given .1) in omega arith, let h = (s .pre .7) _ (c .before .who .given .1) in omega arith))
     (λ c κs. search needs)
-    (λ c. asks-told _ _ _ _ _ _ (c .before .before .before .before .before .before .before .before .before .before .pre .6) (c .before .before .before .before .before .before .before .before .before .before .pre .7) (c .before .before .before .who .given .1) (c .before .note-at .ensures) (c .told-by .ensures)))
+    (λ c. let s = c .before .before .before .before .before .before .before .before .before .before in
+    asks-told _ _ _ _ _ _ (s .pre .6) (s .pre .7) (c .before .before .before .who .given .1) (c .before .note-at .ensures) (c .told-by .ensures)))

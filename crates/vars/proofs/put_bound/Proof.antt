@@ -23,4 +23,5 @@ put-bound-spec =
     (λ c. search needs)
     (λ c. simp length-set (omega arith))
     (λ c. search needs)
-    (λ c. four-stores (c .before .before .before .before .before .before .args .vars .now) (c .before .before .before .before .before .before .args .v) _ _ _ _ _ (c .before .before .before .before .before .before .args .t) (omega arith) (c .before .before .before .before .number-of .ensures) (c .before .before .before .sort-of .ensures) (c .before .before .low .ensures) (c .before .middle .ensures) (c .top .ensures)))
+    (λ c. let s = c .before .before .before in
+    four-stores (s .before .before .before .args .vars .now) (s .before .before .before .args .v) _ _ _ _ _ (s .before .before .before .args .t) (omega arith) (s .before .number-of .ensures) (s .sort-of .ensures) (c .before .before .low .ensures) (c .before .middle .ensures) (c .top .ensures)))

@@ -1,7 +1,0 @@
-use borrow.Author.Needs.{needs}
-use Rattle.rules_or.proofs.Ways.{made-one}
-use Rattle.rules_or.proofs.make_one.Statement.{statement}
-use Rattle.rules_or.proofs.make_one.Tie as tie
-
-pub make-one-spec : {M : Type 1} → statement M
-make-one-spec = tie.close (tie.spec (λ c. search needs) (λ c κs. search needs) (λ c κs. search needs) (λ c. (made-one _ _ (c .before .before .append .ensures) (c .make .ensures .0), (c .make .ensures .1), (c .make .ensures .2))))
