@@ -2,6 +2,7 @@
 use mathlib.Core.Path.{_∙_, _≡_, refl, sym}
 use mathlib.Core.Logic.{_≢_}
 use mathlib.Core.Bool.{_&&_, true}
+use mathlib.Core.List.{List}
 use Prim.Native.Nat.{_<_, suc, zero, ℕ}
 use lib.Dec.{ltb}
 use lib.ListN.{length, List·getD-eq-default}
@@ -31,6 +32,24 @@ pub record Good (s : State) : Type 0 where
   pub kin : Kin s
   pub makes : {p c : ℕ} → Child s p c → makesTag (tagOf (me s p .tag)) (tagOf (me s c .tag)) ≡ true
   pub falls : Falling (s .vars)
+
+-- ---- bindings
+
+bound-free : {X : Type 0} {w : ℕ} → Free ≡ Bound (Var w) → X
+bound-free e = let z : _≡_ {A = ℕ} 0 1 = cc in absurd (omega arith)
+
+falls-at : (v w : ℕ) (b : Binding) → bindingOk v b ≡ true → b ≡ Bound (Var w) → w < v
+falls-at v w Free e q = bound-free q
+falls-at v w (Bound (Const c)) e q = let z : _≡_ {A = ℕ} 0 1 = cc in absurd (omega arith)
+falls-at v w (Bound (Var u)) e q = let z : u ≡ w = cc in omega (arith, ltb-true u v e)
+
+pub rules-fall : (vs : List Binding) → every (varOk vs) (length vs) ≡ true → Falling vs
+unfolding varOk
+rules-fall vs ok v w e = split (ltb v (length vs))
+    (λ h. falls-at v w (bindingOf vs v) (every-at (varOk vs) (length vs) v ok (ltb-true v (length vs) h)) e)
+    (λ h. bound-free (sym (List·getD-eq-default vs Free (ltb-false v (length vs) h)) ∙ e))
+
+-- ---- the tables
 
 module _ (lim : Limits) (pr : Program) (s : State) (ok : stateOk lim pr s ≡ true) where
   abbrev n : ℕ
@@ -70,20 +89,6 @@ module _ (lim : Limits) (pr : Program) (s : State) (ok : stateOk lim pr s ≡ tr
   kin-lower zero o x e = absurd (o refl)
   kin-lower (suc i) o x e = let a = and-true (ltb (x .parent) (suc i)) _ e in (ltb-true (x .parent) (suc i) (a .0), a .1)
 
-  bound-free : {X : Type 0} {w : ℕ} → Free ≡ Bound (Var w) → X
-  bound-free e = let z : _≡_ {A = ℕ} 0 1 = cc in absurd (omega arith)
-
-  falls-at : (v w : ℕ) (b : Binding) → bindingOk v b ≡ true → b ≡ Bound (Var w) → w < v
-  falls-at v w Free e q = bound-free q
-  falls-at v w (Bound (Const c)) e q = let z : _≡_ {A = ℕ} 0 1 = cc in absurd (omega arith)
-  falls-at v w (Bound (Var u)) e q = let z : u ≡ w = cc in omega (arith, ltb-true u v e)
-
-  falling : Falling (s .vars)
-  unfolding varOk
-  falling v w e = split (ltb v (length (s .vars)))
-      (λ h. falls-at v w (bindingOf (s .vars) v) (every-at (varOk (s .vars)) (length (s .vars)) v (both-parts .1) (ltb-true v (length (s .vars)) h)) e)
-      (λ h. bound-free (sym (List·getD-eq-default (s .vars) Free (ltb-false v (length (s .vars)) h)) ∙ e))
-
   pub state-good : Good s
   state-good = record {
     tags = by-row (λ x. x .tag < 9) (omega arith) (λ i h. known-parts (me s i) (row-known i h) .0);
@@ -91,5 +96,5 @@ module _ (lim : Limits) (pr : Program) (s : State) (ok : stateOk lim pr s ≡ tr
     kinds = by-row (λ x. x .spot .kind < 3) (omega arith) (λ i h. known-parts (me s i) (row-known i h) .2);
     kin = record { lower = λ i h o. kin-lower i o (me s i) (row-kin i h) .0 };
     makes = λ {p} {c} d. rw (← d .parent) (kin-lower c (d .other) (me s c) (row-kin c (d .there)) .1);
-    falls = falling;
+    falls = rules-fall (s .vars) (both-parts .1);
   }

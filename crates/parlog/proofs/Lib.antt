@@ -45,3 +45,6 @@ pub mod Forest
 pub mod Stuck
 pub mod OneValue
 pub mod Repeated
+pub mod Solutions
+pub mod Order
+pub mod Equates

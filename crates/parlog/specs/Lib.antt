@@ -27,3 +27,4 @@ pub mod Clauses
 pub mod Notions
 pub mod Relation
 pub mod Demands
+pub mod Orders
