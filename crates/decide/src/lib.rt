@@ -9,7 +9,7 @@ ghost use Prim.Native.Nat.{ℕ, _+_, _*_, _≤_, _<_};
 ghost use lib.ListN.{length, getD, take};
 ghost use Rattle.parlog.specs.declared.Term.the-variants.{Const};
 ghost use Rattle.parlog.specs.Program.{outCount};
-ghost use Rattle.parlog.specs.Tables.{varsIn};
+ghost use Rattle.parlog.specs.Tables.{cellSize, varsIn};
 ghost use Rattle.parlog.specs.Unify.{decide, equateOf, headSide, inputValue, isVar, matchOf, outAfter, pairOf, pairsOf, shift};
 ghost use Rattle.unify.specs.Pending.{Below, noChange, pending, top};
 ghost use Rattle.decide.specs.Decision.{Decides, gather, heldBy, pushOf, Shifted};
@@ -75,7 +75,7 @@ fn is_input(
     arity: usize,
     v: u32,
 ) -> bool
-    requires { ⌜ (n * 4 ≤ length (now vars)) × (n ≤ 65535) × (arity ≤ 4) × (length args ≡ 4) × Shifted args base arity n ⌝ }
+    requires { ⌜ (n * cellSize ≤ length (now vars)) × (n ≤ 65535) × (arity ≤ 4) × (length args ≡ 4) × Shifted args base arity n ⌝ }
     ensures { λ r. ⌜ r ≡ inputValue (varsIn (now (vars .entry)) n) (take arity modes) (take arity args) base v ⌝ }
 {
     let mut i = 0;
@@ -96,7 +96,7 @@ fn is_input(
 
 // v is not to be bound.
 fn is_held(vars: &[u8], n: usize, args: [Term; 4], h: Held, v: u32) -> bool
-    requires { ⌜ (n * 4 ≤ length (now vars)) × (n ≤ 65535) × (h .arity ≤ 4) × (length args ≡ 4) × Shifted args (h .base) (h .arity) n ⌝ }
+    requires { ⌜ (n * cellSize ≤ length (now vars)) × (n ≤ 65535) × (h .arity ≤ 4) × (length args ≡ 4) × Shifted args (h .base) (h .arity) n ⌝ }
     ensures { λ r. ⌜ r ≡ heldBy (varsIn (now (vars .entry)) n) args h v ⌝ }
 {
     let modes = h.modes;
@@ -125,7 +125,7 @@ fn push(s: Noted, yes: bool, v: u16) -> Noted
 
 // The variables bound that are not to be bound, in order.
 fn needed(vars: &[u8], n: usize, args: [Term; 4], h: Held, u: Unified) -> Noted
-    requires { ⌜ (n * 4 ≤ length (now vars)) × (n ≤ 65535) × (h .arity ≤ 4) × (length args ≡ 4) × Shifted args (h .base) (h .arity) n × (u .count ≤ 4) × (length (u .binds) ≡ 4) × ((k : ℕ) → k < u .count → getD (u .binds) k noChange .var < n) ⌝ }
+    requires { ⌜ (n * cellSize ≤ length (now vars)) × (n ≤ 65535) × (h .arity ≤ 4) × (length args ≡ 4) × Shifted args (h .base) (h .arity) n × (u .count ≤ 4) × (length (u .binds) ≡ 4) × ((k : ℕ) → k < u .count → getD (u .binds) k noChange .var < n) ⌝ }
     ensures { λ r. ⌜ r ≡ gather (heldBy (varsIn (now (vars .entry)) n) args h) (record { count = 0; notes = 0 ∷ 0 ∷ 0 ∷ 0 ∷ [] }) (pending u) ⌝ }
 {
     let binds = u.binds;
@@ -167,7 +167,7 @@ fn decide(
     args: [Term; 4],
     h: Held,
 ) -> Decision
-    requires { ⌜ (n * 4 ≤ length (now vars)) × (n ≤ 65535) × (count ≤ 4) × Below n count pairs × (h .arity ≤ 4) × (length args ≡ 4) × Shifted args (h .base) (h .arity) n ⌝ }
+    requires { ⌜ (n * cellSize ≤ length (now vars)) × (n ≤ 65535) × (count ≤ 4) × Below n count pairs × (h .arity ≤ 4) × (length args ≡ 4) × Shifted args (h .base) (h .arity) n ⌝ }
     ensures { λ r. ⌜ Decides (decide (varsIn (now (vars .entry)) n) (take count pairs) (heldBy (varsIn (now (vars .entry)) n) args h)) r ⌝ }
 {
     let u = unify::unify(vars, n, pairs, count);
@@ -268,7 +268,7 @@ pub fn match_of(
     own: usize,
     arity: usize,
 ) -> Decision
-    requires { ⌜ (n * 4 ≤ length (now vars)) × (n ≤ 65535) × (arity ≤ 4) × Shifted args base 4 n × Shifted head first 4 n × (first + own + outCount (take arity modes) ≤ n) ⌝ }
+    requires { ⌜ (n * cellSize ≤ length (now vars)) × (n ≤ 65535) × (arity ≤ 4) × Shifted args base 4 n × Shifted head first 4 n × (first + own + outCount (take arity modes) ≤ n) ⌝ }
     ensures { λ r. ⌜ Decides (matchOf (varsIn (now (vars .entry)) n) (take arity modes) (take arity args) base (take arity head) first own) r ⌝ }
 {
     let pairs = pairs_of(modes, args, base, head, first, own as u32);
@@ -283,7 +283,7 @@ pub fn match_of(
 
 // Equate: two terms, numbered from base; no variable below the bar is to be bound.
 pub fn equate_of(vars: &[u8], n: usize, t: Term, u: Term, base: u16, bar: usize) -> Decision
-    requires { ⌜ (n * 4 ≤ length (now vars)) × (n ≤ 65535) × (top t + base ≤ n) × (top u + base ≤ n) ⌝ }
+    requires { ⌜ (n * cellSize ≤ length (now vars)) × (n ≤ 65535) × (top t + base ≤ n) × (top u + base ≤ n) ⌝ }
     ensures { λ r. ⌜ Decides (equateOf (varsIn (now (vars .entry)) n) t u base bar) r ⌝ }
 {
     let x = shift(t, base);

@@ -83,15 +83,15 @@ zeros-zero (suc n) (suc k) = zeros-zero n k
 zeros-are : (n : ℕ) → Bytes (zeros n)
 zeros-are n b = omega (arith, zeros-zero n b)
 
-zero-row : (n g v : ℕ) → v < g → g * 4 ≤ n → (k : ℕ) → k < 4 → getD (zeros n) (v * 4 + k) 0 ≡ 0
-zero-row n g v h e k u = zeros-at n (v * 4 + k) (omega arith)
+zero-row : (n g v : ℕ) → v < g → g * cellSize ≤ n → (k : ℕ) → k < cellSize → getD (zeros n) (v * cellSize + k) 0 ≡ 0
+zero-row n g v h e k u = zeros-at n (v * cellSize + k) (omega arith)
 
 free-at : (m v : ℕ) → bindingOf (replicate m Free) v ≡ Free
 free-at zero v = refl
 free-at (suc m) zero = refl
 free-at (suc m) (suc v) = free-at m v
 
-zeros-free : (n g : ℕ) → g * 4 ≤ n → varsIn (zeros n) g ≡ replicate g Free
+zeros-free : (n g : ℕ) → g * cellSize ≤ n → varsIn (zeros n) g ≡ replicate g Free
 zeros-free n g e =
     let q = length-replicate g Free in
     let r : varsIn (zeros n) (length (replicate g Free)) ≡ replicate g Free =
@@ -99,7 +99,7 @@ zeros-free n g e =
     rw q at r
 
 -- zeros hold unbound variables
-free-bytes : (n g : ℕ) → g * 4 ≤ n → zeros n ≡ written (rowsBytes bindingBytes (replicate g Free)) (zeros n)
+free-bytes : (n g : ℕ) → g * cellSize ≤ n → zeros n ≡ written (rowsBytes bindingBytes (replicate g Free)) (zeros n)
 free-bytes n g e =
     let full = every-is (cellKnown (zeros n)) g (λ v h. known-none (zeros n) v (zero-row n g v h e)) in
     let q = vars-length (zeros n) g in

@@ -14,7 +14,7 @@ use Rattle.parlog.specs.Limits.{Limits, Usable}
 use Rattle.parlog.specs.Program.{Program}
 use Rattle.parlog.specs.Scan.{every}
 use Rattle.parlog.specs.TableRules.{cellKnown, fullSize, lentOk, stateOk, tablesOk}
-use Rattle.parlog.specs.Tables.{at, bindingBytes, cellSize, fresh, freshTables, headSize, Lent, lent, markerLast, markerSteps, newProcess, procCount, processBytes, procsOf, putTables, rowsBytes, rowSize, startedLent, Tables, tablesIn, varCount, varsIn, zeros}
+use Rattle.parlog.specs.Tables.{at, bindingBytes, cellSize, fresh, freshTables, headSize, lent, Lent, markerLast, markerSteps, newProcess, procCount, processBytes, procsOf, putTables, rowsBytes, rowSize, startedLent, Tables, tablesIn, varCount, varsIn, zeros}
 use Rattle.rows.proofs.Exact.{table-written}
 use Rattle.rows.proofs.Laws.{row-length, zeros-length}
 use Rattle.rows.proofs.Tables.{procs-length}
@@ -61,7 +61,7 @@ module _ (l : Lent) (t : Tables) where
   unfolding putTables
   steps-back = head-steps n m (t .last) (t .steps)
 
-  module _ (cells : m * 4 ≤ length (l .vars)) where
+  module _ (cells : m * cellSize ≤ length (l .vars)) where
     pub vars-sized : length (putTables l t .vars) ≡ length (l .vars)
     unfolding putTables
     vars-sized = cells-written 0 (l .vars) (t .state .vars) cells .size
@@ -74,7 +74,7 @@ module _ (l : Lent) (t : Tables) where
     unfolding putTables
     vars-known = rw (head-vars n m (t .last) (t .steps)) (cells-written 0 (l .vars) (t .state .vars) cells .known (unfold every in refl))
 
-    module _ (has : (i : ℕ) → i < n → Four (at (t .state .procs) i)) (rows : n * 24 ≤ length (l .procs)) where
+    module _ (has : (i : ℕ) → i < n → Four (at (t .state .procs) i)) (rows : n * rowSize ≤ length (l .procs)) where
       procs-sized : length (putTables l t .procs) ≡ length (l .procs)
       unfolding putTables
       procs-sized = table-written (l .procs) (t .state .procs) has rows .size
@@ -89,7 +89,7 @@ module _ (l : Lent) (t : Tables) where
 
 -- tables over others that had no more rows
 pub put-over : (l : Lent) (t u : Tables) → length (t .state .procs) ≤ length (u .state .procs) → length (t .state .vars) ≤ length (u .state .vars)
-    → length (u .state .procs) * 24 ≤ length (l .procs) → length (u .state .vars) * 4 ≤ length (l .vars) → putTables (putTables l t) u ≡ putTables l u
+    → length (u .state .procs) * rowSize ≤ length (l .procs) → length (u .state .vars) * cellSize ≤ length (l .vars) → putTables (putTables l t) u ≡ putTables l u
 unfolding putTables
 put-over l t u more-procs more-vars rows cells =
     let a = rows-length processBytes 24 row-length (t .state .procs) in
@@ -107,10 +107,10 @@ unfolding tablesOk
 tables-state lim pr t ok = and-true (stateOk lim pr (t .state)) (ltb (t .last) (length (t .state .procs))) ok .0
 
 module _ (lim : Limits) (pr : Program) (l : Lent) (t : Tables) (full : fullSize lim l ≡ true) (ok : tablesOk lim pr t ≡ true) where
-  pub rows-fit : length (t .state .procs) * 24 ≤ length (l .procs)
+  pub rows-fit : length (t .state .procs) * rowSize ≤ length (l .procs)
   rows-fit = let k = assume-counts lim pr (t .state) (tables-state lim pr t ok) in omega (arith, full-sizes lim l full .1, k .1)
 
-  pub cells-fit : length (t .state .vars) * 4 ≤ length (l .vars)
+  pub cells-fit : length (t .state .vars) * cellSize ≤ length (l .vars)
   cells-fit = let k = assume-counts lim pr (t .state) (tables-state lim pr t ok) in omega (arith, full-sizes lim l full .2, k .3)
 
   module _ (has : (i : ℕ) → i < length (t .state .procs) → Four (at (t .state .procs) i)) where

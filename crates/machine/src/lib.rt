@@ -18,7 +18,7 @@ ghost use Rattle.parlog.specs.Limits.{small};
 ghost use Rattle.parlog.specs.Load.{refusal};
 ghost use Rattle.parlog.specs.Program.{programOf, tagOfGoal};
 ghost use Rattle.parlog.specs.Run.{seen, unseen};
-ghost use Rattle.parlog.specs.Tables.{goalSpot, lent, newProcess, numberCode, startedLent, varCount, varsIn};
+ghost use Rattle.parlog.specs.Tables.{cellSize, goalSpot, headSize, lent, newProcess, numberCode, startedLent, varCount, varsIn};
 ghost use Rattle.parlog.specs.Unify.{value};
 ghost use Rattle.parlog.specs.declared.Binding.the-variants.{Bound};
 ghost use Rattle.parlog.specs.declared.Supplied.the-variants.{Ungiven};
@@ -71,7 +71,7 @@ fn look(
     vars: &[u8],
     variable: u32,
 ) -> Valued
-    requires { ⌜ (rels ≤ 32) × (clauses ≤ 64) × (10 ≤ length (now head)) × (varCount (now head) * 4 ≤ length (now vars)) × (programOf (now image) rels clauses .goalVars ≤ varCount (now head)) ⌝ }
+    requires { ⌜ (rels ≤ 32) × (clauses ≤ 64) × (headSize ≤ length (now head)) × (varCount (now head) * cellSize ≤ length (now vars)) × (programOf (now image) rels clauses .goalVars ≤ varCount (now head)) ⌝ }
     ensures { λ r. ⌜ r ≡ valueAnswer (cond (ltb variable (programOf (now (image .entry)) rels clauses .goalVars)) (seen (value (varsIn (now (vars .entry)) (varCount (now (head .entry)))) (Var variable))) (unseen 12)) ⌝ }
 {
     let goal = program_clause::goal_vars(image, rels, clauses);
@@ -158,7 +158,7 @@ fn begin(
     procs: &mut [u8],
     vars: &mut [u8],
 )
-    requires { ⌜ (rels ≤ 32) × (clauses ≤ 64) × (length (now head) ≡ 10) × (length (now procs) ≡ 12288) × (length (now vars) ≡ 4096) ⌝ }
+    requires { ⌜ (rels ≤ 32) × (clauses ≤ 64) × (length (now head) ≡ headSize) × (length (now procs) ≡ 12288) × (length (now vars) ≡ 4096) ⌝ }
     ensures { λ _. ⌜ BeginSays small (programOf (now (image .entry)) rels clauses) (now (head .exit)) (now (procs .exit)) (now (vars .exit)) ⌝ }
 {
     let goal = program_clause::goal_vars(image, rels, clauses);
@@ -227,7 +227,7 @@ fn asked(
     variable: u32,
     value: u32,
 ) -> Supplied
-    requires { ⌜ (rels ≤ 32) × (clauses ≤ 64) × (10 ≤ length (now head)) × (varCount (now head) * 4 ≤ length (now vars)) × (programOf (now image) rels clauses .goalVars ≤ varCount (now head)) ⌝ }
+    requires { ⌜ (rels ≤ 32) × (clauses ≤ 64) × (headSize ≤ length (now head)) × (varCount (now head) * cellSize ≤ length (now vars)) × (programOf (now image) rels clauses .goalVars ≤ varCount (now head)) ⌝ }
     ensures { λ r. ⌜ r ≡ askedOf (programOf (now (image .entry)) rels clauses) (varsIn (now (vars .entry)) (varCount (now (head .entry)))) variable value ⌝ }
 {
     let goal = program_clause::goal_vars(image, rels, clauses);

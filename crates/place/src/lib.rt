@@ -47,10 +47,11 @@ fn term_of(w: usize) -> Term
     requires { ⌜ w ≤ 65535 ⌝ }
     ensures { λ r. ⌜ (r ≡ termOf w) × (numberOf r ≤ 32767) ⌝ }
 {
+    let number = (w % codes::FIRST_VARIABLE) as u32;
     if w < codes::FIRST_VARIABLE {
-        Term::Const(w as u32)
+        Term::Const(number)
     } else {
-        Term::Var((w - codes::FIRST_VARIABLE) as u32)
+        Term::Var(number)
     }
 }
 

@@ -36,8 +36,8 @@ fn block_scan(s: &[u8], rels: usize, clauses: usize, q: usize, b: u8, j: usize) 
     let mut clause = 255;
     let mut k = 0;
     while k < clauses {
-        let rel = place::byte_at(s, at + 4);
-        let mark = place::byte_at(s, at + 6);
+        let rel = place::byte_at(s, at + codes::CLAUSE_RELATION);
+        let mark = place::byte_at(s, at + codes::CLAUSE_MARK);
         let new = opens(k, rel, last, mark, q);
         count = program_clause::more(new, count);
         let there = basics::and(rel == q, count == next);

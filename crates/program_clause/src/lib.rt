@@ -30,8 +30,11 @@ pub fn modes_of(s: &[u8], rels: usize, q: usize) -> Row
         return Row { n: 0, at: 0 };
     }
     let rec = place::record_at(s, q);
-    let n = place::byte_at(s, rec + 4);
-    Row { n, at: rec + 5 }
+    let n = place::byte_at(s, rec + codes::RELATION_ARITY);
+    Row {
+        n,
+        at: rec + codes::RELATION_MODES,
+    }
 }
 
 // The number of arguments of relation q.
@@ -113,7 +116,7 @@ pub fn clause_relation(s: &[u8], rels: usize, clauses: usize, k: usize) -> usize
         return codes::EQUALITY;
     }
     let at = place::record_at(s, rels + k);
-    place::byte_at(s, at + 4)
+    place::byte_at(s, at + codes::CLAUSE_RELATION)
 }
 
 // The number of its own variables.
@@ -125,7 +128,7 @@ pub fn clause_vars(s: &[u8], rels: usize, clauses: usize, k: usize) -> usize
         return 0;
     }
     let at = place::record_at(s, rels + k);
-    place::byte_at(s, at + 7)
+    place::byte_at(s, at + codes::CLAUSE_VARS)
 }
 
 // The new variables of clause k: its own, and one for each output argument.
@@ -137,13 +140,13 @@ pub fn vars_of(s: &[u8], rels: usize, clauses: usize, k: usize) -> usize
         return 0;
     }
     let at = place::record_at(s, rels + k);
-    let q = place::byte_at(s, at + 4);
+    let q = place::byte_at(s, at + codes::CLAUSE_RELATION);
     let ms = modes_of(s, rels, q);
     let n = ms.n;
     let first = ms.at;
     let outs = outs_of(s, n, first, 0);
     let count = outs.count;
-    let v = place::byte_at(s, at + 7);
+    let v = place::byte_at(s, at + codes::CLAUSE_VARS);
     v + count
 }
 
@@ -153,7 +156,7 @@ pub fn term_of(s: &[u8], n: usize, at: usize, k: usize) -> Term
     ensures { λ r. ⌜ r ≡ getD (listOf (termAt (now (s .entry))) termEnd n at) k (Const 0) ⌝ }
 {
     if k < n {
-        return place::term_at(s, at + 2 * k);
+        return place::term_at(s, at + codes::TERM_SIZE * k);
     }
     Term::Const(0)
 }
@@ -167,8 +170,8 @@ pub fn head_term(s: &[u8], rels: usize, clauses: usize, k: usize, i: usize) -> T
         return Term::Const(0);
     }
     let at = place::record_at(s, rels + k);
-    let n = place::byte_at(s, at + 5);
-    term_of(s, n, at + 8, i)
+    let n = place::byte_at(s, at + codes::CLAUSE_ARITY);
+    term_of(s, n, at + codes::CLAUSE_HEAD, i)
 }
 
 // ---- the goal's record
@@ -179,5 +182,5 @@ pub fn goal_vars(s: &[u8], rels: usize, clauses: usize) -> usize
     ensures { λ r. ⌜ (r ≡ programOf (now (s .entry)) rels clauses .goalVars) × (r ≤ 255) ⌝ }
 {
     let at = place::record_at(s, rels + clauses);
-    place::byte_at(s, at + 4)
+    place::byte_at(s, at + codes::GOAL_VARS)
 }

@@ -46,8 +46,8 @@ fn literal_here(s: &[u8], at: usize) -> Lit
     ensures { λ r. ⌜ (r ≡ shown (literalOf (now (s .entry)) at)) × (r .rel ≤ 255) ⌝ }
 {
     let rel = place::byte_at(s, at);
-    let n = place::byte_at(s, at + 1);
-    let first = at + 2;
+    let n = place::byte_at(s, at + codes::LITERAL_ARITY);
+    let first = at + codes::LITERAL_TERMS;
     let a = program_clause::term_of(s, n, first, 0);
     let b = program_clause::term_of(s, n, first, 1);
     let c = program_clause::term_of(s, n, first, 2);
@@ -109,7 +109,8 @@ fn part_place(s: &[u8], clause: usize, kind: u8) -> usize
     requires { ⌜ clause ≤ 8388608 ⌝ }
     ensures { λ r. ⌜ (r ≡ cond (eqb kind 1) (guardAt (now (s .entry)) clause) (bodyAt (now (s .entry)) clause)) × (r ≤ 67108864) ⌝ }
 {
-    let guard = clause + 8 + 2 * place::byte_at(s, clause + 5);
+    let arity = place::byte_at(s, clause + codes::CLAUSE_ARITY);
+    let guard = clause + codes::CLAUSE_HEAD + codes::TERM_SIZE * arity;
     if kind == codes::THE_GUARD {
         return guard;
     }
@@ -122,7 +123,7 @@ fn goal_home(s: &[u8], rels: usize, clauses: usize, kind: u8, k: u8) -> Home
     ensures { λ r. ⌜ (goalBy (kindOf kind) (programOf (now (s .entry)) rels clauses) k ≡ goalIn (now (s .entry)) rels r) × Near r ⌝ }
 {
     if kind == codes::THE_GOAL {
-        let at = place::record_at(s, rels + clauses) + 5;
+        let at = place::record_at(s, rels + clauses) + codes::GOAL_AT;
         let stages = place::byte_at(s, at);
         return Home {
             stages,
@@ -169,8 +170,8 @@ fn outs_before(s: &[u8], rels: usize, h: Home, i: usize, j: usize) -> Outs
             number: 0,
         };
     }
-    let q = place::byte_at(s, clause + 4);
-    let m = place::byte_at(s, clause + 5);
+    let q = place::byte_at(s, clause + codes::CLAUSE_RELATION);
+    let m = place::byte_at(s, clause + codes::CLAUSE_ARITY);
     let ms = program_clause::modes_of(s, rels, q);
     let n = ms.n;
     let at = ms.at;
@@ -190,8 +191,8 @@ fn literal_at(s: &[u8], rels: usize, h: Home, i: usize, j: usize) -> Lit
     let number = outs.number;
     let clause = h.clause;
     if j < count {
-        let t = place::term_at(s, clause + 8 + 2 * number);
-        let v = place::byte_at(s, clause + 7);
+        let t = place::term_at(s, clause + codes::CLAUSE_HEAD + codes::TERM_SIZE * number);
+        let v = place::byte_at(s, clause + codes::CLAUSE_VARS);
         return equation(t, v + j);
     }
     let stages = h.stages;

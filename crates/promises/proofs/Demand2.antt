@@ -19,7 +19,7 @@ use Rattle.parlog.specs.Program.{Program, programOf}
 use Rattle.parlog.specs.Relation.{Fits, Rule}
 use Rattle.parlog.specs.Run.{made, Running, runTables, Stepping, stepTables, supplied, Supplying, supplyTables, unmade}
 use Rattle.parlog.specs.TableRules.{stateOk, tablesOk}
-use Rattle.parlog.specs.Tables.{bindingBytes, Lent, procCount, processBytes, putTables, rowsBytes, startedLent, State, Tables, tablesIn}
+use Rattle.parlog.specs.Tables.{bindingBytes, cellSize, Lent, procCount, processBytes, putTables, rowsBytes, rowSize, startedLent, State, Tables, tablesIn}
 use Rattle.parlog.specs.declared.Loaded.the-variants.{Accepted}
 use Rattle.parlog.specs.declared.Move.{Move}
 use Rattle.promises.proofs.Demand1.{demand-1-start, is-begun, is-refused, Start, start-begun, starting-so, step-as, supply-as, turn-meets-step, turn-there, value-as}
@@ -193,18 +193,18 @@ demand-2-start lim usable s l w l′ meets z = go (starting-so lim s l)
 -- ---- bytes past what a call writes
 
 module _ (l : Lent) (t : Tables) where
-  procs-behind : (j : ℕ) → length (t .state .procs) * 24 ≤ j → getD (putTables l t .procs) j 0 ≡ getD (l .procs) j 0
+  procs-behind : (j : ℕ) → length (t .state .procs) * rowSize ≤ j → getD (putTables l t .procs) j 0 ≡ getD (l .procs) j 0
   unfolding putTables
   procs-behind j h = written-past (rowsBytes processBytes (t .state .procs)) (l .procs) j (omega (arith, rows-length processBytes 24 row-length (t .state .procs)))
 
-  vars-behind : (j : ℕ) → length (t .state .vars) * 4 ≤ j → getD (putTables l t .vars) j 0 ≡ getD (l .vars) j 0
+  vars-behind : (j : ℕ) → length (t .state .vars) * cellSize ≤ j → getD (putTables l t .vars) j 0 ≡ getD (l .vars) j 0
   unfolding putTables
   vars-behind j h = written-past (rowsBytes bindingBytes (t .state .vars)) (l .vars) j (omega (arith, rows-length bindingBytes 4 cell-length (t .state .vars)))
 
   module _ (l′ : Lent) (h : Holds l t l′) where
     -- Refusals 23: they stay, in the row of processes and in the row of variables
-    pub behind-procs : (j : ℕ) → length (t .state .procs) * 24 ≤ j → getD (l′ .procs) j 0 ≡ getD (l .procs) j 0
+    pub behind-procs : (j : ℕ) → length (t .state .procs) * rowSize ≤ j → getD (l′ .procs) j 0 ≡ getD (l .procs) j 0
     behind-procs j u = ap (λ (x : Lent). getD (x .procs) j 0) (h .bytes) ∙ procs-behind j u
 
-    pub behind-vars : (j : ℕ) → length (t .state .vars) * 4 ≤ j → getD (l′ .vars) j 0 ≡ getD (l .vars) j 0
+    pub behind-vars : (j : ℕ) → length (t .state .vars) * cellSize ≤ j → getD (l′ .vars) j 0 ≡ getD (l .vars) j 0
     behind-vars j u = ap (λ (x : Lent). getD (x .vars) j 0) (h .bytes) ∙ vars-behind j u

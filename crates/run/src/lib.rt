@@ -15,7 +15,7 @@ ghost use Rattle.machine.specs.Entered.{Inside};
 ghost use Rattle.parlog.specs.Codes.{isLive, resultOf};
 ghost use Rattle.parlog.specs.Limits.{small};
 ghost use Rattle.parlog.specs.Run.{endOf};
-ghost use Rattle.parlog.specs.Tables.{at, lent, procCount, procsOf};
+ghost use Rattle.parlog.specs.Tables.{at, lent, procCount, procsOf, rowSize};
 ghost use Rattle.run.specs.Running.{OneSays, RanSays, RunSays, StopSays, Turning, TurnedIn, TurnSays, WentSays, WhoseSays};
 
 // How one turn of a run went: a move more, or the run's end.
@@ -26,7 +26,7 @@ pub enum Went {
 
 // The goal's process sleeps.
 fn ended(procs: &[u8], n: usize) -> bool
-    requires { ⌜ n * 24 ≤ length (now procs) ⌝ }
+    requires { ⌜ n * rowSize ≤ length (now procs) ⌝ }
     ensures { λ r. ⌜ r ≡ not (isLive (at (procsOf (now (procs .entry)) n) 0 .mode)) ⌝ }
 {
     rows::mode_at(procs, n, 0) == 0
@@ -44,7 +44,7 @@ fn end_by(result: u8) -> End
 
 // What the goal's process had to tell.
 fn goal_end(procs: &[u8], n: usize) -> End
-    requires { ⌜ n * 24 ≤ length (now procs) ⌝ }
+    requires { ⌜ n * rowSize ≤ length (now procs) ⌝ }
     ensures { λ r. ⌜ r ≡ endOf (resultOf (at (procsOf (now (procs .entry)) n) 0 .result)) ⌝ }
 {
     end_by(rows::result_at(procs, n, 0))

@@ -9,7 +9,7 @@ ghost use Prim.Native.Nat.{_*_, _≤_};
 ghost use lib.ListN.{length};
 ghost use Rattle.parlog.specs.Limits.{small};
 ghost use Rattle.parlog.specs.Load.{loadOf};
-ghost use Rattle.parlog.specs.Tables.{varsIn};
+ghost use Rattle.parlog.specs.Tables.{cellSize, headSize, varsIn};
 ghost use Rattle.parlog.specs.Text.{runnerText, varLines};
 ghost use Rattle.parlog.specs.declared.Loaded.the-variants.{Accepted};
 ghost use Rattle.runner_text.specs.Fronting.{Fronted};
@@ -19,7 +19,7 @@ const LIMIT: u16 = 60000;
 
 // The lines of the goal's variables at the buffer's end, from the last to the first.
 fn lines(vars: &[u8], n: usize, goal: usize, out: &mut [u8]) -> usize
-    requires { ⌜ (n * 4 ≤ length (now vars)) × (goal ≤ n) × (goal ≤ 255) × (length (now out) ≡ 16384) ⌝ }
+    requires { ⌜ (n * cellSize ≤ length (now vars)) × (goal ≤ n) × (goal ≤ 255) × (length (now out) ≡ 16384) ⌝ }
     ensures { λ r. ⌜ Fronted (now (out .entry)) 16384 12495 (varLines (varsIn (now (vars .entry)) n) 0 goal) (now (out .exit)) r ⌝ }
 {
     let mut p = out.len();
@@ -42,7 +42,7 @@ fn play(
     vars: &mut [u8],
     out: &mut [u8],
 ) -> usize
-    requires { ⌜ (loadOf (now image) ≡ Accepted rels clauses) × (rels ≤ 32) × (clauses ≤ 64) × (length (now head) ≡ 10) × (length (now procs) ≡ 12288) × (length (now vars) ≡ 4096) × (length (now out) ≡ 16384) ⌝ }
+    requires { ⌜ (loadOf (now image) ≡ Accepted rels clauses) × (rels ≤ 32) × (clauses ≤ 64) × (length (now head) ≡ headSize) × (length (now procs) ≡ 12288) × (length (now vars) ≡ 4096) × (length (now out) ≡ 16384) ⌝ }
     ensures { λ r. ⌜ Fronted (now (out .entry)) 16384 12534 (runnerText small (now (image .entry))) (now (out .exit)) r ⌝ }
 {
     let goal = program_clause::goal_vars(image, rels, clauses);

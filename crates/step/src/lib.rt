@@ -9,7 +9,7 @@ ghost use Rattle.children.specs.Telling.{Tells};
 ghost use Rattle.machine.specs.Entered.{Inside};
 ghost use Rattle.parlog.specs.Limits.{small};
 ghost use Rattle.parlog.specs.Run.{counted};
-ghost use Rattle.parlog.specs.Tables.{at, lent, procCount, procsOf};
+ghost use Rattle.parlog.specs.Tables.{at, lent, procCount, procsOf, rowSize};
 ghost use Rattle.step.specs.Stepping.{StepSays, SteppedSays};
 
 // The limits of a run.
@@ -60,7 +60,7 @@ pub fn stepped(
 
 // What process p is told of its children; only one that waits asks.
 fn ask(procs: &[u8], n: usize, p: usize) -> Told
-    requires { ⌜ (n * 24 ≤ length (now procs)) × (n ≤ 65535) ⌝ }
+    requires { ⌜ (n * rowSize ≤ length (now procs)) × (n ≤ 65535) ⌝ }
     ensures { λ t. ⌜ (at (procsOf (now (procs .entry)) n) p .mode ≡ 3 → Tells (procsOf (now (procs .entry)) n) p t) ⌝ }
 {
     if rows::mode_at(procs, n, p) == 3 {

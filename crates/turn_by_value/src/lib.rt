@@ -7,7 +7,7 @@ ghost use mathlib.Core.List.{_++_};
 ghost use lib.ListN.{length, take};
 ghost use Rattle.parlog.specs.Limits.{small};
 ghost use Rattle.parlog.specs.Load.{loadOf};
-ghost use Rattle.parlog.specs.Tables.{markerLast, markerSteps};
+ghost use Rattle.parlog.specs.Tables.{headSize, markerLast, markerSteps};
 ghost use Rattle.turn_by_value.specs.Away.{awayOf};
 ghost use Rattle.turn_by_value.specs.Turned.{markerBytes, TurnedSays, turnedFrom};
 
@@ -39,7 +39,7 @@ fn join_head(counts: &[u8], last: u16, steps: u32) -> [u8; 10]
 
 // The counts become those of the head.
 fn put_counts(counts: &mut [u8], head: &[u8])
-    requires { ⌜ (length (now counts) ≡ 4) × (length (now head) ≡ 10) ⌝ }
+    requires { ⌜ (length (now counts) ≡ 4) × (length (now head) ≡ headSize) ⌝ }
     ensures { λ _. ⌜ now (counts .exit) ≡ take 4 (now (head .entry)) ⌝ }
 {
     let mut k = 0;
@@ -65,7 +65,7 @@ fn turned_away(image: &[u8]) -> Refusal
 
 // The marker in a head, and the answer.
 fn hand_back(head: &[u8], answer: Stepped) -> Turned
-    requires { ⌜ length (now head) ≡ 10 ⌝ }
+    requires { ⌜ length (now head) ≡ headSize ⌝ }
     ensures { λ r. ⌜ r ≡ turnedFrom (record { last = markerLast (now (head .entry)); steps = markerSteps (now (head .entry)) }) answer ⌝ }
 {
     let last = head::marker_last(head);

@@ -9,8 +9,8 @@ part-place-spec =
     tie.close
     (tie.spec
     (λ c. search needs)
-    (λ c. search needs)
     (λ c κs. tt)
+    (λ c. search needs)
     (λ c. search needs)
     (λ c. search needs)
     (λ c. (rw (eq-eqb _ _ (c .if1 .taken), c .before .byte-at .ensures .0), omega arith))
