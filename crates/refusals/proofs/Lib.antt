@@ -1,0 +1,7 @@
+-- The tests of the load and of the tables decide the relations of specs/.
+pub mod Tests
+pub mod Fields
+pub mod Names
+pub mod Before
+pub mod Walked
+pub mod Exactly

@@ -1,0 +1,3 @@
+-- Refusals a second time, as facts: what is right in an image, which record is refused first, and the table rules.
+pub mod Right
+pub mod Refused
