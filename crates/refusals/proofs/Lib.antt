@@ -5,3 +5,6 @@ pub mod Names
 pub mod Before
 pub mod Walked
 pub mod Exactly
+pub mod Places
+pub mod Kinship
+pub mod RuledExactly

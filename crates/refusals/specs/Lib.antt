@@ -1,3 +1,4 @@
 -- Refusals a second time, as facts: what is right in an image, which record is refused first, and the table rules.
 pub mod Right
 pub mod Refused
+pub mod Ruled

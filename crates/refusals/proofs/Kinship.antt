@@ -1,0 +1,174 @@
+-- Tables 3c, 3d, 3e, 3i, 3k: results, kin, bindings and notes: the tests decide the facts.
+use mathlib.Core.Path.{_∙_, _≡_, ap, refl, subst, sym}
+use mathlib.Core.Logic.{_≢_, _⊎_, inl, inr, ⊎-elim}
+use mathlib.Core.Bool.{_&&_, _||_, not, true}
+use mathlib.Core.List.{[], _∷_, List}
+use Prim.Native.Nat.{_<_, _≤_, suc, zero, ℕ}
+use lib.Dec.{eqb, leb, ltb}
+use lib.ListN.{getD, length}
+use borrow.Author.Tests.{eqb-true, le-leb, leb-true, lt-ltb, ltb-true}
+use native.Mathlib.Omega.{arith}
+use native.Mathlib.Nat.{le-of-suc-le-suc, not-suc-le-zero}
+use Rattle.parlog.proofs.Bools.{and-true, never, or-left, or-right, or-true, true-and}
+use Rattle.parlog.proofs.Coded.{code-tag, tag-code}
+use Rattle.parlog.specs.Codes.{and-par, and-seq, dormant, equate, guard-eval, input-match, isMode, isResult, isTag, kindCode, modeCode, none, or-par, or-search, reporting, resultCode, seq-search, suspended, Tag, tagCode, tagOf, the-goal, try-clause}
+use Rattle.parlog.specs.Notions.{me}
+use Rattle.parlog.specs.Program.{Program, tagOfGoal}
+use Rattle.parlog.specs.TableRules.{allBelow, bindingOk, isGoalTag, isLiteralTag, isStageTag, kinOk, makesTag, notesOk, resultOk}
+use Rattle.parlog.specs.Tables.{noted, State}
+use Rattle.parlog.specs.declared.Binding.{Binding}
+use Rattle.parlog.specs.declared.Binding.the-variants.{Bound, Free}
+use Rattle.parlog.specs.declared.Process.{Process}
+use Rattle.parlog.specs.declared.Term.the-variants.{Const, Var}
+use Rattle.refusals.proofs.Tests.{and-too, at-most, Decides, either, equal, if-so, not-that}
+use Rattle.refusals.specs.Ruled.{a-call-tag, an-equality-tag, for-block, for-body, for-guard, for-search, for-stage, goal-sleeps, GoalProcess, GoalTag, HasParent, in-sequence, it-reports, LiteralTag, Makes, more-literals, MustTell, one-literal, only-stage, per-clause, per-literal, StageTag, to-guard, to-match}
+
+-- ---- which tags a tag makes
+
+tag-same : (t u : Tag) → isTag u (tagCode t) ≡ true → t ≡ u
+tag-same t u e = sym (code-tag t (tagCode t) refl) ∙ ap tagOf (eqb-true (tagCode t) (tagCode u) e) ∙ code-tag u (tagCode u) refl
+
+literal-tag : (t : Tag) → isLiteralTag t ≡ true → LiteralTag t
+literal-tag and-par e = never e
+literal-tag and-seq e = never e
+literal-tag or-par e = a-call-tag
+literal-tag seq-search e = never e
+literal-tag or-search e = never e
+literal-tag try-clause e = never e
+literal-tag input-match e = never e
+literal-tag guard-eval e = never e
+literal-tag equate e = an-equality-tag
+
+tag-literal : {t : Tag} → LiteralTag t → isLiteralTag t ≡ true
+tag-literal a-call-tag = refl
+tag-literal an-equality-tag = refl
+
+stage-tag : (t : Tag) → isStageTag t ≡ true → StageTag t
+stage-tag t e =
+    ⊎-elim (λ q. one-literal (literal-tag t q)) (λ q. subst (λ u. StageTag u) (sym (tag-same t and-par q)) more-literals)
+    (or-true (isLiteralTag t) (isTag and-par (tagCode t)) e)
+
+tag-stage : {t : Tag} → StageTag t → isStageTag t ≡ true
+tag-stage (one-literal {t} l) = or-left (isLiteralTag t) (isTag and-par (tagCode t)) (tag-literal l)
+tag-stage more-literals = refl
+
+goal-tag : (t : Tag) → isGoalTag t ≡ true → GoalTag t
+goal-tag t e =
+    ⊎-elim (λ q. only-stage (stage-tag t q)) (λ q. subst (λ u. GoalTag u) (sym (tag-same t and-seq q)) in-sequence)
+    (or-true (isStageTag t) (isTag and-seq (tagCode t)) e)
+
+tag-goal : {t : Tag} → GoalTag t → isGoalTag t ≡ true
+tag-goal (only-stage {t} g) = or-left (isStageTag t) (isTag and-seq (tagCode t)) (tag-stage g)
+tag-goal in-sequence = refl
+
+makes-to : (a t : Tag) → makesTag a t ≡ true → Makes a t
+makes-to and-par t e = per-literal (literal-tag t e)
+makes-to and-seq t e = for-stage (stage-tag t e)
+makes-to or-par t e =
+    ⊎-elim (λ q. subst (λ u. Makes or-par u) (sym (tag-same t seq-search q)) for-search) (λ q. for-body (goal-tag t q))
+    (or-true (isTag seq-search (tagCode t)) (isGoalTag t) e)
+makes-to seq-search t e = subst (λ u. Makes seq-search u) (sym (tag-same t or-search e)) for-block
+makes-to or-search t e = subst (λ u. Makes or-search u) (sym (tag-same t try-clause e)) per-clause
+makes-to try-clause t e =
+    ⊎-elim (λ q. subst (λ u. Makes try-clause u) (sym (tag-same t input-match q)) to-match) (λ q. subst (λ u. Makes try-clause u) (sym (tag-same t guard-eval q)) to-guard)
+    (or-true (isTag input-match (tagCode t)) (isTag guard-eval (tagCode t)) e)
+makes-to input-match t e = never e
+makes-to guard-eval t e = for-guard (goal-tag t e)
+makes-to equate t e = never e
+
+makes-from : {a t : Tag} → Makes a t → makesTag a t ≡ true
+makes-from (per-literal l) = tag-literal l
+makes-from (for-stage g) = tag-stage g
+makes-from for-search = refl
+makes-from (for-body {t} g) = or-right (isTag seq-search (tagCode t)) (isGoalTag t) (tag-goal g)
+makes-from for-block = refl
+makes-from per-clause = refl
+makes-from to-match = refl
+makes-from to-guard = refl
+makes-from (for-guard g) = tag-goal g
+
+-- ---- kin
+
+module _ (pr : Program) (s : State) where
+  pub goal-process-right : Decides (kinOk pr (s .procs) 0 (me s 0)) (GoalProcess pr (me s 0))
+  unfolding kinOk
+  goal-process-right =
+      let x = me s 0 in
+      let g = tagCode (tagOfGoal (pr .goal)) in
+      let d = and-too (eqb (x .tag) g) _ (equal (x .tag) g) (and-too (eqb (x .parent) 0) (eqb (x .spot .kind) (kindCode the-goal)) (equal (x .parent) 0) (equal (x .spot .kind) (kindCode the-goal))) in
+      (λ e. let f = d .0 e in record { tag = f .0; parent = f .1 .0; kind = f .1 .1 }, λ p. d .1 (p .tag, (p .parent, p .kind)))
+
+  pub parent-right : (known : (i : ℕ) → i < length (s .procs) → me s i .tag < 9) → (i : ℕ) → suc i < length (s .procs) → Decides (kinOk pr (s .procs) (suc i) (me s (suc i))) (HasParent s (suc i))
+  unfolding kinOk
+  parent-right known i h = (to, back)
+    where
+      to : (ltb (me s (suc i) .parent) (suc i) && makesTag (tagOf (me s (me s (suc i) .parent) .tag)) (tagOf (me s (suc i) .tag))) ≡ true → HasParent s (suc i)
+      to e =
+          let a = and-true (ltb (me s (suc i) .parent) (suc i)) (makesTag (tagOf (me s (me s (suc i) .parent) .tag)) (tagOf (me s (suc i) .tag))) e in
+          let l = ltb-true (me s (suc i) .parent) (suc i) (a .0) in
+          record {
+            lower = l;
+            above = tagOf (me s (me s (suc i) .parent) .tag);
+            own = tagOf (me s (suc i) .tag);
+            parent-tag = sym (tag-code (me s (me s (suc i) .parent) .tag) (known (me s (suc i) .parent) (omega arith)));
+            own-tag = sym (tag-code (me s (suc i) .tag) (known (suc i) h));
+            makes = makes-to (tagOf (me s (me s (suc i) .parent) .tag)) (tagOf (me s (suc i) .tag)) (a .1);
+          }
+
+      back : HasParent s (suc i) → (ltb (me s (suc i) .parent) (suc i) && makesTag (tagOf (me s (me s (suc i) .parent) .tag)) (tagOf (me s (suc i) .tag))) ≡ true
+      back p =
+          true-and (ltb (me s (suc i) .parent) (suc i)) (makesTag (tagOf (me s (me s (suc i) .parent) .tag)) (tagOf (me s (suc i) .tag))) (lt-ltb (me s (suc i) .parent) (suc i) (p .lower))
+          (rw (code-tag (p .above) (me s (me s (suc i) .parent) .tag) (p .parent-tag), code-tag (p .own) (me s (suc i) .tag) (p .own-tag)) (makes-from (p .makes)))
+
+  -- ---- results
+
+  pub tells-right : (i : ℕ) → Decides (resultOk i (me s i)) (MustTell s i → me s i .result ≢ resultCode none)
+  unfolding resultOk
+  tells-right i =
+      let m = me s i .mode in
+      let d = either (isMode reporting m) (eqb i 0 && isMode dormant m) (equal m 4) (and-too (eqb i 0) (isMode dormant m) (equal i 0) (equal m 0)) in
+      let n = not-that (isResult none (me s i .result)) (equal (me s i .result) 0) in
+      let f = if-so (isMode reporting m || (eqb i 0 && isMode dormant m)) (not (isResult none (me s i .result))) d (λ q. n) in
+      (λ e t. f .0 e (told t), λ h. f .1 (λ q. h (⊎-elim (λ a. it-reports a) (λ a. goal-sleeps (a .0) (a .1)) q)))
+    where
+      told : MustTell s i → (me s i .mode ≡ 4) ⊎ ((i ≡ 0) × (me s i .mode ≡ 0))
+      told (it-reports e) = inl e
+      told (goal-sleeps z e) = inr (z, e)
+
+-- ---- notes
+
+below-to : (n : ℕ) (ns : List ℕ) → allBelow n ns ≡ true → (j : ℕ) → j < length ns → getD ns j 0 < n
+unfolding allBelow
+below-to n [] e j h = absurd (not-suc-le-zero h)
+below-to n (v ∷ ns) e zero h = ltb-true v n (and-true (ltb v n) (allBelow n ns) e .0)
+below-to n (v ∷ ns) e (suc j) h = below-to n ns (and-true (ltb v n) (allBelow n ns) e .1) j (le-of-suc-le-suc h)
+
+below-from : (n : ℕ) (ns : List ℕ) → ((j : ℕ) → j < length ns → getD ns j 0 < n) → allBelow n ns ≡ true
+unfolding allBelow
+below-from n [] f = refl
+below-from n (v ∷ ns) f = true-and (ltb v n) (allBelow n ns) (lt-ltb v n (f 0 (omega arith))) (below-from n ns (λ j h. f (suc j) (omega arith)))
+
+pub notes-right : (n : ℕ) (x : Process) → Decides (notesOk n x) (x .mode ≡ modeCode suspended → (x .count ≤ 4) × ((j : ℕ) → j < length (noted x) → getD (noted x) j 0 < n))
+unfolding notesOk
+notes-right n x =
+    if-so (isMode suspended (x .mode)) (leb (x .count) 4 && allBelow n (noted x)) (equal (x .mode) (modeCode suspended))
+    (λ q. and-too (leb (x .count) 4) (allBelow n (noted x)) (at-most (x .count) 4) (below-to n (noted x), below-from n (noted x)))
+
+-- ---- bindings
+
+abbrev pub Bounded : ℕ → Binding → Type 0
+Bounded v b = ((c : ℕ) → b ≡ Bound (Const c) → c ≤ 32767) × ((w : ℕ) → b ≡ Bound (Var w) → w < v)
+
+pub binding-right : (v : ℕ) (b : Binding) → Decides (bindingOk v b) (Bounded v b)
+binding-right v Free = (
+  λ e. (λ c q. let z : _≡_ {A = ℕ} 0 1 = cc in absurd (omega arith), λ w q. let z : _≡_ {A = ℕ} 0 1 = cc in absurd (omega arith)),
+  λ f. refl,
+)
+binding-right v (Bound (Const a)) = (
+  λ e. (λ c q. let z : a ≡ c = cc in omega (arith, leb-true a 32767 e), λ w q. let z : _≡_ {A = ℕ} 0 1 = cc in absurd (omega arith)),
+  λ f. le-leb a 32767 (f .0 a refl),
+)
+binding-right v (Bound (Var a)) = (
+  λ e. (λ c q. let z : _≡_ {A = ℕ} 0 1 = cc in absurd (omega arith), λ w q. let z : a ≡ w = cc in omega (arith, ltb-true a v e)),
+  λ f. lt-ltb a v (f .1 a refl),
+)
