@@ -30,13 +30,17 @@ use Rattle.parlog.specs.declared.Stepped.the-variants.{Unmoved}
 use Rattle.parlog.specs.declared.Supplied.the-variants.{Ungiven}
 use Rattle.parlog.specs.declared.Term.the-variants.{Var}
 use Rattle.parlog.specs.declared.Valued.the-variants.{Unvalued}
-use Rattle.promises.proofs.Entry.{away, away-numbered, Door, door, inside, let-in-same, let-ok, run-let, run-turned, step-let, step-turned, supply-let, supply-turned, turn-let, turn-turned, value-let, value-turned}
+use Rattle.promises.proofs.Entry.{away, away-numbered, bad-is, Door, door, inside, let-in-same, let-ok, run-let, run-turned, step-let, step-turned, supply-let, supply-turned, turn-let, turn-turned, value-let, value-turned}
 use Rattle.promises.proofs.Giving.{is-constant, is-taken, look-sees, look-twelve, not-there, Offer, offer, supply-fourteen, supply-thirteen, supply-twelve, too-large}
-use Rattle.promises.proofs.Loaded.{accepted-few, refused-number}
+use Rattle.promises.proofs.Loaded.{accepted-few}
 use Rattle.promises.proofs.Whose.{goes, is-full, is-still, move-can, none-turn, of-turn, step-eleven, step-nine, step-ten, too-high, Trial, trial, turn-moves, turn-none, turn-of}
 use Rattle.promises.proofs.Words.{accepted-told, begun-told, ended-told, given-told, moved-told, refused-told, term-told}
 use Rattle.promises.specs.Outcomes.{firstIn, largeIn, LoadMeets, refusalIn, RunMeets, secondIn, StartMeets, StepMeets, SupplyMeets, TurnMeets, ValueMeets}
-use Rattle.promises.specs.Refusals.{bad-image, BadImage, has-constant, LetIn, no-constant, no-process, no-room-for, no-room-in-turn, no-rule-for, no-variable, no-variable-seen, nobody, RefusesBy, Refusing, run-away, RunRefused, start-image, start-sizes, StartRefused, stateIn, step-away, StepRefused, supply-away, SupplyRefused, Turn, turn-away, TurnRefused, value-away, ValueRefused}
+use Rattle.promises.specs.Refusals.{BadImage, has-constant, LetIn, no-constant, no-process, no-room-for, no-room-in-turn, no-rule-for, no-variable, no-variable-seen, nobody, RefusesBy, Refusing, run-away, RunRefused, start-image, start-sizes, StartRefused, stateIn, step-away, StepRefused, supply-away, SupplyRefused, Turn, turn-away, TurnRefused, value-away, ValueRefused}
+use Rattle.refusals.proofs.Exactly.{accepted-right, refused-exactly, refused-number}
+use Rattle.refusals.proofs.RuledExactly.{sizes-exactly}
+use Rattle.refusals.proofs.Tests.{refuted, refutes}
+use Rattle.refusals.specs.Right.{RightImage}
 
 -- ---- from the reasons to the word
 
@@ -65,22 +69,22 @@ module _ {Why : ℕ → ℕ → Type 0} (w : ℕ) (numbered : (n o : ℕ) → Wh
 -- ---- load
 
 bad-numbered : {s : List ℕ} {n o : ℕ} → BadImage s n o → (1 ≤ n) × (n ≤ 14)
-bad-numbered {s} (bad-image e) = let a = refused-number s e in (a .0, omega (arith, a .1))
-
-bad-is : {s : List ℕ} {n o : ℕ} → BadImage s n o → loadOf s ≡ Refused (refusal n o)
-bad-is (bad-image e) = e
+bad-numbered b = let a = refused-number b in (a .0, omega (arith, a .1))
 
 module _ (s : List ℕ) (w : ℕ) (meets : LoadMeets s w) where
-  -- Refusals 19: the counts of an accepted image
-  pub load-counts : {r c : ℕ} → loadOf s ≡ Accepted r c → (refusalIn w ≡ 0) × (firstIn w ≡ r) × (secondIn w ≡ c)
-  load-counts {r} {c} e = let a = accepted-few s e in accepted-told w r c (omega (arith, a .0)) (omega (arith, a .1)) (meets .contract ∙ rw e)
+  -- Refusals 19: the counts of a right image
+  pub load-counts : {r c : ℕ} → RightImage s r c → (refusalIn w ≡ 0) × (firstIn w ≡ r) × (secondIn w ≡ c)
+  load-counts {r} {c} i =
+      let e = accepted-right s .1 i in
+      let a = accepted-few s e in
+      accepted-told w r c (omega (arith, a .0)) (omega (arith, a .1)) (meets .contract ∙ rw e)
 
   pub demand-1-load : RefusesBy (BadImage s) w
   demand-1-load = refuses-by w (λ n o b. bad-numbered b) (λ n o b. meets .contract ∙ rw (bad-is b)) (go (loadOf s) refl)
     where
       go : (a : Loaded) → loadOf s ≡ a → Answered (BadImage s) w
-      go (Refused f) e = a-refusal (bad-image e)
-      go (Accepted r c) e = no-refusal (load-counts e .0)
+      go (Refused f) e = a-refusal (refused-exactly s .0 e)
+      go (Accepted r c) e = no-refusal (load-counts (accepted-right s .0 e) .0)
 
 -- ---- start
 
@@ -91,8 +95,8 @@ start-numbered (start-sizes e h) = (omega arith, omega arith)
 module _ (lim : Limits) (s : List ℕ) (l : Lent) where
   pub start-refused : {n o : ℕ} → StartRefused lim s l n o → startCall lim s l ≡ record { answer = Unstarted (refusal n o); lent = l }
   unfolding startCall
-  start-refused (start-image (bad-image e)) = rw e
-  start-refused (start-sizes e h) = rw (e, h)
+  start-refused (start-image b) = rw (bad-is b)
+  start-refused (start-sizes a h) = rw (accepted-right s .1 a, refutes (fullSize lim l) (sizes-exactly lim l) h)
 
   pub start-begun : {r c : ℕ} → loadOf s ≡ Accepted r c → fullSize lim l ≡ true → startCall lim s l ≡ record { answer = Begun; lent = startedLent lim (programOf s r c) }
   unfolding startCall
@@ -106,8 +110,8 @@ module _ (lim : Limits) (s : List ℕ) (l : Lent) where
   starting-so = go (loadOf s) refl
     where
       go : (a : Loaded) → loadOf s ≡ a → Start
-      go (Refused f) e = is-refused (start-image (bad-image e))
-      go (Accepted r c) e = split (fullSize lim l) (λ h. is-begun e h) (λ h. is-refused (start-sizes e h))
+      go (Refused f) e = is-refused (start-image (refused-exactly s .0 e))
+      go (Accepted r c) e = split (fullSize lim l) (λ h. is-begun e h) (λ h. is-refused (start-sizes (accepted-right s .0 e) (refuted (sizes-exactly lim l) h)))
 
   module _ (w : ℕ) (l′ : Lent) (meets : StartMeets lim s l w l′) where
     start-word : (n o : ℕ) → StartRefused lim s l n o → w ≡ word (refusedAs (refusal n o))

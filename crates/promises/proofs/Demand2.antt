@@ -23,7 +23,7 @@ use Rattle.parlog.specs.Tables.{bindingBytes, cellSize, Lent, procCount, proces
 use Rattle.parlog.specs.declared.Loaded.the-variants.{Accepted}
 use Rattle.parlog.specs.declared.Move.{Move}
 use Rattle.promises.proofs.Demand1.{demand-1-start, is-begun, is-refused, Start, start-begun, starting-so, step-as, supply-as, turn-meets-step, turn-there, value-as}
-use Rattle.promises.proofs.Entry.{let-ok, put-holds, run-let}
+use Rattle.promises.proofs.Entry.{let-by, let-image, let-ok, put-holds, run-let}
 use Rattle.promises.proofs.Fours.{Fours, fours-in, fours-run, fours-step, fours-supply}
 use Rattle.promises.proofs.Giving.{is-constant, is-taken, look-is, look-sees, look-value, not-there, Offer, offer, too-large}
 use Rattle.promises.proofs.Loaded.{accepted-few}
@@ -44,7 +44,7 @@ module _ (lim : Limits) (s : List ℕ) (l : Lent) {r c : ℕ} (i : LetIn lim s l
   kept = tables-state lim pr (tablesIn l) (let-ok lim s l i)
 
   pub image-sane : Sane pr
-  image-sane = accepted-sane s r c (i .image)
+  image-sane = accepted-sane s r c (let-image i)
 
   -- bytes that became those of t
   pub holds-in : (t : Tables) (l′ : Lent) → Fours (t .state) → tablesOk lim pr t ≡ true → l′ ≡ putTables l t → Holds l t l′
@@ -177,7 +177,7 @@ module _ (s : List ℕ) {r c : ℕ} (e : loadOf s ≡ Accepted r c) where
   goal-few = omega (arith, accepted-few s e .2)
 
   pub started-let : (lim : Limits) → Usable lim → LetIn lim s (startedLent lim (programOf s r c)) r c
-  started-let lim usable = record { image = e; tables = started-good lim usable (programOf s r c) goal-few }
+  started-let lim usable = let-by e (started-good lim usable (programOf s r c) goal-few)
 
 -- a start that is not refused leaves a fresh start
 pub demand-2-start : (lim : Limits) → Usable lim → (s : List ℕ) (l : Lent) (w : ℕ) (l′ : Lent) → StartMeets lim s l w l′ → refusalIn w ≡ 0 → Begins lim s l′

@@ -1,19 +1,17 @@
 -- What each call does where it is turned away and where it is let in.
 use mathlib.Core.Path.{_∙_, _≡_, refl, sym}
-use mathlib.Core.Bool.{_&&_, Bool, false, true}
+use mathlib.Core.Bool.{Bool, false, true}
 use mathlib.Core.List.{List}
 use Prim.Native.Nat.{_≤_, ℕ}
 use native.Mathlib.Omega.{arith}
 use Rattle.machine.proofs.Held.{put-good, put-read}
-use Rattle.parlog.proofs.Bools.{and-true}
 use Rattle.parlog.specs.Calls.{enter, enterBy, entered, enterLoaded, Entry, runCall, runEntry, stepAnswer, stepCall, supplyAnswer, supplyCall, turnCall, turned-away, valueAnswer, valueCall}
 use Rattle.parlog.specs.Limits.{Limits}
 use Rattle.parlog.specs.Load.{loadOf, refusal}
-use Rattle.parlog.specs.Program.{Program, programOf}
+use Rattle.parlog.specs.Program.{programOf}
 use Rattle.parlog.specs.Run.{stepTables, supplyTables, turnTables, valueTables}
-use Rattle.parlog.specs.Scan.{every}
-use Rattle.parlog.specs.TableRules.{cellKnown, fullSize, lentOk, tablesOk}
-use Rattle.parlog.specs.Tables.{Lent, putTables, Tables, tablesIn, varCount}
+use Rattle.parlog.specs.TableRules.{fullSize, lentOk, tablesOk}
+use Rattle.parlog.specs.Tables.{Lent, putTables, Tables, tablesIn}
 use Rattle.parlog.specs.declared.Loaded.{Loaded}
 use Rattle.parlog.specs.declared.Loaded.the-variants.{Accepted, Refused}
 use Rattle.parlog.specs.declared.Ran.the-variants.{Unrun}
@@ -22,9 +20,27 @@ use Rattle.parlog.specs.declared.Stepped.the-variants.{Unmoved}
 use Rattle.parlog.specs.declared.Supplied.the-variants.{Ungiven}
 use Rattle.parlog.specs.declared.Valued.the-variants.{Unvalued}
 use Rattle.promises.proofs.Fours.{Fours}
-use Rattle.promises.proofs.Loaded.{refused-number}
 use Rattle.promises.specs.Moves.{Holds}
-use Rattle.promises.specs.Refusals.{bad-image, for-image, for-tables, LetIn, TurnedAway}
+use Rattle.promises.specs.Refusals.{BadImage, for-image, for-tables, LetIn, TurnedAway}
+use Rattle.refusals.proofs.Exactly.{accepted-right, refused-exactly, refused-number}
+use Rattle.refusals.proofs.RuledExactly.{lent-exactly, ruled-exactly, sizes-exactly}
+use Rattle.refusals.proofs.Tests.{refuted, refutes}
+
+-- ---- the tests and the facts
+
+-- a bad image is refused so
+pub bad-is : {s : List ℕ} {n o : ℕ} → BadImage s n o → loadOf s ≡ Refused (refusal n o)
+bad-is {s} b = refused-exactly s .1 b
+
+module _ {lim : Limits} {s : List ℕ} {l : Lent} {r c : ℕ} where
+  pub let-by : loadOf s ≡ Accepted r c → lentOk lim (programOf s r c) l ≡ true → LetIn lim s l r c
+  let-by e h = record { image = accepted-right s .0 e; tables = lent-exactly lim (programOf s r c) l .0 h }
+
+  pub let-image : LetIn lim s l r c → loadOf s ≡ Accepted r c
+  let-image i = accepted-right s .1 (i .image)
+
+  pub let-tables : LetIn lim s l r c → lentOk lim (programOf s r c) l ≡ true
+  let-tables i = lent-exactly lim (programOf s r c) l .1 (i .tables)
 
 -- ---- the first tests
 
@@ -38,21 +54,21 @@ module _ (lim : Limits) (s : List ℕ) (l : Lent) where
   entering = go (loadOf s) refl
     where
       on : (r c : ℕ) → loadOf s ≡ Accepted r c → (b : Bool) → lentOk lim (programOf s r c) l ≡ b → Entering lim s l (enterBy b (programOf s r c) l)
-      on r c e true h = is-let (record { image = e; tables = h })
-      on r c e false h = is-turned {f = refusal 8 0} (for-tables e h)
+      on r c e true h = is-let (let-by e h)
+      on r c e false h = is-turned {f = refusal 8 0} (for-tables (accepted-right s .0 e) (refuted (lent-exactly lim (programOf s r c) l) h))
 
       go : (a : Loaded) → loadOf s ≡ a → Entering lim s l (enterLoaded a lim s l)
-      go (Refused f) e = is-turned (for-image (bad-image e))
+      go (Refused f) e = is-turned (for-image (refused-exactly s .0 e))
       go (Accepted r c) e = on r c e (lentOk lim (programOf s r c) l) refl
 
   pub enter-away : {n o : ℕ} → TurnedAway lim s l n o → enter lim s l ≡ turned-away (refusal n o)
   unfolding enter
-  enter-away (for-image (bad-image e)) = rw e
-  enter-away (for-tables e h) = rw (e, h)
+  enter-away (for-image b) = rw (bad-is b)
+  enter-away (for-tables {r} {c} a h) = rw (accepted-right s .1 a, refutes (lentOk lim (programOf s r c) l) (lent-exactly lim (programOf s r c) l) h)
 
   pub enter-let : {r c : ℕ} → LetIn lim s l r c → enter lim s l ≡ entered (programOf s r c) (tablesIn l)
   unfolding enter
-  enter-let i = rw (i .image, i .tables)
+  enter-let i = rw (let-image i, let-tables i)
 
   -- a call is turned away or let in
   pub data Door : Type 0 where
@@ -68,13 +84,13 @@ module _ (lim : Limits) (s : List ℕ) (l : Lent) where
 
 pub let-in-same : {lim : Limits} {s : List ℕ} {l l′ : Lent} {r c r′ c′ : ℕ} → LetIn lim s l r c → LetIn lim s l′ r′ c′ → (r ≡ r′) × (c ≡ c′)
 let-in-same {r = r} {c} {r′} {c′} a b =
-    let e : Accepted r c ≡ Accepted r′ c′ = sym (a .image) ∙ b .image in
+    let e : Accepted r c ≡ Accepted r′ c′ = sym (let-image a) ∙ let-image b in
     let x : r ≡ r′ = cc in
     let y : c ≡ c′ = cc in
     (x, y)
 
 pub away-numbered : {lim : Limits} {s : List ℕ} {l : Lent} {n o : ℕ} → TurnedAway lim s l n o → (1 ≤ n) × (n ≤ 8)
-away-numbered {s = s} (for-image (bad-image e)) = let a = refused-number s e in (a .0, omega (arith, a .1))
+away-numbered (for-image b) = let a = refused-number b in (a .0, omega (arith, a .1))
 away-numbered (for-tables e h) = (omega arith, omega arith)
 
 -- ---- the calls
@@ -125,19 +141,14 @@ module _ (lim : Limits) (s : List ℕ) (l : Lent) where
     -- ---- what was let in has good tables, and so has what is written over it
 
     pub let-ok : tablesOk lim (programOf s r c) (tablesIn l) ≡ true
-    unfolding lentOk
-    let-ok =
-        let pr : Program = programOf s r c in
-        and-true (every (cellKnown (l .vars)) (varCount (l .head))) (tablesOk lim pr (tablesIn l))
-        (and-true (fullSize lim l) (every (cellKnown (l .vars)) (varCount (l .head)) && tablesOk lim pr (tablesIn l)) (i .tables) .1) .1
+    let-ok = ruled-exactly lim (programOf s r c) (tablesIn l) .1 (i .tables .tables)
 
     pub let-full : fullSize lim l ≡ true
-    unfolding lentOk
-    let-full = and-true (fullSize lim l) (every (cellKnown (l .vars)) (varCount (l .head)) && tablesOk lim (programOf s r c) (tablesIn l)) (i .tables) .0
+    let-full = sizes-exactly lim l .1 (i .tables .sizes)
 
     module _ (t : Tables) (f : Fours (t .state)) (ok : tablesOk lim (programOf s r c) t ≡ true) where
       pub put-let : LetIn lim s (putTables l t) r c
-      put-let = record { image = i .image; tables = put-good lim (programOf s r c) l t let-full ok (λ j h. f j) }
+      put-let = let-by (let-image i) (put-good lim (programOf s r c) l t let-full ok (λ j h. f j))
 
       pub put-holds : Holds l t (putTables l t)
       put-holds = record { read = put-read lim (programOf s r c) l t let-full ok (λ j h. f j); bytes = refl }

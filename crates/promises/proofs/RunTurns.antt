@@ -23,7 +23,7 @@ use Rattle.parlog.specs.declared.Move.{Move}
 use Rattle.parlog.specs.declared.Stepped.the-variants.{Moved}
 use Rattle.promises.proofs.Demand1.{turn-as}
 use Rattle.promises.proofs.Demand2.{demand-2-run, image-sane}
-use Rattle.promises.proofs.Entry.{let-full, let-ok, put-holds, put-let}
+use Rattle.promises.proofs.Entry.{let-full, let-image, let-ok, let-tables, put-holds, put-let}
 use Rattle.promises.proofs.Fours.{Fours, fours-in, fours-turn}
 use Rattle.promises.proofs.Words.{moved-told}
 use Rattle.promises.specs.Moves.{AllBytes, no-turn, one-turn, Turns}
@@ -89,8 +89,8 @@ module _ (lim : Limits) (s : List ℕ) (r c : ℕ) where
 -- bytes that hold good tables are those that the tables are written to
 put-same : (lim : Limits) (s : List ℕ) (l : Lent) {r c : ℕ} → LetIn lim s l r c → AllBytes l → putTables l (tablesIn l) ≡ l
 put-same lim s l {r} {c} i b =
-    let a = accepted s r c (i .image) in
-    let k = lent-inside lim s r c l (i .image) (a .relations) (a .clauses) (i .tables) in
+    let a = accepted s r c (let-image i) in
+    let k = lent-inside lim s r c l (let-image i) (a .relations) (a .clauses) (let-tables i) in
     let g = grown-same l k (b .head) (b .procs) (b .vars) in
     same-lent (putTables l (tablesIn l)) l (sym (g .head)) (sym (g .procs)) (sym (g .vars))
 

@@ -1,21 +1,19 @@
 -- When a call is refused, in the words of docs/MACHINE.md: the number, and the offset that it carries.
 use mathlib.Core.Path.{_≡_}
 use mathlib.Core.Logic.{_≢_}
-use mathlib.Core.Bool.{false, true}
 use mathlib.Core.List.{List}
 use Prim.Native.Nat.{_<_, _≤_, ℕ}
 use Rattle.parlog.specs.Limits.{Limits}
-use Rattle.parlog.specs.Load.{loadOf}
 use Rattle.parlog.specs.Notions.{Leads}
 use Rattle.parlog.specs.Program.{Program, programOf}
 use Rattle.parlog.specs.Relation.{Fits, Rule}
-use Rattle.parlog.specs.TableRules.{fullSize, lentOk}
 use Rattle.parlog.specs.Tables.{Lent, procCount, State, Tables, tablesIn}
-use Rattle.parlog.specs.declared.Loaded.the-variants.{Accepted, Refused}
 use Rattle.parlog.specs.declared.Move.{Move}
-use Rattle.parlog.specs.declared.Refusal.{Refusal}
 use Rattle.parlog.specs.declared.Term.the-variants.{Const, Var}
 use Rattle.promises.specs.Outcomes.{largeIn, refusalIn}
+use Rattle.refusals.specs.Refused.{RefusedAt}
+use Rattle.refusals.specs.Right.{RightImage}
+use Rattle.refusals.specs.Ruled.{LentRuled, Sizes}
 
 -- the state that lent bytes hold
 abbrev pub stateIn : Lent → State
@@ -44,26 +42,26 @@ pub data Turn (pr : Program) (t : Tables) (p : ℕ) : Type 0 where
 
 -- ---- refusals 1 to 8
 
--- Refusals 1 to 7: the image is refused
-pub data BadImage (s : List ℕ) : ℕ → ℕ → Type 0 where
-  bad-image : {f : Refusal} → loadOf s ≡ Refused f → BadImage s (f .number) (f .offset)
+-- Refusals 1 to 7: the image is refused: too long, or its first record that is not right, or no goal
+abbrev pub BadImage : List ℕ → ℕ → ℕ → Type 0
+BadImage s n o = RefusedAt s n o
 
 -- Refusals 20, 21: what a call may count on that was let in, r relations and c clauses being in its image
 pub record LetIn (lim : Limits) (s : List ℕ) (l : Lent) (r c : ℕ) : Type 0 where
-  pub image : loadOf s ≡ Accepted r c
-  pub tables : lentOk lim (programOf s r c) l ≡ true
+  pub image : RightImage s r c
+  pub tables : LentRuled lim (programOf s r c) l
 
 -- Refusals 20, 21: the image is refused, or the tables break a rule
 pub data TurnedAway (lim : Limits) (s : List ℕ) (l : Lent) : ℕ → ℕ → Type 0 where
   for-image : {n o : ℕ} → BadImage s n o → TurnedAway lim s l n o
-  for-tables : {r c : ℕ} → loadOf s ≡ Accepted r c → lentOk lim (programOf s r c) l ≡ false → TurnedAway lim s l 8 0
+  for-tables : {r c : ℕ} → RightImage s r c → (LentRuled lim (programOf s r c) l → ⊥) → TurnedAway lim s l 8 0
 
 -- ---- of each call
 
 -- Refusals 21: a start is refused for its image or for the sizes of what is lent
 pub data StartRefused (lim : Limits) (s : List ℕ) (l : Lent) : ℕ → ℕ → Type 0 where
   start-image : {n o : ℕ} → BadImage s n o → StartRefused lim s l n o
-  start-sizes : {r c : ℕ} → loadOf s ≡ Accepted r c → fullSize lim l ≡ false → StartRefused lim s l 8 0
+  start-sizes : {r c : ℕ} → RightImage s r c → (Sizes lim l → ⊥) → StartRefused lim s l 8 0
 
 -- Refusals 9, 10, 11, 22: the step of process p
 pub data StepRefused (lim : Limits) (s : List ℕ) (l : Lent) (p : ℕ) : ℕ → ℕ → Type 0 where

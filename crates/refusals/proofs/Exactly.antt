@@ -224,3 +224,14 @@ module _ (s : List ℕ) where
       let e = sym (load-refused x) ∙ load-refused y in
       let f : refusal n o ≡ refusal m p = cc in
       (ap (λ (r : Refusal). r .number) f, ap (λ (r : Refusal). r .offset) f)
+
+-- the numbers are 1 to 7
+pub refused-number : {s : List ℕ} {n o : ℕ} → RefusedAt s n o → (1 ≤ n) × (n ≤ 7)
+refused-number (too-long h) = (omega arith, omega arith)
+refused-number (is-cut c w) = (omega arith, omega arith)
+refused-number (wrong-kind c w q) = (omega arith, omega arith)
+refused-number (one-too-many c w q f) = (omega arith, omega arith)
+refused-number (wrong-body c w q f b) = (omega arith, omega arith)
+refused-number (wrong-name c w q f b n) = (omega arith, omega arith)
+refused-number (ninth-of-block c w q f b n h) = (omega arith, omega arith)
+refused-number (no-goal h f e n) = (omega arith, omega arith)
