@@ -2,3 +2,5 @@
 pub mod Right
 pub mod Refused
 pub mod Ruled
+pub mod Instances
+pub mod CallInstances
