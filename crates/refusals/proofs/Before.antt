@@ -249,7 +249,7 @@ module _ (s : List ℕ) (k : ℕ) (g : Progress) (B : Before s k g) where
         record {
           known = relation-known s k rels (B .relations) (B .few) (relationIn s k) m .0 (u .0);
           order = order-right w q .0 (v .0);
-          first = first-right w q (leb-true (g .relation) (relationIn s k) (v .0)) .0 (v .1);
+          first = λ x. let z = first-right w q (leb-true (g .relation) (relationIn s k) (v .0)) .0 (v .1) x in omega arith;
           head = terms-named s n m (a + 8) .0 (x .0);
           literals = clause-to s (literalNamed s rels n) (LiteralNamed s k n) (λ i. named n i .0) a e (y .0) (y .1);
         }
@@ -261,7 +261,7 @@ module _ (s : List ℕ) (k : ℕ) (g : Progress) (B : Before s k g) where
         let m = byteAt s (a + 5) in
         let t = clause-from s (literalNamed s rels n) (LiteralNamed s k n) (λ i. named n i .1) a (c .literals) in
         let up = order-right w q .1 (c .order) in
-        let first = first-right w q (leb-true (g .relation) (relationIn s k) up) .1 (c .first) in
+        let first = first-right w q (leb-true (g .relation) (relationIn s k) up) .1 (λ x. let z = c .first x in omega arith) in
         let known = relation-known s k rels (B .relations) (B .few) (relationIn s k) m .1 (c .known) in
         let head = terms-named s n m (a + 8) .1 (c .head) in
         true-and (clausePlaced s g a) (clauseInside s rels a)

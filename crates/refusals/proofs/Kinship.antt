@@ -107,7 +107,7 @@ module _ (pr : Program) (s : State) where
           let a = and-true (ltb (me s (suc i) .parent) (suc i)) (makesTag (tagOf (me s (me s (suc i) .parent) .tag)) (tagOf (me s (suc i) .tag))) e in
           let l = ltb-true (me s (suc i) .parent) (suc i) (a .0) in
           record {
-            lower = l;
+            lower = omega arith;
             above = tagOf (me s (me s (suc i) .parent) .tag);
             own = tagOf (me s (suc i) .tag);
             parent-tag = sym (tag-code (me s (me s (suc i) .parent) .tag) (known (me s (suc i) .parent) (omega arith)));
@@ -117,7 +117,7 @@ module _ (pr : Program) (s : State) where
 
       back : HasParent s (suc i) → (ltb (me s (suc i) .parent) (suc i) && makesTag (tagOf (me s (me s (suc i) .parent) .tag)) (tagOf (me s (suc i) .tag))) ≡ true
       back p =
-          true-and (ltb (me s (suc i) .parent) (suc i)) (makesTag (tagOf (me s (me s (suc i) .parent) .tag)) (tagOf (me s (suc i) .tag))) (lt-ltb (me s (suc i) .parent) (suc i) (p .lower))
+          true-and (ltb (me s (suc i) .parent) (suc i)) (makesTag (tagOf (me s (me s (suc i) .parent) .tag)) (tagOf (me s (suc i) .tag))) (let h = p .lower in lt-ltb (me s (suc i) .parent) (suc i) (omega arith))
           (rw (code-tag (p .above) (me s (me s (suc i) .parent) .tag) (p .parent-tag), code-tag (p .own) (me s (suc i) .tag) (p .own-tag)) (makes-from (p .makes)))
 
   -- ---- results

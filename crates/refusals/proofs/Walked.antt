@@ -87,7 +87,7 @@ module _ (s : List ℕ) where
         let more = one-more 2 k q in
         let in-block = numbered s k g B (R .kind) q in
         let nine = at-most-nine s k g B (R .kind) q in
-        let eight : blockWith g (relationIn s k) (markIn s k) ≢ 9 = λ e. R .block (subst (λ x. InBlockAs s k x) e in-block) in
+        let eight : blockWith g (relationIn s k) (markIn s k) ≢ 9 = λ e. R .block (subst (λ x. InBlockAs s k x) (omega arith) in-block) in
         let order = R .names .clause q .order in
         record {
           relations = B .relations ∙ sym (no-more 1 k (λ x. omega arith));
