@@ -27,7 +27,7 @@ use Rattle.refusals.proofs.Before.{Before, block-right, few-right, kind
 use Rattle.refusals.proofs.Fields.{body-fits}
 use Rattle.refusals.proofs.Tests.{refuted, refutes}
 use Rattle.refusals.proofs.Walked.{before-next, body-not, cut-not, kind-not, Known-before, known-before, many-not, names-not, next-place, nothing-before}
-use Rattle.refusals.specs.Refused.{Comes, is-cut, ninth-of-block, no-goal, one-too-many, RefusedAt, too-long, wrong-body, wrong-kind, wrong-name}
+use Rattle.refusals.specs.Refused.{Comes, is-cut, ninth-of-block, no-goal, one-too-many, refused-image, RefusedAt, right-image, RightOrRefused, too-long, wrong-body, wrong-kind, wrong-name}
 use Rattle.refusals.specs.Right.{recordKind, RightImage, RightRecord}
 
 module _ (s : List ℕ) where
@@ -203,16 +203,12 @@ module _ (s : List ℕ) where
   refused-exactly = (λ e. rw e at told, load-refused)
 
   -- one of the two
-  pub data Either : Type 0 where
-    is-right : {r c : ℕ} → RightImage s r c → Either
-    is-refused : {n o : ℕ} → RefusedAt s n o → Either
-
-  pub either-one : Either
+  pub either-one : RightOrRefused s
   either-one = go (loadOf s) told
     where
-      go : (a : Loaded) → Told a → Either
-      go (Accepted r c) i = is-right i
-      go (Refused f) i = is-refused i
+      go : (a : Loaded) → Told a → RightOrRefused s
+      go (Accepted r c) i = right-image i
+      go (Refused f) i = refused-image i
 
   -- never both
   pub never-both : {r c n o : ℕ} → RightImage s r c → RefusedAt s n o → ⊥

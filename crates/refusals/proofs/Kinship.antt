@@ -21,7 +21,7 @@ use Rattle.parlog.specs.declared.Binding.the-variants.{Bound, Free}
 use Rattle.parlog.specs.declared.Process.{Process}
 use Rattle.parlog.specs.declared.Term.the-variants.{Const, Var}
 use Rattle.refusals.proofs.Tests.{and-too, at-most, Decides, either, equal, if-so, not-that}
-use Rattle.refusals.specs.Ruled.{a-call-tag, an-equality-tag, for-block, for-body, for-guard, for-search, for-stage, goal-sleeps, GoalProcess, GoalTag, HasParent, in-sequence, it-reports, LiteralTag, Makes, more-literals, MustTell, one-literal, only-stage, per-clause, per-literal, StageTag, to-guard, to-match}
+use Rattle.refusals.specs.Ruled.{a-call-tag, an-equality-tag, for-block, for-body, for-guard, for-search, for-stage, goal-sleeps, GoalProcess, GoalTag, HasParent, in-sequence, it-reports, LiteralTag, MakesTag, more-literals, MustTell, one-literal, only-stage, per-clause, per-literal, StageTag, to-guard, to-match}
 
 -- ---- which tags a tag makes
 
@@ -61,22 +61,22 @@ tag-goal : {t : Tag} → GoalTag t → isGoalTag t ≡ true
 tag-goal (only-stage {t} g) = or-left (isStageTag t) (isTag and-seq (tagCode t)) (tag-stage g)
 tag-goal in-sequence = refl
 
-makes-to : (a t : Tag) → makesTag a t ≡ true → Makes a t
+makes-to : (a t : Tag) → makesTag a t ≡ true → MakesTag a t
 makes-to and-par t e = per-literal (literal-tag t e)
 makes-to and-seq t e = for-stage (stage-tag t e)
 makes-to or-par t e =
-    ⊎-elim (λ q. subst (λ u. Makes or-par u) (sym (tag-same t seq-search q)) for-search) (λ q. for-body (goal-tag t q))
+    ⊎-elim (λ q. subst (λ u. MakesTag or-par u) (sym (tag-same t seq-search q)) for-search) (λ q. for-body (goal-tag t q))
     (or-true (isTag seq-search (tagCode t)) (isGoalTag t) e)
-makes-to seq-search t e = subst (λ u. Makes seq-search u) (sym (tag-same t or-search e)) for-block
-makes-to or-search t e = subst (λ u. Makes or-search u) (sym (tag-same t try-clause e)) per-clause
+makes-to seq-search t e = subst (λ u. MakesTag seq-search u) (sym (tag-same t or-search e)) for-block
+makes-to or-search t e = subst (λ u. MakesTag or-search u) (sym (tag-same t try-clause e)) per-clause
 makes-to try-clause t e =
-    ⊎-elim (λ q. subst (λ u. Makes try-clause u) (sym (tag-same t input-match q)) to-match) (λ q. subst (λ u. Makes try-clause u) (sym (tag-same t guard-eval q)) to-guard)
+    ⊎-elim (λ q. subst (λ u. MakesTag try-clause u) (sym (tag-same t input-match q)) to-match) (λ q. subst (λ u. MakesTag try-clause u) (sym (tag-same t guard-eval q)) to-guard)
     (or-true (isTag input-match (tagCode t)) (isTag guard-eval (tagCode t)) e)
 makes-to input-match t e = never e
 makes-to guard-eval t e = for-guard (goal-tag t e)
 makes-to equate t e = never e
 
-makes-from : {a t : Tag} → Makes a t → makesTag a t ≡ true
+makes-from : {a t : Tag} → MakesTag a t → makesTag a t ≡ true
 makes-from (per-literal l) = tag-literal l
 makes-from (for-stage g) = tag-stage g
 makes-from for-search = refl

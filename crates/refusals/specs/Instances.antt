@@ -119,7 +119,7 @@ unfolding opened emptyGoal times
 many = (refl, refl, refl, refl, refl, refl, refl, refl)
 
 -- Refusals 16, 17: one record with several faults: 2 before 3, 3 before 6, 6 before 4, 4 before 5, 5 before the ninth of a block; and the first record that has one
-pub order : RefusedWith (3 ∷ 0 ∷ 9 ∷ 0 ∷ []) 2 0
+pub testOrder : RefusedWith (3 ∷ 0 ∷ 9 ∷ 0 ∷ []) 2 0
     × RefusedWith (times 32 relationP ++ factP ++ relationP) 3 170
     × RefusedWith (times 32 relationP ++ relationWith (2 ∷ [])) 6 160
     × RefusedWith (relationP ++ sixtyFour ++ factOf 1 2 17) 6 645
@@ -127,7 +127,7 @@ pub order : RefusedWith (3 ∷ 0 ∷ 9 ∷ 0 ∷ []) 2 0
     × RefusedWith (relationP ++ times 8 factP ++ recordOf 2 (0 ∷ 1 ∷ 0 ∷ 0 ∷ 0 ∷ 0 ∷ 0 ∷ 0 ∷ [])) 5 85
     × RefusedWith (relationP ++ factOf 1 0 0 ++ relationWith (2 ∷ []) ++ (1 ∷ [])) 5 5
 unfolding opened times
-order = (refl, refl, refl, refl, refl, refl, refl)
+testOrder = (refl, refl, refl, refl, refl, refl, refl)
 
 -- Refusals 1, 15: LONG: one byte more than 32,768 is refused for that and for nothing else; at 32,768 the first record is looked at
 pub longs : RefusedWith (replicate 32769 0) 1 0 × RefusedWith (replicate 32768 0) 2 0

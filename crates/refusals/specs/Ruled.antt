@@ -10,7 +10,7 @@ use Rattle.parlog.specs.Codes.{and-par, and-seq, dormant, equate, guard-eval, i
 use Rattle.parlog.specs.Limits.{Limits}
 use Rattle.parlog.specs.Notions.{AtStage, HasMode, HasTag, Is, me, Reports, Works}
 use Rattle.parlog.specs.Program.{clauseAt, Goal, Literal, noLiteral, Program, tagOfGoal}
-use Rattle.parlog.specs.Tables.{bindingOf, cellSize, headSize, Lent, noted, numberAt, rowSize, sortAt, State, Tables, tablesIn, varCount}
+use Rattle.parlog.specs.Tables.{bindingOf, cellSize, headSize, Lent, noted, numberAt, rank, rowSize, sortAt, State, Tables, tablesIn, varCount}
 use Rattle.parlog.specs.declared.Binding.the-variants.{Bound}
 use Rattle.parlog.specs.declared.Process.{Process}
 use Rattle.parlog.specs.declared.Spot.{Spot}
@@ -54,25 +54,25 @@ pub data GoalTag : Tag → Type 0 where
   in-sequence : GoalTag and-seq
 
 -- Tables 3e: which tags the rules of a tag make
-pub data Makes : Tag → Tag → Type 0 where
-  per-literal : {t : Tag} → LiteralTag t → Makes and-par t
-  for-stage : {t : Tag} → StageTag t → Makes and-seq t
-  for-search : Makes or-par seq-search
-  for-body : {t : Tag} → GoalTag t → Makes or-par t
-  for-block : Makes seq-search or-search
-  per-clause : Makes or-search try-clause
-  to-match : Makes try-clause input-match
-  to-guard : Makes try-clause guard-eval
-  for-guard : {t : Tag} → GoalTag t → Makes guard-eval t
+pub data MakesTag : Tag → Tag → Type 0 where
+  per-literal : {t : Tag} → LiteralTag t → MakesTag and-par t
+  for-stage : {t : Tag} → StageTag t → MakesTag and-seq t
+  for-search : MakesTag or-par seq-search
+  for-body : {t : Tag} → GoalTag t → MakesTag or-par t
+  for-block : MakesTag seq-search or-search
+  per-clause : MakesTag or-search try-clause
+  to-match : MakesTag try-clause input-match
+  to-guard : MakesTag try-clause guard-eval
+  for-guard : {t : Tag} → GoalTag t → MakesTag guard-eval t
 
 -- Tables 3e: process i has a parent of a lower number, whose rules make its tag
 pub record HasParent (s : State) (i : ℕ) : Type 0 where
-  pub lower : me s i .parent < i
+  pub lower : rank (s .procs) (me s i .parent) < rank (s .procs) i
   pub above : Tag
   pub own : Tag
   pub parent-tag : HasTag s (me s i .parent) above
   pub own-tag : HasTag s i own
-  pub makes : Makes above own
+  pub makes : MakesTag above own
 
 -- ---- places
 
