@@ -4,7 +4,7 @@ use mathlib.Core.Path.{_∙_, _≡_, ap, refl, subst, sym}
 use mathlib.Core.Logic.{_⊎_, inl, inr}
 use mathlib.Core.Bool.{_&&_, _||_, false, not, true}
 use mathlib.Core.List.{List}
-use Prim.Native.Nat.{_<_, _≤_, ℕ}
+use Prim.Native.Nat.{_+_, _<_, _≤_, suc, ℕ}
 use lib.Dec.{eqb}
 use lib.ListN.{length}
 use borrow.Author.Tests.{eqb-false, eqb-true}
@@ -25,7 +25,7 @@ use Rattle.parlog.specs.Codes.{dormant, failure, isMode, isResult, none, report
 use Rattle.parlog.specs.Demands.{all-still, goal-ended, limit-used, no-more, once-more, Repeats, room-used, Stops}
 use Rattle.parlog.specs.Limits.{Limits}
 use Rattle.parlog.specs.Notions.{HasMode, me}
-use Rattle.parlog.specs.Numbers.{stepNumbers, word}
+use Rattle.parlog.specs.Numbers.{endNumber, stepNumbers, word}
 use Rattle.parlog.specs.Program.{Program, programOf}
 use Rattle.parlog.specs.Run.{goalEnded, goalResult, made, Running, runTables, stepped, Stepping, stepTables, turnFor, turnTables, turnTo, unmade}
 use Rattle.parlog.specs.Scan.{every, implies}
@@ -38,15 +38,16 @@ use Rattle.parlog.specs.declared.Found.the-variants.{At, Nothing}
 use Rattle.parlog.specs.declared.Move.{Move}
 use Rattle.parlog.specs.declared.Process.{Process}
 use Rattle.parlog.specs.declared.Stepped.the-variants.{Moved}
-use Rattle.promises.proofs.Demand1.{turn-as}
+use Rattle.promises.proofs.Demand1.{demand-1-turn, turn-as}
 use Rattle.promises.proofs.Demand2.{image-sane}
 use Rattle.promises.proofs.Entry.{let-full, let-ok, run-let}
-use Rattle.promises.proofs.Keeping.{Goes, goes-holds, goes-let, goes-run, goes-step, goes-twice, kept-run}
+use Rattle.promises.proofs.Keeping.{Goes, goes-holds, goes-let, goes-run, goes-step, goes-twice, kept-run, kept-turn}
+use Rattle.promises.proofs.Once.{once-turn}
 use Rattle.promises.proofs.Whose.{goes, is-full, is-still, too-high, Trial, trial, turn-moves, turn-none, turn-of}
 use Rattle.promises.proofs.Words.{ended-told, moved-told}
 use Rattle.promises.specs.Moves.{AllBytes, by-budget, by-failure, by-room, by-success, by-waiting, no-turn, one-turn, RunsExactly, StopsBy, Turns}
-use Rattle.promises.specs.Outcomes.{largeIn, RunMeets, TurnMeets}
-use Rattle.promises.specs.Refusals.{LacksRoom, LetIn, stateIn}
+use Rattle.promises.specs.Outcomes.{firstIn, largeIn, refusalIn, RunMeets, TurnMeets}
+use Rattle.promises.specs.Refusals.{LacksRoom, LetIn, no-room-in-turn, nobody, stateIn}
 use Rattle.run.proofs.Runs.{grown-same}
 
 -- ---- no fewer rows
@@ -196,3 +197,65 @@ put-same lim s l {r} {c} i b =
 pub demand-2-run : (lim : Limits) (s : List ℕ) (l : Lent) {r c : ℕ} → LetIn lim s l r c → AllBytes l → (limit w : ℕ) (l′ : Lent) → RunMeets lim s l limit w l′
     → RunsExactly lim s (programOf s r c) l limit w l′
 demand-2-run lim s l i b limit w l′ meets = run-turns lim s _ _ l i (put-same lim s l i b) meets
+
+-- ---- nothing else is a run
+
+module _ (lim : Limits) (s : List ℕ) {r c : ℕ} (limit : ℕ) where
+  module _ (l : Lent) (i : LetIn lim s l r c) where
+    -- one reason only
+    same-end : {n : ℕ} {e u : End} → StopsBy lim (programOf s r c) limit n l e → StopsBy lim (programOf s r c) limit n l u → e ≡ u
+    same-end (by-success g x) (by-success h y) = refl
+    same-end (by-success g x) (by-failure h y) = absurd (omega arith)
+    same-end (by-success g x) (by-waiting h y) = absurd (h g)
+    same-end (by-success g x) (by-budget h y m) = absurd (h g)
+    same-end (by-success g x) (by-room h y m k) = absurd (h g)
+    same-end (by-failure g x) (by-success h y) = absurd (omega arith)
+    same-end (by-failure g x) (by-failure h y) = refl
+    same-end (by-failure g x) (by-waiting h y) = absurd (h g)
+    same-end (by-failure g x) (by-budget h y m) = absurd (h g)
+    same-end (by-failure g x) (by-room h y m k) = absurd (h g)
+    same-end (by-waiting g x) (by-success h y) = absurd (g h)
+    same-end (by-waiting g x) (by-failure h y) = absurd (g h)
+    same-end (by-waiting g x) (by-waiting h y) = refl
+    same-end (by-waiting g x) (by-budget h y m) = absurd (x _ y)
+    same-end (by-waiting g x) (by-room h y m k) = absurd (x _ (turn-moves lim (programOf s r c) (tablesIn l) (let-ok lim s l i) y))
+    same-end (by-budget g x n) (by-success h y) = absurd (g h)
+    same-end (by-budget g x n) (by-failure h y) = absurd (g h)
+    same-end (by-budget g x n) (by-waiting h y) = absurd (y _ x)
+    same-end (by-budget g x n) (by-budget h y m) = refl
+    same-end (by-budget g x n) (by-room h y m k) = absurd (omega arith)
+    same-end (by-room g x n q) (by-success h y) = absurd (g h)
+    same-end (by-room g x n q) (by-failure h y) = absurd (g h)
+    same-end (by-room g x n q) (by-waiting h y) = absurd (y _ (turn-moves lim (programOf s r c) (tablesIn l) (let-ok lim s l i) x))
+    same-end (by-room g x n q) (by-budget h y m) = absurd (omega arith)
+    same-end (by-room g x n q) (by-room h y m k) = refl
+
+    -- no further turn, where there is one
+    no-further : {n w : ℕ} {e : End} {l′ : Lent} → StopsBy lim (programOf s r c) limit n l e → (HasMode (stateIn l) 0 dormant → ⊥) → TurnMeets lim s l w l′ → refusalIn w ≡ 0 → n < limit → ⊥
+    no-further (by-success g x) live meets z h = live g
+    no-further (by-failure g x) live meets z h = live g
+    no-further {w = w} {l′ = l′} (by-waiting g x) live meets z h = let k = demand-1-turn lim s l w l′ meets .by .given (nobody i x) .0 in omega arith
+    no-further (by-budget g x n) live meets z h = omega arith
+    no-further {w = w} {l′ = l′} (by-room g x n q) live meets z h = let k = demand-1-turn lim s l w l′ meets .by .given (no-room-in-turn i x q) .0 in omega arith
+
+  -- what is left of a run, n moves having been made
+  same-run : (n : ℕ) {j k : ℕ} {e u : End} {l l′ l″ : Lent} → LetIn lim s l r c → Turns lim s l j l′ → Turns lim s l k l″ → n + j ≤ limit → n + k ≤ limit
+      → StopsBy lim (programOf s r c) limit (n + j) l′ e → StopsBy lim (programOf s r c) limit (n + k) l″ u → (j ≡ k) × (e ≡ u) × (l′ ≡ l″)
+  same-run n {l = l} i no-turn no-turn h g x y = (refl, same-end l i x y, refl)
+  same-run n {l = l} i no-turn (one-turn live m z ts) h g x y = absurd (no-further l i x live m z (omega arith))
+  same-run n {l = l} i (one-turn live m z ts) no-turn h g x y = absurd (no-further l i y live m z (omega arith))
+  same-run n {e = e} {u = u} {l = l} {l′ = l′} {l″ = l″} i (one-turn {l′ = a} {w = v} {n = j} live m z ts) (one-turn {l′ = b} {n = k} live′ m′ z′ ts′) h g x y =
+      let o : b ≡ a = sym (once-turn lim s l m m′ .1) in
+      let x′ : StopsBy lim (programOf s r c) limit (suc n + j) l′ e = subst (λ (o : ℕ). StopsBy lim (programOf s r c) limit o l′ e) (omega arith) x in
+      let y′ : StopsBy lim (programOf s r c) limit (suc n + k) l″ u = subst (λ (o : ℕ). StopsBy lim (programOf s r c) limit o l″ u) (omega arith) y in
+      let (p, q, d) = same-run (suc n) {e = e} {u = u} (kept-turn lim s l i v a m) ts (rw o at ts′) (omega arith) (omega arith) x′ y′ in
+      (ap suc p, q, d)
+
+-- two runs from the same bytes with the same limit have one count, one end and the same bytes afterwards
+pub demand-2-run-only : (lim : Limits) (s : List ℕ) (l : Lent) {r c : ℕ} → LetIn lim s l r c → (limit : ℕ) {w v : ℕ} {l′ l″ : Lent}
+    → RunsExactly lim s (programOf s r c) l limit w l′ → RunsExactly lim s (programOf s r c) l limit v l″ → (largeIn w ≡ largeIn v) × (firstIn w ≡ firstIn v) × (l′ ≡ l″)
+demand-2-run-only lim s l {r} {c} i limit {w} {v} {l′} {l″} x y =
+    let a : StopsBy lim (programOf s r c) limit (0 + largeIn w) l′ (x .end) = subst (λ (n : ℕ). StopsBy lim (programOf s r c) limit n l′ (x .end)) (omega arith) (x .stops) in
+    let b : StopsBy lim (programOf s r c) limit (0 + largeIn v) l″ (y .end) = subst (λ (n : ℕ). StopsBy lim (programOf s r c) limit n l″ (y .end)) (omega arith) (y .stops) in
+    let (p, q, d) = same-run lim s limit 0 i (x .turns) (y .turns) (omega (arith, x .within)) (omega (arith, y .within)) a b in
+    (p, x .told ∙ ap endNumber q ∙ sym (y .told), d)
