@@ -34,7 +34,7 @@ use Rattle.promises.proofs.Keeping.{as-it-was, goes-holds, goes-let, go
 use Rattle.promises.proofs.RunTurns.{put-same, run-turns}
 use Rattle.promises.proofs.Whose.{can-move, move-can, turn-of}
 use Rattle.promises.proofs.Words.{moved-told, refused-told}
-use Rattle.promises.specs.Moves.{AllBytes, by-budget, by-failure, by-room, by-success, by-waiting, Moves, no-turn, one-turn, StopsBy, Turns}
+use Rattle.promises.specs.Moves.{AllBytes, by-budget, by-failure, by-room, by-success, by-waiting, GoalEnded, Moves, no-turn, one-turn, StopsBy, Turns}
 use Rattle.promises.specs.Outcomes.{firstIn, largeIn, refusalIn, RunMeets, SupplyMeets, TurnMeets}
 use Rattle.promises.specs.Reach.{a-run-call, a-supply-between, a-supply-call, a-turn-call, another-does, bound, calls-over, Came, Follow, for-room, is-dormant, it-moves, no-call, no-more-calls, run-is-turns, ServedBy, then-run, turnsThen}
 use Rattle.promises.specs.Refusals.{CanMove, LetIn, no-room-in-turn, nobody, stateIn, turn-away, TurnRefused}
@@ -159,7 +159,7 @@ demand-3a-kept lim s l {r} {c} i b p m f = bounded lim s r c p (record { enters 
 
 -- ---- deadlock
 
-stuck : (lim : Limits) (s : List ℕ) (r c : ℕ) (l : Lent) → Arrived lim s r c l → ((p : ℕ) → CanMove (programOf s r c) (stateIn l) p → ⊥) → (HasMode (stateIn l) 0 dormant → ⊥) → Deadlock (stateIn l)
+stuck : (lim : Limits) (s : List ℕ) (r c : ℕ) (l : Lent) → Arrived lim s r c l → ((p : ℕ) → CanMove (programOf s r c) (stateIn l) p → ⊥) → (GoalEnded l → ⊥) → Deadlock (stateIn l)
 stuck lim s r c l a n g =
     let ok = tables-state lim (programOf s r c) (tablesIn l) (let-ok lim s l (a .enters)) in
     deadlock lim (programOf s r c) (a .reached) (λ p h. not-so (canMove (programOf s r c) (stateIn l) p) (λ q. n p (can-move lim (programOf s r c) (stateIn l) ok p q))) g
@@ -189,11 +189,11 @@ module _ (lim : Limits) (usable : Usable lim) (s : List ℕ) (l : Lent) (came : 
       (λ m. w .0 (move-can lim (programOf s r c) (stateIn l) ok p m), λ b. can-move lim (programOf s r c) (stateIn l) ok p (w .1 b))
 
   -- demand 3, deadlock: when nothing can move and the goal has not ended
-  pub demand-3c : ((p : ℕ) → CanMove (programOf s r c) (stateIn l) p → ⊥) → (HasMode (stateIn l) 0 dormant → ⊥) → Deadlock (stateIn l)
+  pub demand-3c : ((p : ℕ) → CanMove (programOf s r c) (stateIn l) p → ⊥) → (GoalEnded l → ⊥) → Deadlock (stateIn l)
   demand-3c = stuck lim s r c l here
 
   -- once the goal has ended every process is dormant
-  pub demand-3-end : HasMode (stateIn l) 0 dormant → (p : ℕ) → p < procCount (l .head) → HasMode (stateIn l) p dormant
+  pub demand-3-end : GoalEnded l → (p : ℕ) → p < procCount (l .head) → HasMode (stateIn l) p dormant
   demand-3-end g p h = ended-all lim (programOf s r c) (here .reached) g p (rw (count-procs l) h)
 
   -- a run that answers waiting (3) leaves such a deadlock
@@ -210,7 +210,7 @@ module _ (lim : Limits) (usable : Usable lim) (s : List ℕ) (l : Lent) (came : 
       go a (by-room g k u q) v = absurd (omega arith)
 
   -- and so does a turn refused as STILL before the goal's end
-  pub demand-3c-turn : (w : ℕ) (l′ : Lent) → TurnMeets lim s l w l′ → refusalIn w ≡ 10 → (HasMode (stateIn l) 0 dormant → ⊥) → (l′ ≡ l) × Deadlock (stateIn l′)
+  pub demand-3c-turn : (w : ℕ) (l′ : Lent) → TurnMeets lim s l w l′ → refusalIn w ≡ 10 → (GoalEnded l → ⊥) → (l′ ≡ l) × Deadlock (stateIn l′)
   demand-3c-turn w l′ meets z g =
       let d = demand-1-turn lim s l w l′ meets in
       let q = d .kept (λ y. absurd (omega arith)) in

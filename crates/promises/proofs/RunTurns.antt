@@ -45,7 +45,7 @@ use Rattle.promises.proofs.Keeping.{Goes, goes-holds, goes-let, goes-ru
 use Rattle.promises.proofs.Once.{once-turn}
 use Rattle.promises.proofs.Whose.{goes, is-full, is-still, too-high, Trial, trial, turn-moves, turn-none, turn-of}
 use Rattle.promises.proofs.Words.{ended-told, moved-told}
-use Rattle.promises.specs.Moves.{AllBytes, by-budget, by-failure, by-room, by-success, by-waiting, no-turn, one-turn, RunsExactly, StopsBy, Turns}
+use Rattle.promises.specs.Moves.{AllBytes, by-budget, by-failure, by-room, by-success, by-waiting, GoalEnded, no-turn, one-turn, RunsExactly, StopsBy, Turns}
 use Rattle.promises.specs.Outcomes.{firstIn, largeIn, refusalIn, RunMeets, TurnMeets}
 use Rattle.promises.specs.Refusals.{LacksRoom, LetIn, no-room-in-turn, nobody, stateIn}
 use Rattle.run.proofs.Runs.{grown-same}
@@ -114,7 +114,7 @@ module _ (lim : Limits) (s : List ℕ) {r c : ℕ} (l : Lent) (i : LetIn lim s l
   full-by (is-full h q) e = q
   full-by (goes h x f) e = let z : _≡_ {A = ℕ} 0 1 = cc in absurd (omega arith)
 
-  by-end : (limit n : ℕ) → HasMode (stateIn l) 0 dormant → StopsBy lim (programOf s r c) limit n l (goalResult here)
+  by-end : (limit n : ℕ) → GoalEnded l → StopsBy lim (programOf s r c) limit n l (goalResult here)
   unfolding resultOf
   by-end limit n g = go (zero-tells lim (programOf s r c) (stateIn l) (tables-state lim (programOf s r c) here (let-ok lim s l i)) g)
     where
@@ -231,7 +231,7 @@ module _ (lim : Limits) (s : List ℕ) {r c : ℕ} (limit : ℕ) where
     same-end (by-room g x n q) (by-room h y m k) = refl
 
     -- no further turn, where there is one
-    no-further : {n w : ℕ} {e : End} {l′ : Lent} → StopsBy lim (programOf s r c) limit n l e → (HasMode (stateIn l) 0 dormant → ⊥) → TurnMeets lim s l w l′ → refusalIn w ≡ 0 → n < limit → ⊥
+    no-further : {n w : ℕ} {e : End} {l′ : Lent} → StopsBy lim (programOf s r c) limit n l e → (GoalEnded l → ⊥) → TurnMeets lim s l w l′ → refusalIn w ≡ 0 → n < limit → ⊥
     no-further (by-success g x) live meets z h = live g
     no-further (by-failure g x) live meets z h = live g
     no-further {w = w} {l′ = l′} (by-waiting g x) live meets z h = let k = demand-1-turn lim s l w l′ meets .by .given (nobody i x) .0 in omega arith

@@ -69,19 +69,23 @@ pub record AllBytes (l : Lent) : Type 0 where
   pub procs : Bytes (l .procs)
   pub vars : Bytes (l .vars)
 
+-- Tags 39: the goal has ended
+abbrev pub GoalEnded : Lent → Type 0
+GoalEnded l = HasMode (stateIn l) 0 dormant
+
 -- n turn calls one after the other, each of them made, none of them after the goal's end
 pub data Turns (lim : Limits) (s : List ℕ) : Lent → ℕ → Lent → Type 0 where
   no-turn : {l : Lent} → Turns lim s l 0 l
-  one-turn : {l l′ l″ : Lent} {w n : ℕ} → (HasMode (stateIn l) 0 dormant → ⊥) → TurnMeets lim s l w l′ → refusalIn w ≡ 0 → Turns lim s l′ n l″ → Turns lim s l (suc n) l″
+  one-turn : {l l′ l″ : Lent} {w n : ℕ} → (GoalEnded l → ⊥) → TurnMeets lim s l w l′ → refusalIn w ≡ 0 → Turns lim s l′ n l″ → Turns lim s l (suc n) l″
 
--- Turns 7: why a run with this step limit ends after n moves, in the bytes l: the goal has ended, nobody can move, the limit is used up, or
--- the one whose turn it is has no room
+-- Turns 7: why a run with this step limit ends after n moves, in the bytes l: the goal has ended, with its result; nobody can move; the limit is
+-- used up, though somebody can; or the one whose turn it is has no room
 pub data StopsBy (lim : Limits) (pr : Program) (limit n : ℕ) (l : Lent) : End → Type 0 where
-  by-success : HasMode (stateIn l) 0 dormant → me (stateIn l) 0 .result ≡ resultCode success → StopsBy lim pr limit n l Success
-  by-failure : HasMode (stateIn l) 0 dormant → me (stateIn l) 0 .result ≡ resultCode failure → StopsBy lim pr limit n l Failure
-  by-waiting : (HasMode (stateIn l) 0 dormant → ⊥) → ((p : ℕ) → CanMove pr (stateIn l) p → ⊥) → StopsBy lim pr limit n l Waiting
-  by-budget : {p : ℕ} → (HasMode (stateIn l) 0 dormant → ⊥) → CanMove pr (stateIn l) p → n ≡ limit → StopsBy lim pr limit n l Budget
-  by-room : {p : ℕ} → (HasMode (stateIn l) 0 dormant → ⊥) → Turn pr (tablesIn l) p → n < limit → LacksRoom lim pr (stateIn l) p → StopsBy lim pr limit n l Room
+  by-success : GoalEnded l → me (stateIn l) 0 .result ≡ resultCode success → StopsBy lim pr limit n l Success
+  by-failure : GoalEnded l → me (stateIn l) 0 .result ≡ resultCode failure → StopsBy lim pr limit n l Failure
+  by-waiting : (GoalEnded l → ⊥) → ((p : ℕ) → CanMove pr (stateIn l) p → ⊥) → StopsBy lim pr limit n l Waiting
+  by-budget : {p : ℕ} → (GoalEnded l → ⊥) → CanMove pr (stateIn l) p → n ≡ limit → StopsBy lim pr limit n l Budget
+  by-room : {p : ℕ} → (GoalEnded l → ⊥) → Turn pr (tablesIn l) p → n < limit → LacksRoom lim pr (stateIn l) p → StopsBy lim pr limit n l Room
 
 -- Turns 7, 8: a run is repeated moves: as many turn calls as its word counts come to the same bytes, and it ends there for the reason that its word has
 pub record RunsExactly (lim : Limits) (s : List ℕ) (pr : Program) (l : Lent) (limit w : ℕ) (l′ : Lent) : Type 0 where
