@@ -1,5 +1,5 @@
--- Demand 2: a step, by number or by turn, is exactly the move of the rules, and a run is repeated moves.
-use mathlib.Core.Path.{_∙_, _≡_, ap, refl}
+-- Demand 2: a step, by number or by turn, is exactly the move of the rules; a supply binds, a look tells, a start begins.
+use mathlib.Core.Path.{_∙_, _≡_, ap, refl, sym}
 use mathlib.Core.Logic.{inl, inr}
 use mathlib.Core.Bool.{true}
 use mathlib.Core.List.{List}
@@ -9,28 +9,27 @@ use native.Mathlib.Omega.{arith}
 use Rattle.load.proofs.Sanity.{accepted-sane}
 use Rattle.machine.proofs.Held.{count-procs, same-lent, started-good, started-read, tables-state}
 use Rattle.parlog.proofs.Exact.{at-most-one}
-use Rattle.parlog.proofs.Kept.{run-keeps, step-keeps, supply-keeps}
-use Rattle.parlog.proofs.Repeated.{runs, runs-only}
+use Rattle.parlog.proofs.Kept.{step-keeps, supply-keeps}
 use Rattle.parlog.proofs.Rows.{rows-length, written-past}
 use Rattle.parlog.proofs.Sane.{Sane}
 use Rattle.parlog.specs.Limits.{Limits, Usable}
 use Rattle.parlog.specs.Load.{loadOf, refusal}
 use Rattle.parlog.specs.Program.{Program, programOf}
 use Rattle.parlog.specs.Relation.{Fits, Rule}
-use Rattle.parlog.specs.Run.{made, Running, runTables, Stepping, stepTables, supplied, Supplying, supplyTables, unmade}
+use Rattle.parlog.specs.Run.{made, Stepping, stepTables, supplied, Supplying, supplyTables, unmade}
 use Rattle.parlog.specs.TableRules.{stateOk, tablesOk}
-use Rattle.parlog.specs.Tables.{bindingBytes, cellSize, Lent, procCount, processBytes, putTables, rowsBytes, rowSize, startedLent, State, Tables, tablesIn}
+use Rattle.parlog.specs.Tables.{bindingBytes, cellSize, freshTables, Lent, procCount, processBytes, putTables, rowsBytes, rowSize, startedLent, State, Tables, tablesIn}
 use Rattle.parlog.specs.declared.Loaded.the-variants.{Accepted}
 use Rattle.parlog.specs.declared.Move.{Move}
 use Rattle.promises.proofs.Demand1.{demand-1-start, is-begun, is-refused, Start, start-begun, starting-so, step-as, supply-as, turn-meets-step, turn-there, value-as}
-use Rattle.promises.proofs.Entry.{let-by, let-image, let-ok, put-holds, run-let}
-use Rattle.promises.proofs.Fours.{Fours, fours-in, fours-run, fours-step, fours-supply}
+use Rattle.promises.proofs.Entry.{let-by, let-image, let-ok, put-holds}
+use Rattle.promises.proofs.Fours.{Fours, fours-in, fours-step, fours-supply}
 use Rattle.promises.proofs.Giving.{is-constant, is-taken, look-is, look-sees, look-value, not-there, Offer, offer, too-large}
 use Rattle.promises.proofs.Loaded.{accepted-few}
 use Rattle.promises.proofs.Whose.{goes, is-full, is-still, too-high, Trial, trial}
-use Rattle.promises.proofs.Words.{ended-told, moved-told, refused-told, term-told}
-use Rattle.promises.specs.Moves.{afterStep, Holds, MovesExactly, Ran-to, RunsExactly, Sees, Shows, Supplies}
-use Rattle.promises.specs.Outcomes.{refusalIn, RunMeets, StartMeets, StepMeets, SupplyMeets, TurnMeets, ValueMeets}
+use Rattle.promises.proofs.Words.{moved-told, refused-told, term-told}
+use Rattle.promises.specs.Moves.{afterStep, Holds, MovesExactly, Sees, Shows, Supplies}
+use Rattle.promises.specs.Outcomes.{refusalIn, StartMeets, StepMeets, SupplyMeets, TurnMeets, ValueMeets}
 use Rattle.promises.specs.Reach.{Begins}
 use Rattle.promises.specs.Refusals.{CanMove, LacksRoom, LetIn, stateIn, Turn}
 use Rattle.rows.proofs.Laws.{row-length}
@@ -43,11 +42,11 @@ module _ (lim : Limits) (s : List ℕ) (l : Lent) {r c : ℕ} (i : LetIn lim s l
   kept : stateOk lim pr (stateIn l) ≡ true
   kept = tables-state lim pr (tablesIn l) (let-ok lim s l i)
 
-  pub image-sane : Sane pr
+  pub image-sane : Sane (programOf s r c)
   image-sane = accepted-sane s r c (let-image i)
 
   -- bytes that became those of t
-  pub holds-in : (t : Tables) (l′ : Lent) → Fours (t .state) → tablesOk lim pr t ≡ true → l′ ≡ putTables l t → Holds l t l′
+  pub holds-in : (t : Tables) (l′ : Lent) → Fours (t .state) → tablesOk lim (programOf s r c) t ≡ true → l′ ≡ putTables l t → Holds l t l′
   holds-in t l′ f ok e = rw e (put-holds lim s l i t f ok)
 
   -- ---- a step
@@ -106,37 +105,12 @@ module _ (lim : Limits) (s : List ℕ) (l : Lent) {r c : ℕ} (i : LetIn lim s l
         }
 
     -- demand 2: the step of p is exactly the move of the rules
-    pub demand-2-step : MovesExactly lim pr l p w l′
+    pub demand-2-step : MovesExactly lim (programOf s r c) l p w l′
     demand-2-step = by-trial (trial lim pr (tablesIn l) (let-ok lim s l i) p) refl
 
   -- demand 2: a turn is that of the process whose turn it is
-  pub demand-2-turn : (w : ℕ) (l′ : Lent) → TurnMeets lim s l w l′ → {p : ℕ} → Turn pr (tablesIn l) p → MovesExactly lim pr l p w l′
+  pub demand-2-turn : (w : ℕ) (l′ : Lent) → TurnMeets lim s l w l′ → {p : ℕ} → Turn (programOf s r c) (tablesIn l) p → MovesExactly lim (programOf s r c) l p w l′
   demand-2-turn w l′ meets {p} u = demand-2-step p w l′ (turn-meets-step lim s l w l′ meets i u) (turn-there lim s l i u)
-
-  -- ---- a run
-
-  module _ (limit w : ℕ) (l′ : Lent) (meets : RunMeets lim s l limit w l′) where
-    ran-so : Ran-to l (runTables limit lim pr (tablesIn l)) w l′
-    ran-so =
-        let x : Running = runTables limit lim pr (tablesIn l) in
-        let q = run-let lim s l i limit in
-        let a = ended-told w (x .end) (x .moves) (meets .contract .answer ∙ rw q) in
-        record {
-          accepted = a .0;
-          end = a .1;
-          count = a .2;
-          tables = holds-in (x .tables) l′ (fours-run lim pr (tablesIn l) (fours-in l) limit) (run-keeps lim pr image-sane limit (tablesIn l) (let-ok lim s l i))
-              (same-lent l′ (putTables l (x .tables)) (meets .contract .head ∙ rw q) (meets .contract .procs ∙ rw q) (meets .contract .vars ∙ rw q));
-        }
-
-    -- demand 2: a run is repeated moves, with their count, and stops where it must
-    pub demand-2-run : RunsExactly lim pr l limit w l′
-    demand-2-run = record {
-      run = runTables limit lim pr (tablesIn l);
-      runs = runs lim pr limit (tablesIn l);
-      ran = ran-so;
-      only = λ x y. let z = runs-only lim pr limit (tablesIn l) x y in rw z ran-so;
-    }
 
   -- ---- a supply and a look
 
@@ -163,7 +137,7 @@ module _ (lim : Limits) (s : List ℕ) (l : Lent) {r c : ℕ} (i : LetIn lim s l
 
   module _ (v w : ℕ) (meets : ValueMeets lim s l v w) where
     -- a look that is not refused tells the value of v
-    pub demand-2-value : v < pr .goalVars → Sees l v w
+    pub demand-2-value : v < programOf s r c .goalVars → Sees l v w
     demand-2-value h =
         let a = look-value lim pr (tablesIn l) (let-ok lim s l i) v in
         let q = value-as lim s l v i (look-sees lim pr (tablesIn l) (let-ok lim s l i) v h) in
@@ -173,7 +147,7 @@ module _ (lim : Limits) (s : List ℕ) (l : Lent) {r c : ℕ} (i : LetIn lim s l
 -- ---- a start
 
 module _ (s : List ℕ) {r c : ℕ} (e : loadOf s ≡ Accepted r c) where
-  goal-few : programOf s r c .goalVars ≤ 255
+  pub goal-few : programOf s r c .goalVars ≤ 255
   goal-few = omega (arith, accepted-few s e .2)
 
   pub started-let : (lim : Limits) → Usable lim → LetIn lim s (startedLent lim (programOf s r c)) r c
@@ -189,6 +163,16 @@ demand-2-start lim usable s l w l′ meets z = go (starting-so lim s l)
         let q = start-begun lim s l e h in
         let k : l′ ≡ startedLent lim (programOf s r c) = same-lent l′ (startedLent lim (programOf s r c)) (meets .contract .head ∙ rw q) (meets .contract .procs ∙ rw q) (meets .contract .vars ∙ rw q) in
         record { relations = r; clauses = c; image = e; read = rw k (started-read lim usable (programOf s r c) (goal-few s e)); bytes = k }
+
+-- the same, for the counts that a load of the image tells
+pub begun-at : (lim : Limits) → Usable lim → (s : List ℕ) (l : Lent) (w : ℕ) (l′ : Lent) → StartMeets lim s l w l′ → refusalIn w ≡ 0 → {r c : ℕ} → loadOf s ≡ Accepted r c
+    → (tablesIn l′ ≡ freshTables (programOf s r c)) × (l′ ≡ startedLent lim (programOf s r c))
+begun-at lim usable s l w l′ meets z {r} {c} e =
+    let b = demand-2-start lim usable s l w l′ meets z in
+    let q : Accepted (b .relations) (b .clauses) ≡ Accepted r c = sym (b .image) ∙ e in
+    let x : b .relations ≡ r = cc in
+    let y : b .clauses ≡ c = cc in
+    (rw (x, y) at (b .read), rw (x, y) at (b .bytes))
 
 -- ---- bytes past what a call writes
 

@@ -3,82 +3,172 @@
 use mathlib.Core.Path.{_∙_, _≡_, ap, refl, subst, sym}
 use mathlib.Core.Logic.{_↔_}
 use mathlib.Core.Bool.{true}
-use mathlib.Core.List.{[], _∷_, List}
-use Prim.Native.Nat.{_<_, ℕ}
+use mathlib.Core.List.{[], _++_, _∷_, List}
+use Prim.Native.Nat.{_<_, _≤_, suc, zero, ℕ}
+use lib.ListN.{replicate}
 use native.Mathlib.Omega.{arith}
-use Rattle.machine.proofs.Held.{count-procs, tables-state}
+use Rattle.machine.proofs.Held.{count-procs, same-lent, tables-state}
 use Rattle.parlog.proofs.Able.{wakes-exactly}
 use Rattle.parlog.proofs.Bools.{not-so}
-use Rattle.parlog.proofs.Fair.{served}
-use Rattle.parlog.proofs.Repeated.{deadlock-waiting, runs-only}
+use Rattle.parlog.proofs.Fair.{served-kept}
+use Rattle.parlog.proofs.Steps.{step-made, turn-made}
 use Rattle.parlog.proofs.Stuck.{deadlock, ended-all}
 use Rattle.parlog.specs.Codes.{dormant, suspended}
 use Rattle.parlog.specs.Demands.{a-supply, a-turn, aborted, another-moves, Deadlock, Event, events-over, has-no-room, is-not-supplied, is-supplied, moves-itself, Served}
 use Rattle.parlog.specs.Limits.{Limits, Usable}
-use Rattle.parlog.specs.Load.{loadOf}
+use Rattle.parlog.specs.Load.{loadOf, refusal}
 use Rattle.parlog.specs.Notions.{HasMode, NoteBound}
 use Rattle.parlog.specs.Numbers.{endNumber}
 use Rattle.parlog.specs.Program.{Program, programOf}
-use Rattle.parlog.specs.Run.{canMove, Running}
+use Rattle.parlog.specs.Run.{canMove, made, stepped, turnTables, unmade}
 use Rattle.parlog.specs.TableRules.{stateOk}
-use Rattle.parlog.specs.Tables.{Lent, markerLast, procCount, Tables, tablesIn}
+use Rattle.parlog.specs.Tables.{Lent, procCount, putTables, Tables, tablesIn}
 use Rattle.parlog.specs.declared.End.{End}
-use Rattle.parlog.specs.declared.End.the-variants.{Budget, Failure, Room, Success, Waiting}
 use Rattle.parlog.specs.declared.Loaded.the-variants.{Accepted}
-use Rattle.promises.proofs.Arrive.{arrive-supply, arrive-turn, Arrived, came-arrived, supply-holds, supply-stays, turn-holds, turn-stays}
-use Rattle.promises.proofs.Demand1.{demand-1-turn}
-use Rattle.promises.proofs.Demand2.{demand-2-run}
+use Rattle.parlog.specs.declared.Move.{Move}
+use Rattle.promises.proofs.Arrive.{arrive-later, Arrived, came-arrived}
+use Rattle.promises.proofs.Demand1.{demand-1-turn, supply-as, turn-as}
+use Rattle.promises.proofs.Demand2.{demand-2-turn}
 use Rattle.promises.proofs.Entry.{away-numbered, let-in-same, let-ok}
-use Rattle.promises.proofs.Whose.{can-move, move-can}
-use Rattle.promises.specs.Outcomes.{firstIn, refusalIn, RunMeets, SupplyMeets, TurnMeets}
-use Rattle.promises.specs.Reach.{a-supply-between, a-supply-call, a-turn-call, another-does, calls-over, Came, Follow, for-room, is-dormant, it-moves, no-more-calls, ServedBy}
+use Rattle.promises.proofs.Keeping.{as-it-was, goes-holds, goes-let, goes-step, goes-supply, goes-twice, is-written, Left, left-supply, left-turn}
+use Rattle.promises.proofs.RunTurns.{put-same, run-turns}
+use Rattle.promises.proofs.Whose.{can-move, move-can, turn-of}
+use Rattle.promises.proofs.Words.{moved-told, refused-told}
+use Rattle.promises.specs.Moves.{AllBytes, by-budget, by-failure, by-room, by-success, by-waiting, GoalEnded, Moves, no-turn, one-turn, StopsBy, Turns}
+use Rattle.promises.specs.Outcomes.{firstIn, largeIn, refusalIn, RunMeets, SupplyMeets, TurnMeets}
+use Rattle.promises.specs.Reach.{a-run-call, a-supply-between, a-supply-call, a-turn-call, another-does, bound, calls-over, Came, Follow, for-room, is-dormant, it-moves, no-call, no-more-calls, run-is-turns, ServedBy, then-run, turnsThen}
 use Rattle.promises.specs.Refusals.{CanMove, LetIn, no-room-in-turn, nobody, stateIn, turn-away, TurnRefused}
-
-last-in : (l : Lent) → tablesIn l .last ≡ markerLast (l .head)
-unfolding tablesIn
-last-in l = refl
 
 -- ---- the bound
 
+-- the events of calls: a turn, as many turns as a run counts, a supply
 unfoldable events : {lim : Limits} {s : List ℕ} {l : Lent} → Follow lim s l → List Event
 events no-more-calls = []
 events (a-turn-call e f) = a-turn ∷ events f
+events (a-run-call {w = w} e f) = replicate (largeIn w) a-turn ++ events f
 events (a-supply-call {v = v} {k = k} e f) = a-supply v k ∷ events f
 
 module _ (lim : Limits) (s : List ℕ) (r c p : ℕ) where
   abbrev pr : Program
   pr = programOf s r c
 
-  over-case : (l : Lent) {n : ℕ} → Served lim pr p n (tablesIn l) [] → ServedBy lim s p n l no-more-calls
-  over-case l (aborted d) = is-dormant d
-  over-case l events-over = calls-over
+  -- of bytes in which the calls begin
+  record Open (l : Lent) : Type 0 where
+    enters : LetIn lim s l r c
+    same : putTables l (tablesIn l) ≡ l
 
-  module _ (l l′ : Lent) (a : Arrived lim s l r c) (f : Follow lim s l′) (next : (n : ℕ) → Served lim pr p n (tablesIn l′) (events f) → ServedBy lim s p n l′ f) where
-    onward-from : (n : ℕ) (t : Tables) → tablesIn l′ ≡ t → Served lim pr p n t (events f) → ServedBy lim s p n l′ f
-    onward-from n t h v = next n (subst (λ (x : Tables). Served lim pr p n x (events f)) (sym h) v)
+  open-left : {l l′ : Lent} (a : Open l) → Left lim s l (a .enters) l′ → Open l′
+  open-left a as-it-was = a
+  open-left {l} a (is-written t g) = record { enters = goes-let lim s l (a .enters) t g; same = goes-twice lim s l (a .enters) t g }
 
-    turn-case : {w : ℕ} (e : TurnMeets lim s l w l′) {n : ℕ} → Served lim pr p n (tablesIn l) (a-turn ∷ events f) → ServedBy lim s p n l (a-turn-call e f)
-    turn-case {w} e (aborted d) = is-dormant d
-    turn-case {w} e (moves-itself {t′ = t} q z) =
-        let h = turn-holds lim s r c l a w l′ e q in
-        it-moves (h .1) (sym (last-in l′) ∙ ap (λ (x : Tables). x .last) (h .0 .read) ∙ z)
-    turn-case {w} e (another-moves {k = k} {t′ = t} q v) = let h = turn-holds lim s r c l a w l′ e q in another-does (h .1) (onward-from k t (h .0 .read) v)
-    turn-case {w} e {n} (has-no-room q v) = let h = turn-stays lim s r c l a w l′ e q (omega arith) in for-room (h .1) (onward-from n (tablesIn l) (ap tablesIn (h .0)) v)
+  module _ {l l′ : Lent} (a : Open l) where
+    open-turn : {w : ℕ} → TurnMeets lim s l w l′ → Open l′
+    open-turn e = open-left a (left-turn lim s l (a .enters) e)
 
-    supply-case : {v k w : ℕ} (e : SupplyMeets lim s l v k w l′) {n : ℕ} → Served lim pr p n (tablesIn l) (a-supply v k ∷ events f) → ServedBy lim s p n l (a-supply-call e f)
-    supply-case e (aborted d) = is-dormant d
-    supply-case {v} {k} {w} e {n} (is-supplied {t′ = t} q x) = let h = supply-holds lim s r c l a v k w l′ e q in a-supply-between (onward-from n t (h .read) x)
-    supply-case {v} {k} {w} e {n} (is-not-supplied q x) = let h = supply-stays lim s r c l a v k w l′ e q in a-supply-between (onward-from n (tablesIn l) (ap tablesIn h) x)
+    -- a turn that was made, and one that was refused
+    turn-reads : {w : ℕ} → TurnMeets lim s l w l′ → {m : Move} {t : Tables} → turnTables lim pr (tablesIn l) ≡ made m t → (tablesIn l′ ≡ t) × (refusalIn w ≡ 0)
+    turn-reads {w} e {m} {t} q =
+        let x = turn-as lim s l (a .enters) q in
+        let (k, y, z) = turn-made lim pr (tablesIn l) m t q in
+        let b : l′ ≡ putTables l t = same-lent l′ (putTables l t) (e .contract .head ∙ rw x) (e .contract .procs ∙ rw x) (e .contract .vars ∙ rw x) in
+        (ap tablesIn b ∙ goes-holds lim s l (a .enters) t (goes-step k z) .read, moved-told w m (e .contract .answer ∙ rw x) .accepted)
 
-  serve : {l : Lent} (f : Follow lim s l) → Arrived lim s l r c → (n : ℕ) → Served lim pr p n (tablesIn l) (events f) → ServedBy lim s p n l f
+    turn-stays : {w : ℕ} → TurnMeets lim s l w l′ → turnTables lim pr (tablesIn l) ≡ unmade 11 → (tablesIn l′ ≡ tablesIn l) × (refusalIn w ≡ 11)
+    turn-stays {w} e q =
+        let x = turn-as lim s l (a .enters) q in
+        let b : l′ ≡ l = same-lent l′ l (e .contract .head ∙ rw x) (e .contract .procs ∙ rw x) (e .contract .vars ∙ rw x) in
+        (ap tablesIn b, refused-told w (refusal 11 0) (omega arith) (e .contract .answer ∙ rw x) .0)
+
+    -- the process that the marker names has moved by a rule
+    turn-moved : {w : ℕ} → TurnMeets lim s l w l′ → {m : Move} {t : Tables} → turnTables lim pr (tablesIn l) ≡ made m t → t .last ≡ p → Moves lim pr l p w l′
+    unfolding stepped
+    turn-moved {w} e {m} {t} q z =
+        let (k, y, o) = turn-made lim pr (tablesIn l) m t q in
+        let h : k ≡ p = sym (ap (λ (x : Tables). x .last) (step-made lim pr (tablesIn l) k m t o .after)) ∙ z in
+        let u = turn-of lim pr (tablesIn l) (let-ok lim s l (a .enters)) k y in
+        rw (← h) (demand-2-turn lim s l (a .enters) w l′ e u .only (turn-reads e q .1))
+
+    module _ (f : Follow lim s l′) (next : (n : ℕ) → Served lim pr p n (tablesIn l′) (events f) → ServedBy lim s pr p n l′ f) where
+      onward : {n : ℕ} {t : Tables} → tablesIn l′ ≡ t → Served lim pr p n t (events f) → ServedBy lim s pr p n l′ f
+      onward {n} h v = next n (subst (λ (x : Tables). Served lim pr p n x (events f)) (sym h) v)
+
+      turn-case : {w : ℕ} (e : TurnMeets lim s l w l′) {n : ℕ} → Served lim pr p n (tablesIn l) (a-turn ∷ events f) → ServedBy lim s pr p n l (a-turn-call e f)
+      turn-case e (aborted d) = is-dormant d
+      turn-case e (moves-itself q z) = it-moves (turn-moved e q z)
+      turn-case e (another-moves q v) = let h = turn-reads e q in another-does (h .1) (onward (h .0) v)
+      turn-case e (has-no-room q v) = let h = turn-stays e q in for-room (h .1) (onward (h .0) v)
+
+      supply-case : {v k w : ℕ} (e : SupplyMeets lim s l v k w l′) {n : ℕ} → Served lim pr p n (tablesIn l) (a-supply v k ∷ events f) → ServedBy lim s pr p n l (a-supply-call e f)
+      supply-case e (aborted d) = is-dormant d
+      supply-case {v} {k} e (is-supplied {t′ = t} q x) =
+          let y = supply-as lim s l v k (a .enters) q in
+          let b : l′ ≡ putTables l t = same-lent l′ (putTables l t) (e .contract .head ∙ rw y) (e .contract .procs ∙ rw y) (e .contract .vars ∙ rw y) in
+          a-supply-between (onward (ap tablesIn b ∙ goes-holds lim s l (a .enters) t (goes-supply v k q) .read) x)
+      supply-case {v} {k} e (is-not-supplied q x) =
+          let y = supply-as lim s l v k (a .enters) q in
+          let b : l′ ≡ l = same-lent l′ l (e .contract .head ∙ rw y) (e .contract .procs ∙ rw y) (e .contract .vars ∙ rw y) in
+          a-supply-between (onward (ap tablesIn b) x)
+
+  over-case : {l : Lent} {n : ℕ} → Served lim pr p n (tablesIn l) [] → ServedBy lim s pr p n l no-more-calls
+  over-case (aborted d) = is-dormant d
+  over-case events-over = calls-over
+
+  -- the events of turn calls with others behind them
+  turns-events : {l l′ : Lent} {k : ℕ} (ts : Turns lim s l k l′) (f : Follow lim s l′) → events (turnsThen ts f) ≡ replicate k a-turn ++ events f
+  unfolding events turnsThen
+  turns-events no-turn f = refl
+  turns-events (one-turn live e z ts) f = ap (λ (x : List Event). a-turn ∷ x) (turns-events ts f)
+
+  serve-turns : {l l′ : Lent} {k : ℕ} (ts : Turns lim s l k l′) (f : Follow lim s l′) → Open l → (Open l′ → (n : ℕ) → Served lim pr p n (tablesIn l′) (events f) → ServedBy lim s pr p n l′ f)
+      → (n : ℕ) → Served lim pr p n (tablesIn l) (events (turnsThen ts f)) → ServedBy lim s pr p n l (turnsThen ts f)
+  unfolding events turnsThen
+  serve-turns no-turn f a next n x = next a n x
+  serve-turns (one-turn live e z ts) f a next n x = turn-case a (turnsThen ts f) (serve-turns ts f (open-turn a e) next) e x
+
+  serve : {l : Lent} (f : Follow lim s l) → Open l → (n : ℕ) → Served lim pr p n (tablesIn l) (events f) → ServedBy lim s pr p n l f
   unfolding events
-  serve {l} no-more-calls a n x = over-case l x
-  serve {l} (a-turn-call {l′ = l′} {w = w} e f) a n x = turn-case l l′ a f (serve f (arrive-turn lim s r c l a w l′ e)) e x
-  serve {l} (a-supply-call {l′ = l′} {v = v} {k = k} {w = w} e f) a n x = supply-case l l′ a f (serve f (arrive-supply lim s r c l a v k w l′ e)) e x
+  serve no-more-calls a n x = over-case x
+  serve (a-turn-call e f) a n x = turn-case a f (serve f (open-turn a e)) e x
+  serve {l} (a-run-call e f) a n x =
+      let ts = run-turns lim s r c l (a .enters) (a .same) e .turns in
+      run-is-turns ts (serve-turns ts f a (serve f) n (subst (λ (es : List Event). Served lim pr p n (tablesIn l) es) (sym (turns-events ts f)) x))
+  serve {l} (a-supply-call e f) a n x = supply-case a f (serve f (open-left a (left-supply lim s l (a .enters) e))) e x
+
+  -- who is served within n steps is served within more
+  within-more : {l : Lent} {f : Follow lim s l} {n : ℕ} (k : ℕ) → ServedBy lim s pr p n l f → n ≤ k → ServedBy lim s pr p k l f
+  within-more k (is-dormant d) h = is-dormant d
+  within-more zero (it-moves m) h = absurd (omega arith)
+  within-more (suc k) (it-moves m) h = it-moves m
+  within-more zero (another-does z x) h = absurd (omega arith)
+  within-more (suc k) (another-does z x) h = another-does z (within-more k x (omega arith))
+  within-more k (for-room z x) h = for-room z (within-more k x h)
+  within-more k (run-is-turns ts x) h = run-is-turns ts (within-more k x h)
+  within-more k (a-supply-between x) h = a-supply-between (within-more k x h)
+  within-more zero calls-over h = absurd (omega arith)
+  within-more (suc k) calls-over h = calls-over
+
+  bounded : {l : Lent} → Open l → CanMove pr (stateIn l) p → (f : Follow lim s l) → ServedBy lim s pr p (bound lim) l f
+  bounded {l} a m f =
+      let ok = let-ok lim s l (a .enters) in
+      within-more (bound lim) (serve f a (lim .procs) (served-kept lim pr (tablesIn l) ok p (move-can lim pr (stateIn l) (tables-state lim pr (tablesIn l) ok) p m) (events f))) (omega arith)
+
+-- demand 3, the bound, for all bytes that keep the table rules
+pub demand-3a-kept : (lim : Limits) (s : List ℕ) (l : Lent) {r c : ℕ} → LetIn lim s l r c → AllBytes l → (p : ℕ) → CanMove (programOf s r c) (stateIn l) p → (f : Follow lim s l)
+    → ServedBy lim s (programOf s r c) p (bound lim) l f
+demand-3a-kept lim s l {r} {c} i b p m f = bounded lim s r c p (record { enters = i; same = put-same lim s l i b }) m f
+
+-- ---- deadlock
+
+stuck : (lim : Limits) (s : List ℕ) (r c : ℕ) (l : Lent) → Arrived lim s r c l → ((p : ℕ) → CanMove (programOf s r c) (stateIn l) p → ⊥) → (GoalEnded l → ⊥) → Deadlock (stateIn l)
+stuck lim s r c l a n g =
+    let ok = tables-state lim (programOf s r c) (tablesIn l) (let-ok lim s l (a .enters)) in
+    deadlock lim (programOf s r c) (a .reached) (λ p h. not-so (canMove (programOf s r c) (stateIn l) p) (λ q. n p (can-move lim (programOf s r c) (stateIn l) ok p q))) g
+
+-- ---- from bytes that came
 
 module _ (lim : Limits) (usable : Usable lim) (s : List ℕ) (l : Lent) (came : Came lim s l) {r c : ℕ} (e : loadOf s ≡ Accepted r c) where
-  here : Arrived lim s l r c
-  here = came-arrived lim usable s r c e came
+  here : Arrived lim s r c l
+  here = came-arrived lim s r c usable e came
 
   ok : stateOk lim (programOf s r c) (stateIn l) ≡ true
   ok = tables-state lim (programOf s r c) (tablesIn l) (let-ok lim s l (here .enters))
@@ -87,9 +177,10 @@ module _ (lim : Limits) (usable : Usable lim) (s : List ℕ) (l : Lent) (came : 
   pub demand-3-kept : LetIn lim s l r c
   demand-3-kept = here .enters
 
-  -- demand 3, the bound: a process that can move has moved within as many of the next turn steps made as there may be processes, or is dormant first, whatever is supplied between
-  pub demand-3a : (p : ℕ) → CanMove (programOf s r c) (stateIn l) p → (f : Follow lim s l) → ServedBy lim s p (lim .procs) l f
-  demand-3a p m f = serve lim s r c p f here (lim .procs) (served lim (programOf s r c) (usable .goal) (here .reached) p (move-can lim (programOf s r c) (stateIn l) ok p m) (events f))
+  -- demand 3, the bound: a process that can move has moved within as many of the next steps made, by turns and runs, as there may be processes, or is dormant first,
+  -- whatever is supplied between
+  pub demand-3a : (p : ℕ) → CanMove (programOf s r c) (stateIn l) p → (f : Follow lim s l) → ServedBy lim s (programOf s r c) p (bound lim) l f
+  demand-3a p m f = bounded lim s r c p (record { enters = here .enters; same = here .same }) m f
 
   -- demand 3, suspension: a suspended process can move exactly when one of the variables that it noted is bound
   pub demand-3b : (p : ℕ) → HasMode (stateIn l) p suspended → CanMove (programOf s r c) (stateIn l) p ↔ NoteBound (stateIn l) p
@@ -98,32 +189,28 @@ module _ (lim : Limits) (usable : Usable lim) (s : List ℕ) (l : Lent) (came : 
       (λ m. w .0 (move-can lim (programOf s r c) (stateIn l) ok p m), λ b. can-move lim (programOf s r c) (stateIn l) ok p (w .1 b))
 
   -- demand 3, deadlock: when nothing can move and the goal has not ended
-  pub demand-3c : ((p : ℕ) → CanMove (programOf s r c) (stateIn l) p → ⊥) → (HasMode (stateIn l) 0 dormant → ⊥) → Deadlock (stateIn l)
-  demand-3c n g = deadlock lim (programOf s r c) (here .reached)
-      (λ p h. not-so (canMove (programOf s r c) (stateIn l) p) (λ q. n p (can-move lim (programOf s r c) (stateIn l) ok p q))) g
+  pub demand-3c : ((p : ℕ) → CanMove (programOf s r c) (stateIn l) p → ⊥) → (GoalEnded l → ⊥) → Deadlock (stateIn l)
+  demand-3c = stuck lim s r c l here
 
   -- once the goal has ended every process is dormant
-  pub demand-3-end : HasMode (stateIn l) 0 dormant → (p : ℕ) → p < procCount (l .head) → HasMode (stateIn l) p dormant
+  pub demand-3-end : GoalEnded l → (p : ℕ) → p < procCount (l .head) → HasMode (stateIn l) p dormant
   demand-3-end g p h = ended-all lim (programOf s r c) (here .reached) g p (rw (count-procs l) h)
 
   -- a run that answers waiting (3) leaves such a deadlock
   pub demand-3c-run : (limit w : ℕ) (l′ : Lent) → RunMeets lim s l limit w l′ → firstIn w ≡ 3 → Deadlock (stateIn l′)
   demand-3c-run limit w l′ meets z =
-      let x = demand-2-run lim s l (here .enters) limit w l′ meets in
-      let q = waits (x .run .end) (sym (x .ran .end) ∙ z) in
-      let u = runs-only lim (programOf s r c) limit (tablesIn l) (x .run) (x .runs) in
-      let d = deadlock-waiting lim (programOf s r c) limit (here .reached) (rw u at q) in
-      subst (λ (y : Tables). Deadlock (y .state)) (sym (x .ran .tables .read ∙ ap (λ (y : Running). y .tables) u)) d
+      let x = run-turns lim s r c l (here .enters) (here .same) meets in
+      go (arrive-later lim s r c here (then-run limit no-call meets)) (x .stops) (sym (x .told) ∙ z)
     where
-      waits : (y : End) → endNumber y ≡ 3 → y ≡ Waiting
-      waits Success v = absurd (omega arith)
-      waits Failure v = absurd (omega arith)
-      waits Waiting v = refl
-      waits Room v = absurd (omega arith)
-      waits Budget v = absurd (omega arith)
+      go : {n : ℕ} {y : End} → Arrived lim s r c l′ → StopsBy lim (programOf s r c) limit n l′ y → endNumber y ≡ 3 → Deadlock (stateIn l′)
+      go a (by-success g k) v = absurd (omega arith)
+      go a (by-failure g k) v = absurd (omega arith)
+      go a (by-waiting g k) v = stuck lim s r c l′ a k g
+      go a (by-budget g k u) v = absurd (omega arith)
+      go a (by-room g k u q) v = absurd (omega arith)
 
   -- and so does a turn refused as STILL before the goal's end
-  pub demand-3c-turn : (w : ℕ) (l′ : Lent) → TurnMeets lim s l w l′ → refusalIn w ≡ 10 → (HasMode (stateIn l) 0 dormant → ⊥) → (l′ ≡ l) × Deadlock (stateIn l′)
+  pub demand-3c-turn : (w : ℕ) (l′ : Lent) → TurnMeets lim s l w l′ → refusalIn w ≡ 10 → (GoalEnded l → ⊥) → (l′ ≡ l) × Deadlock (stateIn l′)
   demand-3c-turn w l′ meets z g =
       let d = demand-1-turn lim s l w l′ meets in
       let q = d .kept (λ y. absurd (omega arith)) in

@@ -20,6 +20,6 @@ small-start s l w l′ meets z = demand-2-start small small-usable s l w l′ me
 
 -- a process that can move has moved within the next 512 turn steps made, or is dormant first
 pub small-bound : (s : List ℕ) (l : Lent) → Came small s l → {r c : ℕ} → loadOf s ≡ Accepted r c → (p : ℕ) → CanMove (programOf s r c) (stateIn l) p
-    → (f : Follow small s l) → ServedBy small s p 512 l f
+    → (f : Follow small s l) → ServedBy small s (programOf s r c) p 512 l f
 unfolding small
 small-bound s l came e p m f = demand-3a small small-usable s l came e p m f

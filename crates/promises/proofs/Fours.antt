@@ -9,7 +9,6 @@ use borrow.Author.Tests.{ltb-false, ltb-true}
 use native.Mathlib.Omega.{arith}
 use Rattle.parlog.proofs.Bools.{split}
 use Rattle.parlog.proofs.Effects.{apply-new, apply-row}
-use Rattle.parlog.proofs.Repeated.{runs}
 use Rattle.parlog.proofs.Steps.{step-made, turn-made}
 use Rattle.parlog.specs.Codes.{and-par, and-seq, dormant, equate, failure, guard-eval, input-match, Mode, modeOf, or-par, or-search, ready, reporting, Result, seq-search, starting, success, suspended, Tag, try-clause, waiting}
 use Rattle.parlog.specs.Delta.{apply, asleep, Delta, fourOf, isAt, literalSpot, making, only, report, reporting-with, rowAfter, trySpot, withMode, withNotes, withResult, withSpot, woken}
@@ -17,7 +16,7 @@ use Rattle.parlog.specs.Demands.{no-more, once-more, Repeats}
 use Rattle.parlog.specs.Limits.{Limits}
 use Rattle.parlog.specs.Program.{Goal, Program, stageAt, varsOf}
 use Rattle.parlog.specs.Rules.{andParStart, andParWait, andSeqStart, andSeqWait, Applied, bodyChild, by-rule, equateStart, guardEvalStart, guardEvalWait, inputMatchStart, member, members, no-rule, orParHeard, orParStart, orParWait, orSearchStart, orSearchWait, ruleIn, ruleOf, searching, seqSearchNext, seqSearchStart, seqSearchWait, startRule, stopRule, tries, tryClauseStart, tryClauseWait, waitRule, wakeRule, withFound}
-use Rattle.parlog.specs.Run.{made, runTables, stepped, stepTables, supplied, turnTables}
+use Rattle.parlog.specs.Run.{made, stepped, stepTables, supplied}
 use Rattle.parlog.specs.Scan.{build}
 use Rattle.parlog.specs.Tables.{at, Lent, newProcess, procCount, State, Tables, tablesIn}
 use Rattle.parlog.specs.Tree.{bad, below, good, Heard, silent}
@@ -280,15 +279,9 @@ fours-step lim pr t f p m t′ e =
     let a = step-made lim pr t p m t′ e in
     rw (a .after) (fours-apply (t .state) p (a .delta) f (four-rule pr (t .state) f p m (a .delta) (a .rule)))
 
-pub fours-turn : (lim : Limits) (pr : Program) (t : Tables) → Fours (t .state) → (m : Move) (t′ : Tables) → turnTables lim pr t ≡ made m t′ → Fours (t′ .state)
-fours-turn lim pr t f m t′ e = let (p, q, z) = turn-made lim pr t m t′ e in fours-step lim pr t f p m t′ z
-
-fours-repeats : (lim : Limits) (pr : Program) {t t′ : Tables} {n : ℕ} → Fours (t .state) → Repeats lim pr t n t′ → Fours (t′ .state)
+pub fours-repeats : (lim : Limits) (pr : Program) {t t′ : Tables} {n : ℕ} → Fours (t .state) → Repeats lim pr t n t′ → Fours (t′ .state)
 fours-repeats lim pr f no-more = f
-fours-repeats lim pr {t} f (once-more {t′ = u} {m = m} g e r) = fours-repeats lim pr (fours-turn lim pr t f m u e) r
-
-pub fours-run : (lim : Limits) (pr : Program) (t : Tables) → Fours (t .state) → (limit : ℕ) → Fours (runTables limit lim pr t .tables .state)
-fours-run lim pr t f limit = fours-repeats lim pr f (runs lim pr limit t .moves)
+fours-repeats lim pr {t} f (once-more {t′ = u} {m = m} g e r) = let (p, q, z) = turn-made lim pr t m u e in fours-repeats lim pr (fours-step lim pr t f p m u z) r
 
 pub fours-supply : (t t′ : Tables) → Fours (t .state) → (w c : ℕ) → t′ ≡ supplied t w c → Fours (t′ .state)
 unfolding supplied

@@ -1,81 +1,153 @@
--- Every step, turn, run and supply keeps the table rules: what was let in is let in afterwards, whatever the outcome.
-use mathlib.Core.Path.{_∙_, _≡_, refl, sym}
+-- What every step, turn, run and supply leaves: the bytes as they were, or tables that its moves or its supply lead to, written over them.
+-- So what was let in is let in afterwards, whatever the outcome.
+use mathlib.Core.Path.{_∙_, _≡_, refl}
 use mathlib.Core.Bool.{true}
 use mathlib.Core.List.{List}
 use Prim.Native.Nat.{ℕ}
-use Rattle.machine.proofs.Held.{same-lent}
-use Rattle.parlog.proofs.Kept.{run-keeps, step-keeps, supply-keeps, turn-keeps}
+use native.Mathlib.Omega.{arith}
+use Rattle.machine.proofs.Held.{cells-fit, put-over, rows-fit, same-lent}
+use Rattle.parlog.proofs.Kept.{run-keeps, step-keeps, supply-keeps}
+use Rattle.parlog.proofs.Repeated.{runs}
+use Rattle.parlog.proofs.Sane.{Sane}
 use Rattle.parlog.proofs.Stable.{supply-grows}
-use Rattle.parlog.proofs.Steps.{steady-kept}
+use Rattle.parlog.proofs.Steps.{steady-kept, turn-made}
 use Rattle.parlog.specs.Calls.{stepAnswer, supplyAnswer}
 use Rattle.parlog.specs.Limits.{Limits, Usable}
 use Rattle.parlog.specs.Load.{loadOf}
 use Rattle.parlog.specs.Program.{Program, programOf}
 use Rattle.parlog.specs.Run.{given, made, runTables, Stepping, stepTables, Supplying, supplyTables, turnTables, ungiven, unmade}
 use Rattle.parlog.specs.TableRules.{tablesOk}
-use Rattle.parlog.specs.Tables.{Lent, putTables, startedLent, Tables, tablesIn}
+use Rattle.parlog.specs.Tables.{Lent, putTables, Tables, tablesIn}
 use Rattle.parlog.specs.declared.Loaded.the-variants.{Accepted}
 use Rattle.parlog.specs.declared.Move.{Move}
-use Rattle.promises.proofs.Demand1.{supply-as}
-use Rattle.promises.proofs.Demand2.{demand-2-start, image-sane, started-let}
-use Rattle.promises.proofs.Entry.{let-ok, put-let, run-let, step-let, turn-let}
-use Rattle.promises.proofs.Fours.{Fours, fours-in, fours-run, fours-step, fours-supply, fours-turn}
+use Rattle.promises.proofs.Demand2.{begun-at, image-sane, started-let}
+use Rattle.promises.proofs.Entry.{let-full, let-ok, put-holds, put-let, run-let, step-let, supply-let, turn-let}
+use Rattle.promises.proofs.Fours.{Fours, fours-in, fours-repeats, fours-step, fours-supply}
+use Rattle.promises.specs.Moves.{Holds}
 use Rattle.promises.specs.Outcomes.{refusalIn, RunMeets, StartMeets, StepMeets, SupplyMeets, TurnMeets}
+use Rattle.promises.specs.Reach.{Later, no-call, then-run, then-step, then-supply, then-turn}
 use Rattle.promises.specs.Refusals.{LetIn}
+
+-- ---- from tables to tables
+
+-- what a call that was let in makes of tables: a step, the moves of a run, or a supply
+pub data Goes (lim : Limits) (pr : Program) (t : Tables) : Tables → Type 0 where
+  goes-step : {u : Tables} {m : Move} (p : ℕ) → stepTables lim pr t p ≡ made m u → Goes lim pr t u
+  goes-run : (limit : ℕ) → Goes lim pr t (runTables limit lim pr t .tables)
+  goes-supply : {u : Tables} {x : ℕ} (v k : ℕ) → supplyTables pr t v k ≡ given x u → Goes lim pr t u
+
+module _ (lim : Limits) (pr : Program) where
+  ok-goes : Sane pr → {t u : Tables} → Goes lim pr t u → tablesOk lim pr t ≡ true → tablesOk lim pr u ≡ true
+  ok-goes sane {t} {u} (goes-step {m = m} p e) ok = step-keeps lim pr sane t u p m ok e
+  ok-goes sane {t} (goes-run limit) ok = run-keeps lim pr sane limit t ok
+  ok-goes sane {t} {u} (goes-supply {x = x} v k e) ok = supply-keeps lim pr t u v k x ok e
+
+  fours-goes : {t u : Tables} → Goes lim pr t u → tablesOk lim pr t ≡ true → Fours (t .state) → Fours (u .state)
+  fours-goes {t} {u} (goes-step {m = m} p e) ok f = fours-step lim pr t f p m u e
+  fours-goes {t} (goes-run limit) ok f = fours-repeats lim pr f (runs lim pr limit t .moves)
+  fours-goes {t} {u} (goes-supply {x = x} v k e) ok f =
+      let g = supply-grows pr t u (steady-kept lim pr t ok .0 .falls) v k x e in
+      fours-supply t u f x k (g .0)
+
+-- ---- from bytes to bytes
 
 module _ (lim : Limits) (s : List ℕ) (l : Lent) {r c : ℕ} (i : LetIn lim s l r c) where
   abbrev pr : Program
   pr = programOf s r c
 
-  same-in : (l′ : Lent) → l′ ≡ l → LetIn lim s l′ r c
-  same-in l′ e = rw e i
+  -- the bytes that an outcome leaves
+  pub data Left : Lent → Type 0 where
+    as-it-was : Left l
+    is-written : (t : Tables) → Goes lim pr (tablesIn l) t → Left (putTables l t)
 
-  held-in : (l′ : Lent) (t : Tables) → Fours (t .state) → tablesOk lim pr t ≡ true → l′ ≡ putTables l t → LetIn lim s l′ r c
-  held-in l′ t f ok e = rw e (put-let lim s l i t f ok)
+  step-gone : (p : ℕ) (x : Stepping) → stepTables lim pr (tablesIn l) p ≡ x → Left (stepAnswer x l .lent)
+  step-gone p (unmade k) e = as-it-was
+  step-gone p (made m t) e = is-written t (goes-step p e)
 
-  stepped-in : (l′ : Lent) (x : Stepping) → ((m : Move) (t : Tables) → x ≡ made m t → Fours (t .state) × (tablesOk lim pr t ≡ true)) → l′ ≡ stepAnswer x l .lent → LetIn lim s l′ r c
-  stepped-in l′ (unmade k) h e = same-in l′ e
-  stepped-in l′ (made m t) h e = let g = h m t refl in held-in l′ t (g .0) (g .1) e
+  turn-gone : (x : Stepping) → turnTables lim pr (tablesIn l) ≡ x → Left (stepAnswer x l .lent)
+  turn-gone (unmade k) e = as-it-was
+  turn-gone (made m t) e = let (p, q, z) = turn-made lim pr (tablesIn l) m t e in is-written t (goes-step p z)
 
-  pub kept-step : (p w : ℕ) (l′ : Lent) → StepMeets lim s l p w l′ → LetIn lim s l′ r c
-  kept-step p w l′ meets =
+  supply-gone : (v k : ℕ) (x : Supplying) → supplyTables pr (tablesIn l) v k ≡ x → Left (supplyAnswer x l .lent)
+  supply-gone v k (ungiven n) e = as-it-was
+  supply-gone v k (given u t) e = is-written t (goes-supply v k e)
+
+  pub left-step : {p w : ℕ} {l′ : Lent} → StepMeets lim s l p w l′ → Left l′
+  left-step {p} {l′ = l′} meets =
       let q = step-let lim s l i p in
       let x : Stepping = stepTables lim pr (tablesIn l) p in
-      stepped-in l′ x (λ m t e. (fours-step lim pr (tablesIn l) (fours-in l) p m t e, step-keeps lim pr (image-sane lim s l i) (tablesIn l) t p m (let-ok lim s l i) e))
-      (same-lent l′ (stepAnswer x l .lent) (meets .contract .head ∙ rw q) (meets .contract .procs ∙ rw q) (meets .contract .vars ∙ rw q))
+      rw (same-lent l′ (stepAnswer x l .lent) (meets .contract .head ∙ rw q) (meets .contract .procs ∙ rw q) (meets .contract .vars ∙ rw q)) (step-gone p x refl)
 
-  pub kept-turn : (w : ℕ) (l′ : Lent) → TurnMeets lim s l w l′ → LetIn lim s l′ r c
-  kept-turn w l′ meets =
+  pub left-turn : {w : ℕ} {l′ : Lent} → TurnMeets lim s l w l′ → Left l′
+  left-turn {l′ = l′} meets =
       let q = turn-let lim s l i in
       let x : Stepping = turnTables lim pr (tablesIn l) in
-      stepped-in l′ x (λ m t e. (fours-turn lim pr (tablesIn l) (fours-in l) m t e, turn-keeps lim pr (image-sane lim s l i) (tablesIn l) t m (let-ok lim s l i) e))
-      (same-lent l′ (stepAnswer x l .lent) (meets .contract .head ∙ rw q) (meets .contract .procs ∙ rw q) (meets .contract .vars ∙ rw q))
+      rw (same-lent l′ (stepAnswer x l .lent) (meets .contract .head ∙ rw q) (meets .contract .procs ∙ rw q) (meets .contract .vars ∙ rw q)) (turn-gone x refl)
 
-  pub kept-run : (limit w : ℕ) (l′ : Lent) → RunMeets lim s l limit w l′ → LetIn lim s l′ r c
-  kept-run limit w l′ meets =
+  pub left-run : {limit w : ℕ} {l′ : Lent} → RunMeets lim s l limit w l′ → Left l′
+  left-run {limit} {l′ = l′} meets =
       let q = run-let lim s l i limit in
       let t : Tables = runTables limit lim pr (tablesIn l) .tables in
-      held-in l′ t (fours-run lim pr (tablesIn l) (fours-in l) limit) (run-keeps lim pr (image-sane lim s l i) limit (tablesIn l) (let-ok lim s l i))
-      (same-lent l′ (putTables l t) (meets .contract .head ∙ rw q) (meets .contract .procs ∙ rw q) (meets .contract .vars ∙ rw q))
+      rw (same-lent l′ (putTables l t) (meets .contract .head ∙ rw q) (meets .contract .procs ∙ rw q) (meets .contract .vars ∙ rw q))
+      (is-written t (goes-run limit))
+
+  pub left-supply : {v k w : ℕ} {l′ : Lent} → SupplyMeets lim s l v k w l′ → Left l′
+  left-supply {v} {k} {l′ = l′} meets =
+      let q = supply-let lim s l i v k in
+      let x : Supplying = supplyTables pr (tablesIn l) v k in
+      rw (same-lent l′ (supplyAnswer x l .lent) (meets .contract .head ∙ rw q) (meets .contract .procs ∙ rw q) (meets .contract .vars ∙ rw q)) (supply-gone v k x refl)
+
+  -- what is written is let in, read back, and the same when it is written again
+  module _ (t : Tables) (g : Goes lim pr (tablesIn l) t) where
+    good : tablesOk lim pr t ≡ true
+    good = ok-goes lim pr (image-sane lim s l i) g (let-ok lim s l i)
+
+    has : Fours (t .state)
+    has = fours-goes lim pr g (let-ok lim s l i) (fours-in l)
+
+    pub goes-let : LetIn lim s (putTables l t) r c
+    goes-let = put-let lim s l i t has good
+
+    pub goes-holds : Holds l t (putTables l t)
+    goes-holds = put-holds lim s l i t has good
+
+    pub goes-twice : putTables (putTables l t) (tablesIn (putTables l t)) ≡ putTables l t
+    goes-twice =
+        let full = let-full lim s l i in
+        rw (goes-holds .read) (put-over l t t (omega arith) (omega arith) (rows-fit lim pr l t full good) (cells-fit lim pr l t full good))
+
+  pub left-let : {l′ : Lent} → Left l′ → LetIn lim s l′ r c
+  left-let as-it-was = i
+  left-let (is-written t g) = goes-let t g
+
+  pub kept-step : (p w : ℕ) (l′ : Lent) → StepMeets lim s l p w l′ → LetIn lim s l′ r c
+  kept-step p w l′ meets = left-let (left-step meets)
+
+  pub kept-turn : (w : ℕ) (l′ : Lent) → TurnMeets lim s l w l′ → LetIn lim s l′ r c
+  kept-turn w l′ meets = left-let (left-turn meets)
+
+  pub kept-run : (limit w : ℕ) (l′ : Lent) → RunMeets lim s l limit w l′ → LetIn lim s l′ r c
+  kept-run limit w l′ meets = left-let (left-run meets)
 
   pub kept-supply : (v k w : ℕ) (l′ : Lent) → SupplyMeets lim s l v k w l′ → LetIn lim s l′ r c
-  kept-supply v k w l′ meets = go (supplyTables pr (tablesIn l) v k) refl
-    where
-      left : {x : Supplying} → supplyTables pr (tablesIn l) v k ≡ x → l′ ≡ supplyAnswer x l .lent
-      left {x} e = let q = supply-as lim s l v k i e in same-lent l′ (supplyAnswer x l .lent) (meets .contract .head ∙ rw q) (meets .contract .procs ∙ rw q) (meets .contract .vars ∙ rw q)
-
-      go : (x : Supplying) → supplyTables pr (tablesIn l) v k ≡ x → LetIn lim s l′ r c
-      go (ungiven n) e = same-in l′ (left e)
-      go (given u t) e =
-          let g = supply-grows pr (tablesIn l) t (steady-kept lim pr (tablesIn l) (let-ok lim s l i) .0 .falls) v k u e in
-          held-in l′ t (fours-supply (tablesIn l) t (fours-in l) u k (g .0)) (supply-keeps lim pr (tablesIn l) t v k u (let-ok lim s l i) e) (left e)
+  kept-supply v k w l′ meets = left-let (left-supply meets)
 
 -- and a start writes tables that keep them
 pub kept-start : (lim : Limits) → Usable lim → (s : List ℕ) (l : Lent) (w : ℕ) (l′ : Lent) → StartMeets lim s l w l′ → refusalIn w ≡ 0 → {r c : ℕ} → loadOf s ≡ Accepted r c → LetIn lim s l′ r c
-kept-start lim usable s l w l′ meets z {r} {c} e =
-    let b = demand-2-start lim usable s l w l′ meets z in
-    let q : Accepted (b .relations) (b .clauses) ≡ Accepted r c = sym (b .image) ∙ e in
-    let x : b .relations ≡ r = cc in
-    let y : b .clauses ≡ c = cc in
-    let k : l′ ≡ startedLent lim (programOf s r c) = rw (x, y) at (b .bytes) in
-    rw k (started-let s e lim usable)
+kept-start lim usable s l w l′ meets z {r} {c} e = rw (begun-at lim usable s l w l′ meets z e .1) (started-let s e lim usable)
+
+-- ---- call after call
+
+-- what holds of bytes, and still holds once tables are written to them that a call comes to, holds after any calls
+module _ (lim : Limits) (s : List ℕ) {r c : ℕ} (Q : Lent → Type 0)
+    (on : (m : Lent) → LetIn lim s m r c → Q m → (t : Tables) → Goes lim (programOf s r c) (tablesIn m) t → tablesIn (putTables m t) ≡ t → Q (putTables m t)) where
+  by-left : {m m′ : Lent} (i : LetIn lim s m r c) → Q m → Left lim s m i m′ → LetIn lim s m′ r c × Q m′
+  by-left i q as-it-was = (i, q)
+  by-left {m} i q (is-written t g) = (goes-let lim s m i t g, on m i q t g (goes-holds lim s m i t g .read))
+
+  pub later-by : {l m : Lent} → LetIn lim s l r c → Q l → Later lim s l m → LetIn lim s m r c × Q m
+  later-by i q no-call = (i, q)
+  later-by i q (then-step {m} p k meets) = let (j, x) = later-by i q k in by-left j x (left-step lim s m j meets)
+  later-by i q (then-turn {m} k meets) = let (j, x) = later-by i q k in by-left j x (left-turn lim s m j meets)
+  later-by i q (then-run {m} limit k meets) = let (j, x) = later-by i q k in by-left j x (left-run lim s m j meets)
+  later-by i q (then-supply {m} v u k meets) = let (j, x) = later-by i q k in by-left j x (left-supply lim s m j meets)

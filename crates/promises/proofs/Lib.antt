@@ -7,10 +7,12 @@ pub mod Entry
 pub mod Giving
 pub mod Demand1
 pub mod Demand2
+pub mod Once
 pub mod Keeping
+pub mod RunTurns
+pub mod Final
 pub mod Arrive
 pub mod Demand3
 pub mod Exports
-pub mod Once
-pub mod RunTurns
 pub mod Watching
+pub mod Lent

@@ -4,14 +4,13 @@ use mathlib.Core.List.{List}
 use Prim.Native.Nat.{ℕ}
 use Rattle.machine.proofs.Held.{same-lent}
 use Rattle.parlog.specs.Limits.{Limits}
-use Rattle.parlog.specs.Run.{watchOf}
 use Rattle.parlog.specs.Tables.{Lent}
 use Rattle.parlog.specs.declared.Found.{Found}
 use Rattle.parlog.specs.declared.Marker.{Marker}
 use Rattle.parlog.specs.declared.Process.{Process}
 use Rattle.parlog.specs.declared.Stepped.{Stepped}
-use Rattle.promises.specs.Outcomes.{LoadMeets, RunMeets, StartMeets, StepMeets, SupplyMeets, TurnMeets, ValueMeets, WatchMeets}
-use Rattle.turn_by_value.specs.Turned.{turnedFrom, TurnedSays}
+use Rattle.promises.specs.Outcomes.{LoadMeets, MarkerMeets, RecordsMeet, RunMeets, StartMeets, StepMeets, SupplyMeets, TurnMeets, ValueMeets, WatchMeets}
+use Rattle.turn_by_value.specs.Turned.{turnedFrom}
 use Rattle.turn_by_value.specs.declared.Turned.{Turned}
 
 module _ (s : List ℕ) where
@@ -44,17 +43,18 @@ module _ (rows : List ℕ) where
 
 -- ---- the two calls that no C program reaches: the turn with its marker lent, and the watch over records
 
-module _ (lim : Limits) (s cs ps vs : List ℕ) (m : Marker) {a b : Stepped} {m′ m″ : Marker} {cs′ ps′ vs′ cs″ ps″ vs″ : List ℕ} where
-  pub once-marker : TurnedSays lim s cs ps vs m (turnedFrom m′ a) cs′ ps′ vs′ → TurnedSays lim s cs ps vs m (turnedFrom m″ b) cs″ ps″ vs″
-      → (a ≡ b) × (m′ ≡ m″) × (cs′ ≡ cs″) × (ps′ ≡ ps″) × (vs′ ≡ vs″)
+module _ (lim : Limits) (s cs ps vs : List ℕ) (m : Marker) {a b : Stepped} {cs′ ps′ vs′ cs″ ps″ vs″ : List ℕ} {m′ m″ : Marker} where
+  pub once-marker : MarkerMeets lim s cs ps vs m a cs′ ps′ vs′ m′ → MarkerMeets lim s cs ps vs m b cs″ ps″ vs″ m″
+      → (a ≡ b) × (cs′ ≡ cs″) × (ps′ ≡ ps″) × (vs′ ≡ vs″) × (m′ ≡ m″)
   once-marker x y =
-      let e : turnedFrom m′ a ≡ turnedFrom m″ b = x .turned ∙ sym (y .turned) in (
+      let e : turnedFrom m′ a ≡ turnedFrom m″ b = x .contract .turned ∙ sym (y .contract .turned) in (
         ap (λ (t : Turned). t .answer) e,
+        x .contract .counts ∙ sym (y .contract .counts),
+        x .contract .procs ∙ sym (y .contract .procs),
+        x .contract .vars ∙ sym (y .contract .vars),
         λ i. record { last = e i .last; steps = e i .steps },
-        x .counts ∙ sym (y .counts),
-        x .procs ∙ sym (y .procs),
-        x .vars ∙ sym (y .vars),
       )
 
-pub once-records : (rows : List Process) {f g : Found} → f ≡ watchOf rows → g ≡ watchOf rows → f ≡ g
-once-records rows a b = a ∙ sym b
+module _ (rows : List Process) where
+  pub once-records : {f g : Found} → RecordsMeet rows f → RecordsMeet rows g → f ≡ g
+  once-records a b = a .contract ∙ sym (b .contract)

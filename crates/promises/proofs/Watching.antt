@@ -7,7 +7,6 @@ use Prim.Native.Nat.{_/_, _<_, _≤_, ℕ}
 use lib.ListN.{length}
 use borrow.Author.Tests.{eqb-false, eqb-true, lt-ltb}
 use native.Mathlib.Omega.{arith}
-use Rattle.words.specs.Fits.{reached}
 use Rattle.parlog.proofs.Bools.{not-so}
 use Rattle.parlog.proofs.Scans.{lowest-at, lowest-none}
 use Rattle.parlog.specs.Codes.{isMode, modeCode, suspended}
@@ -22,6 +21,7 @@ use Rattle.promises.proofs.Words.{first-of, large-of, refusal-of}
 use Rattle.promises.specs.Moves.{none-waits, one-waits, Watched}
 use Rattle.promises.specs.Outcomes.{refusalIn, WatchMeets}
 use Rattle.rows.proofs.Tables.{procs-at, procs-length}
+use Rattle.words.specs.Fits.{reached}
 
 module _ (rows : List ℕ) where
   abbrev n : ℕ
@@ -49,7 +49,7 @@ module _ (rows : List ℕ) where
     pub watch-refuses-none : refusalIn w ≡ 0
     watch-refuses-none = found-told w (reached (watchOf (procsOf rows n))) (meets .contract)
 
-    module _ (within : n ≤ 4294967296) where
+    module _ (within : length rows / rowSize ≤ 4294967296) where
       by-lowest : (f : Found) → lowest waits n ≡ f → Watched rows w
       by-lowest Nothing e =
           let q : w ≡ word (watchNumbers Nothing) = meets .contract ∙ rw (watch-is, e) in

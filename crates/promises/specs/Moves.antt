@@ -1,25 +1,26 @@
 -- Demand 2 of an outcome: a step made is the move of the rules, a run is repeated moves, a supply binds a value.
 use mathlib.Core.Path.{_≡_}
 use mathlib.Core.Logic.{_↔_, _≢_, _⊎_}
-use mathlib.Core.Bool.{false}
 use mathlib.Core.List.{List}
-use Prim.Native.Nat.{_/_, _<_, suc, ℕ}
+use Prim.Native.Nat.{_/_, _<_, _≤_, suc, ℕ}
 use lib.ListN.{length}
-use Rattle.parlog.specs.Codes.{modeCode, suspended}
-use Rattle.parlog.specs.Demands.{Ended-at, Runs}
+use Rattle.parlog.specs.Codes.{dormant, failure, modeCode, resultCode, success, suspended}
+use Rattle.parlog.specs.Demands.{Ended-at}
 use Rattle.parlog.specs.Limits.{Limits}
-use Rattle.parlog.specs.Notions.{Leads}
+use Rattle.parlog.specs.Notions.{HasMode, Leads, me}
 use Rattle.parlog.specs.Numbers.{endNumber, ruleNumber, termNumbers, touched}
 use Rattle.parlog.specs.Program.{Program}
 use Rattle.parlog.specs.Relation.{Fits, Rule}
-use Rattle.parlog.specs.Run.{counted, goalEnded, Running, supplied}
+use Rattle.parlog.specs.Run.{counted, supplied}
 use Rattle.parlog.specs.Tables.{bindingOf, Lent, processAt, putTables, rowSize, State, Tables, tablesIn}
 use Rattle.parlog.specs.declared.Binding.the-variants.{Free}
+use Rattle.parlog.specs.declared.End.{End}
+use Rattle.parlog.specs.declared.End.the-variants.{Budget, Failure, Room, Success, Waiting}
 use Rattle.parlog.specs.declared.Move.{Move}
 use Rattle.parlog.specs.declared.Term.{Term}
 use Rattle.parlog.specs.declared.Term.the-variants.{Var}
 use Rattle.promises.specs.Outcomes.{firstIn, largeIn, refusalIn, secondIn, TurnMeets}
-use Rattle.promises.specs.Refusals.{CanMove, LacksRoom, stateIn}
+use Rattle.promises.specs.Refusals.{CanMove, LacksRoom, stateIn, Turn}
 use Rattle.rows.specs.Rows.{Bytes}
 
 -- Turns 3: the tables after a step of p that left the state s′
@@ -62,30 +63,38 @@ pub record MovesExactly (lim : Limits) (pr : Program) (l : Lent) (p w : ℕ) (l�
 
 -- ---- a run
 
--- the word and the bytes of a run that ended so
-pub record Ran-to (l : Lent) (x : Running) (w : ℕ) (l′ : Lent) : Type 0 where
-  pub accepted : refusalIn w ≡ 0
-  pub end : firstIn w ≡ endNumber (x .end)
-  pub count : largeIn w ≡ x .moves
-  pub tables : Holds l (x .tables) l′
-
--- a run is repeated moves: there is one with this word and these bytes, and every run from there has them
-pub record RunsExactly (lim : Limits) (pr : Program) (l : Lent) (limit w : ℕ) (l′ : Lent) : Type 0 where
-  pub run : Running
-  pub runs : Runs limit lim pr (tablesIn l) run
-  pub ran : Ran-to l run w l′
-  pub only : (x : Running) → Runs limit lim pr (tablesIn l) x → Ran-to l x w l′
-
 -- each number that is lent is a byte: what the type of a lent row says
 pub record AllBytes (l : Lent) : Type 0 where
   pub head : Bytes (l .head)
   pub procs : Bytes (l .procs)
   pub vars : Bytes (l .vars)
 
+-- Tags 39: the goal has ended
+abbrev pub GoalEnded : Lent → Type 0
+GoalEnded l = HasMode (stateIn l) 0 dormant
+
 -- n turn calls one after the other, each of them made, none of them after the goal's end
 pub data Turns (lim : Limits) (s : List ℕ) : Lent → ℕ → Lent → Type 0 where
   no-turn : {l : Lent} → Turns lim s l 0 l
-  one-turn : {l l′ l″ : Lent} {w n : ℕ} → goalEnded (tablesIn l) ≡ false → TurnMeets lim s l w l′ → refusalIn w ≡ 0 → Turns lim s l′ n l″ → Turns lim s l (suc n) l″
+  one-turn : {l l′ l″ : Lent} {w n : ℕ} → (GoalEnded l → ⊥) → TurnMeets lim s l w l′ → refusalIn w ≡ 0 → Turns lim s l′ n l″ → Turns lim s l (suc n) l″
+
+-- Turns 7: why a run with this step limit ends after n moves, in the bytes l: the goal has ended, with its result; nobody can move; the limit is
+-- used up, though somebody can; or the one whose turn it is has no room
+pub data StopsBy (lim : Limits) (pr : Program) (limit n : ℕ) (l : Lent) : End → Type 0 where
+  by-success : GoalEnded l → me (stateIn l) 0 .result ≡ resultCode success → StopsBy lim pr limit n l Success
+  by-failure : GoalEnded l → me (stateIn l) 0 .result ≡ resultCode failure → StopsBy lim pr limit n l Failure
+  by-waiting : (GoalEnded l → ⊥) → ((p : ℕ) → CanMove pr (stateIn l) p → ⊥) → StopsBy lim pr limit n l Waiting
+  by-budget : {p : ℕ} → (GoalEnded l → ⊥) → CanMove pr (stateIn l) p → n ≡ limit → StopsBy lim pr limit n l Budget
+  by-room : {p : ℕ} → (GoalEnded l → ⊥) → Turn pr (tablesIn l) p → n < limit → LacksRoom lim pr (stateIn l) p → StopsBy lim pr limit n l Room
+
+-- Turns 7, 8: a run is repeated moves: as many turn calls as its word counts come to the same bytes, and it ends there for the reason that its word has
+pub record RunsExactly (lim : Limits) (s : List ℕ) (pr : Program) (l : Lent) (limit w : ℕ) (l′ : Lent) : Type 0 where
+  pub accepted : refusalIn w ≡ 0
+  pub turns : Turns lim s l (largeIn w) l′
+  pub within : largeIn w ≤ limit
+  pub end : End
+  pub told : firstIn w ≡ endNumber end
+  pub stops : StopsBy lim pr limit (largeIn w) l′ end
 
 -- ---- a supply and a look
 

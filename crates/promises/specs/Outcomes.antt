@@ -1,9 +1,16 @@
 -- What a C program sees of a call: a word, and the lent bytes afterwards. An outcome is one that meets the contract of the call.
+use mathlib.Core.Path.{_≡_}
 use mathlib.Core.List.{List}
 use Prim.Native.Nat.{_%_, _/_, ℕ}
 use Rattle.capi.specs.Tells.{LoadTells, RunTells, StartTells, StepTells, SupplyTells, TurnTells, ValueTells, WatchTells}
 use Rattle.parlog.specs.Limits.{Limits}
+use Rattle.parlog.specs.Run.{watchOf}
 use Rattle.parlog.specs.Tables.{Lent}
+use Rattle.parlog.specs.declared.Found.{Found}
+use Rattle.parlog.specs.declared.Marker.{Marker}
+use Rattle.parlog.specs.declared.Process.{Process}
+use Rattle.parlog.specs.declared.Stepped.{Stepped}
+use Rattle.turn_by_value.specs.Turned.{turnedFrom, TurnedSays}
 
 -- ---- a word taken apart: bits 0 to 7, 8 to 15, 16 to 23, and 32 to 63
 
@@ -56,3 +63,13 @@ pub record ValueMeets (lim : Limits) (s : List ℕ) (l : Lent) (v w : ℕ) : Typ
 -- of rissobarm_watch, over rows of processes: it is lent the bytes to read only
 pub record WatchMeets (rows : List ℕ) (w : ℕ) : Type 0 where
   pub contract : WatchTells rows w
+
+-- ---- and the contract of the two calls that no C program reaches
+
+-- of turn_lent::turn, lent the counts cs, the rows ps and vs and the marker m: the answer a, and what is lent afterwards
+pub record MarkerMeets (lim : Limits) (s cs ps vs : List ℕ) (m : Marker) (a : Stepped) (cs′ ps′ vs′ : List ℕ) (m′ : Marker) : Type 0 where
+  pub contract : TurnedSays lim s cs ps vs m (turnedFrom m′ a) cs′ ps′ vs′
+
+-- of watch_records::watch, over records of processes, with the answer f
+pub record RecordsMeet (rows : List Process) (f : Found) : Type 0 where
+  pub contract : f ≡ watchOf rows
