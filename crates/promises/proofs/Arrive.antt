@@ -8,16 +8,16 @@ use Rattle.machine.proofs.Held.{put-over}
 use Rattle.parlog.proofs.Repeated.{run-reached}
 use Rattle.parlog.specs.Demands.{at-start, by-number, by-supply, Reached}
 use Rattle.parlog.specs.Limits.{Limits, Usable}
-use Rattle.parlog.specs.Load.{loadOf}
 use Rattle.parlog.specs.Program.{Program, programOf}
 use Rattle.parlog.specs.Tables.{cellSize, fresh, freshTables, headSize, Lent, lent, putTables, rowSize, startedLent, Tables, tablesIn, zeros}
 use Rattle.parlog.specs.declared.Binding.the-variants.{Free}
-use Rattle.parlog.specs.declared.Loaded.the-variants.{Accepted}
 use Rattle.promises.proofs.Demand2.{begun-at, demand-2-start, goal-few}
 use Rattle.promises.proofs.Keeping.{Goes, goes-run, goes-step, goes-supply, goes-twice, kept-start, later-by}
 use Rattle.promises.specs.Reach.{Came, from-start, Later}
 use Rattle.promises.specs.Refusals.{LetIn}
 use Rattle.rows.proofs.Laws.{zeros-length}
+use Rattle.refusals.proofs.Exactly.{accepted-right}
+use Rattle.refusals.specs.Right.{RightImage}
 
 -- a fresh start written over itself
 module _ (lim : Limits) (usable : Usable lim) (pr : Program) (few : pr .goalVars ≤ 255) where
@@ -61,12 +61,13 @@ module _ (lim : Limits) (s : List ℕ) (r c : ℕ) where
   arrive-later a k = let (j, q) = later-by lim s Going going (a .enters) (record { same = a .same; reached = a .reached }) k in record { enters = j; same = q .same; reached = q .reached }
 
   -- THE LAW: bytes that came are let in and reached, for the counts that a load of the image tells
-  pub came-arrived : Usable lim → loadOf s ≡ Accepted r c → {l : Lent} → Came lim s l → Arrived l
-  came-arrived usable e (from-start {l} {l′} {w = w} meets z k) =
+  pub came-arrived : Usable lim → RightImage s r c → {l : Lent} → Came lim s l → Arrived l
+  came-arrived usable right (from-start {l} {l′} {w = w} meets z k) =
+      let e = accepted-right s .1 right in
       let b = begun-at lim usable s l w l′ meets z e in
       let t : putTables l′ (tablesIn l′) ≡ l′ = rw (b .0, b .1) (started-twice lim usable pr (goal-few s e)) in
-      arrive-later (record { enters = kept-start lim usable s l w l′ meets z e; same = t; reached = rw (b .0) at-start }) k
+      arrive-later (record { enters = kept-start lim usable s l w l′ meets z right; same = t; reached = rw (b .0) at-start }) k
 
 -- and the image of what came was accepted
-pub came-accepted : (lim : Limits) → Usable lim → (s : List ℕ) {l : Lent} → Came lim s l → (r : ℕ) × (c : ℕ) × (loadOf s ≡ Accepted r c)
+pub came-accepted : (lim : Limits) → Usable lim → (s : List ℕ) {l : Lent} → Came lim s l → (r : ℕ) × (c : ℕ) × RightImage s r c
 came-accepted lim usable s (from-start {l} {l′} {w = w} meets z k) = let b = demand-2-start lim usable s l w l′ meets z in (b .relations, b .clauses, b .image)

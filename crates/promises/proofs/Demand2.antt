@@ -21,6 +21,7 @@ use Rattle.parlog.specs.TableRules.{stateOk, tablesOk}
 use Rattle.parlog.specs.Tables.{bindingBytes, cellSize, freshTables, Lent, procCount, processBytes, putTables, rowsBytes, rowSize, startedLent, State, Tables, tablesIn}
 use Rattle.parlog.specs.declared.Loaded.the-variants.{Accepted}
 use Rattle.parlog.specs.declared.Move.{Move}
+use Rattle.refusals.proofs.Exactly.{accepted-right}
 use Rattle.promises.proofs.Demand1.{demand-1-start, is-begun, is-refused, Start, start-begun, starting-so, step-as, supply-as, turn-meets-step, turn-there, value-as}
 use Rattle.promises.proofs.Entry.{let-by, let-image, let-ok, put-holds}
 use Rattle.promises.proofs.Fours.{Fours, fours-in, fours-step, fours-supply}
@@ -162,14 +163,14 @@ demand-2-start lim usable s l w l′ meets z = go (starting-so lim s l)
     go (is-begun {r} {c} e h) =
         let q = start-begun lim s l e h in
         let k : l′ ≡ startedLent lim (programOf s r c) = same-lent l′ (startedLent lim (programOf s r c)) (meets .contract .head ∙ rw q) (meets .contract .procs ∙ rw q) (meets .contract .vars ∙ rw q) in
-        record { relations = r; clauses = c; image = e; read = rw k (started-read lim usable (programOf s r c) (goal-few s e)); bytes = k }
+        record { relations = r; clauses = c; image = accepted-right s .0 e; read = rw k (started-read lim usable (programOf s r c) (goal-few s e)); bytes = k }
 
 -- the same, for the counts that a load of the image tells
 pub begun-at : (lim : Limits) → Usable lim → (s : List ℕ) (l : Lent) (w : ℕ) (l′ : Lent) → StartMeets lim s l w l′ → refusalIn w ≡ 0 → {r c : ℕ} → loadOf s ≡ Accepted r c
     → (tablesIn l′ ≡ freshTables (programOf s r c)) × (l′ ≡ startedLent lim (programOf s r c))
 begun-at lim usable s l w l′ meets z {r} {c} e =
     let b = demand-2-start lim usable s l w l′ meets z in
-    let q : Accepted (b .relations) (b .clauses) ≡ Accepted r c = sym (b .image) ∙ e in
+    let q : Accepted (b .relations) (b .clauses) ≡ Accepted r c = sym (accepted-right s .1 (b .image)) ∙ e in
     let x : b .relations ≡ r = cc in
     let y : b .clauses ≡ c = cc in
     (rw (x, y) at (b .read), rw (x, y) at (b .bytes))

@@ -16,7 +16,7 @@ use Rattle.parlog.proofs.Stuck.{deadlock, ended-all}
 use Rattle.parlog.specs.Codes.{dormant, suspended}
 use Rattle.parlog.specs.Demands.{a-supply, a-turn, aborted, another-moves, Deadlock, Event, events-over, has-no-room, is-not-supplied, is-supplied, moves-itself, Served}
 use Rattle.parlog.specs.Limits.{Limits, Usable}
-use Rattle.parlog.specs.Load.{loadOf, refusal}
+use Rattle.parlog.specs.Load.{refusal}
 use Rattle.parlog.specs.Notions.{HasMode, NoteBound}
 use Rattle.parlog.specs.Numbers.{endNumber}
 use Rattle.parlog.specs.Program.{Program, programOf}
@@ -24,7 +24,6 @@ use Rattle.parlog.specs.Run.{canMove, made, stepped, turnTables, unmade}
 use Rattle.parlog.specs.TableRules.{stateOk}
 use Rattle.parlog.specs.Tables.{Lent, procCount, putTables, Tables, tablesIn}
 use Rattle.parlog.specs.declared.End.{End}
-use Rattle.parlog.specs.declared.Loaded.the-variants.{Accepted}
 use Rattle.parlog.specs.declared.Move.{Move}
 use Rattle.promises.proofs.Arrive.{arrive-later, Arrived, came-arrived}
 use Rattle.promises.proofs.Demand1.{demand-1-turn, supply-as, turn-as}
@@ -38,6 +37,7 @@ use Rattle.promises.specs.Moves.{AllBytes, by-budget, by-failure, by-roo
 use Rattle.promises.specs.Outcomes.{firstIn, largeIn, refusalIn, RunMeets, SupplyMeets, TurnMeets}
 use Rattle.promises.specs.Reach.{a-run-call, a-supply-between, a-supply-call, a-turn-call, another-does, bound, calls-over, Came, Follow, for-room, is-dormant, it-moves, no-call, no-more-calls, run-is-turns, ServedBy, then-run, turnsThen}
 use Rattle.promises.specs.Refusals.{CanMove, LetIn, no-room-in-turn, nobody, stateIn, turn-away, TurnRefused}
+use Rattle.refusals.specs.Right.{RightImage}
 
 -- ---- the bound
 
@@ -166,9 +166,9 @@ stuck lim s r c l a n g =
 
 -- ---- from bytes that came
 
-module _ (lim : Limits) (usable : Usable lim) (s : List ℕ) (l : Lent) (came : Came lim s l) {r c : ℕ} (e : loadOf s ≡ Accepted r c) where
+module _ (lim : Limits) (usable : Usable lim) (s : List ℕ) (l : Lent) (came : Came lim s l) {r c : ℕ} (right : RightImage s r c) where
   here : Arrived lim s r c l
-  here = came-arrived lim s r c usable e came
+  here = came-arrived lim s r c usable right came
 
   ok : stateOk lim (programOf s r c) (stateIn l) ≡ true
   ok = tables-state lim (programOf s r c) (tablesIn l) (let-ok lim s l (here .enters))

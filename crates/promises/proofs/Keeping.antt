@@ -13,12 +13,10 @@ use Rattle.parlog.proofs.Stable.{supply-grows}
 use Rattle.parlog.proofs.Steps.{steady-kept, turn-made}
 use Rattle.parlog.specs.Calls.{stepAnswer, supplyAnswer}
 use Rattle.parlog.specs.Limits.{Limits, Usable}
-use Rattle.parlog.specs.Load.{loadOf}
 use Rattle.parlog.specs.Program.{Program, programOf}
 use Rattle.parlog.specs.Run.{given, made, runTables, Stepping, stepTables, Supplying, supplyTables, turnTables, ungiven, unmade}
 use Rattle.parlog.specs.TableRules.{tablesOk}
 use Rattle.parlog.specs.Tables.{Lent, putTables, Tables, tablesIn}
-use Rattle.parlog.specs.declared.Loaded.the-variants.{Accepted}
 use Rattle.parlog.specs.declared.Move.{Move}
 use Rattle.promises.proofs.Demand2.{begun-at, image-sane, started-let}
 use Rattle.promises.proofs.Entry.{let-full, let-ok, put-holds, put-let, run-let, step-let, supply-let, turn-let}
@@ -27,6 +25,8 @@ use Rattle.promises.specs.Moves.{Holds}
 use Rattle.promises.specs.Outcomes.{refusalIn, RunMeets, StartMeets, StepMeets, SupplyMeets, TurnMeets}
 use Rattle.promises.specs.Reach.{Later, no-call, then-run, then-step, then-supply, then-turn}
 use Rattle.promises.specs.Refusals.{LetIn}
+use Rattle.refusals.proofs.Exactly.{accepted-right}
+use Rattle.refusals.specs.Right.{RightImage}
 
 -- ---- from tables to tables
 
@@ -133,8 +133,8 @@ module _ (lim : Limits) (s : List ℕ) (l : Lent) {r c : ℕ} (i : LetIn lim s l
   kept-supply v k w l′ meets = left-let (left-supply meets)
 
 -- and a start writes tables that keep them
-pub kept-start : (lim : Limits) → Usable lim → (s : List ℕ) (l : Lent) (w : ℕ) (l′ : Lent) → StartMeets lim s l w l′ → refusalIn w ≡ 0 → {r c : ℕ} → loadOf s ≡ Accepted r c → LetIn lim s l′ r c
-kept-start lim usable s l w l′ meets z {r} {c} e = rw (begun-at lim usable s l w l′ meets z e .1) (started-let s e lim usable)
+pub kept-start : (lim : Limits) → Usable lim → (s : List ℕ) (l : Lent) (w : ℕ) (l′ : Lent) → StartMeets lim s l w l′ → refusalIn w ≡ 0 → {r c : ℕ} → RightImage s r c → LetIn lim s l′ r c
+kept-start lim usable s l w l′ meets z {r} {c} right = let e = accepted-right s .1 right in rw (begun-at lim usable s l w l′ meets z e .1) (started-let s e lim usable)
 
 -- ---- call after call
 

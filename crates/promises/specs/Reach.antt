@@ -4,20 +4,19 @@ use mathlib.Core.List.{List}
 use Prim.Native.Nat.{_-_, suc, ℕ}
 use Rattle.parlog.specs.Codes.{dormant}
 use Rattle.parlog.specs.Limits.{Limits}
-use Rattle.parlog.specs.Load.{loadOf}
 use Rattle.parlog.specs.Notions.{HasMode}
 use Rattle.parlog.specs.Program.{Program, programOf}
 use Rattle.parlog.specs.Tables.{freshTables, Lent, startedLent, tablesIn}
-use Rattle.parlog.specs.declared.Loaded.the-variants.{Accepted}
 use Rattle.promises.specs.Moves.{Moves, no-turn, one-turn, Turns}
 use Rattle.promises.specs.Outcomes.{largeIn, refusalIn, RunMeets, StartMeets, StepMeets, SupplyMeets, TurnMeets}
 use Rattle.promises.specs.Refusals.{stateIn}
+use Rattle.refusals.specs.Right.{RightImage}
 
 -- Tables 2: the bytes of a fresh start of the image s: they hold the tables of a start, and zeros in every unused row
 pub record Begins (lim : Limits) (s : List ℕ) (l : Lent) : Type 0 where
   pub relations : ℕ
   pub clauses : ℕ
-  pub image : loadOf s ≡ Accepted relations clauses
+  pub image : RightImage s relations clauses
   pub read : tablesIn l ≡ freshTables (programOf s relations clauses)
   pub bytes : l ≡ startedLent lim (programOf s relations clauses)
 
