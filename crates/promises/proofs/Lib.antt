@@ -7,6 +7,7 @@ pub mod Entry
 pub mod Giving
 pub mod Demand1
 pub mod Demand2
+pub mod Reordering
 pub mod Once
 pub mod Keeping
 pub mod RunTurns
