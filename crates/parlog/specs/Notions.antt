@@ -5,7 +5,7 @@ use mathlib.Core.List.{[], _++_, _∷_, List}
 use Prim.Native.Nat.{_+_, _<_, _≤_, suc, ℕ}
 use lib.ListN.{getD, length, replicate}
 use Rattle.parlog.specs.Clauses.{HasVars, OutputPlaces}
-use Rattle.parlog.specs.Codes.{dormant, guard-eval, Mode, modeCode, ready, reporting, Result, resultCode, Tag, tagCode, try-clause}
+use Rattle.parlog.specs.Codes.{dormant, guard-eval, kindCode, Mode, modeCode, ready, reporting, Result, resultCode, Tag, tagCode, the-body, the-goal, the-guard, try-clause}
 use Rattle.parlog.specs.Delta.{literalSpot, trySpot, withMode, withResult}
 use Rattle.parlog.specs.Listed.{Listed}
 use Rattle.parlog.specs.Program.{Clause, clauseAt, Goal, Literal, modesAt, noLiteral, Program, tagOfLiteral}
@@ -115,9 +115,9 @@ pub data Committed (pr : Program) (c : Clause) : Goal → Type 0 where
 
 -- goal(p): the image's, a guard, or a committed body
 pub data Works (pr : Program) (z : Spot) : Goal → Type 0 where
-  in-goal : z .kind ≡ 0 → Works pr z (pr .goal)
-  in-guard : z .kind ≡ 1 → Works pr z (clauseAt pr (z .clause) .guard)
-  in-body : {g : Goal} → z .kind ≡ 2 → Committed pr (clauseAt pr (z .clause)) g → Works pr z g
+  in-goal : z .kind ≡ kindCode the-goal → Works pr z (pr .goal)
+  in-guard : z .kind ≡ kindCode the-guard → Works pr z (clauseAt pr (z .clause) .guard)
+  in-body : {g : Goal} → z .kind ≡ kindCode the-body → Committed pr (clauseAt pr (z .clause)) g → Works pr z g
 
 -- the stage that z names there
 pub record AtStage (pr : Program) (z : Spot) (st : List Literal) : Type 0 where

@@ -1,7 +1,7 @@
 -- Fifteen runs told in full and computed from the bytes of their images: every turn with its process, its rule and the number of what it touched,
 -- then end, processes, bindings and notes. They shut out machines that change what function and relation of the rules share, and together
 -- make every rule.
-use mathlib.Core.Path.{_≡_, refl}
+use mathlib.Core.Path.{_≡_}
 use mathlib.Core.Bool.{_||_, Bool, cond, false, true}
 use mathlib.Core.List.{[], _++_, _∷_, List}
 use Prim.Native.Nat.{suc, zero, ℕ}
@@ -12,7 +12,6 @@ use Rattle.parlog.specs.Codes.{isMode, suspended}
 use Rattle.parlog.specs.Limits.{small}
 use Rattle.parlog.specs.Load.{loadOf}
 use Rattle.parlog.specs.Numbers.{ruleNumber, touched}
-use Rattle.parlog.specs.Opened.{opened}
 use Rattle.parlog.specs.Program.{Program, programOf}
 use Rattle.parlog.specs.Run.{goalEnded, goalResult, made, Stepping, supplyTables, turnTables, unmade}
 use Rattle.parlog.specs.Scan.{every}
@@ -274,7 +273,9 @@ nestedTurns =
 -- ---- the stories
 
 -- as the document has them
-pub stories : (tell noClause [] ≡ told noClauseTurns Failure 2 [] [])
+abbrev pub StoriesTold : Type 0
+StoriesTold =
+    (tell noClause [] ≡ told noClauseTurns Failure 2 [] [])
     × (tell wrongValue (give 0 2 ∷ []) ≡ told wrongValueTurns Failure 6 (Bound (Const 2) ∷ []) [])
     × (tell bothHold [] ≡ told bothHoldTurns Success 3 [] [])
     × (tell oneFails [] ≡ told oneFailsTurns Failure 3 (Bound (Const 1) ∷ []) [])
@@ -289,8 +290,6 @@ pub stories : (tell noClause [] ≡ told noClauseTurns Failure 2 [] [])
     × (tell twoNotes [] ≡ told twoNotesTurns Waiting 6 (Free ∷ Free ∷ Free ∷ []) ((1 ∷ 0 ∷ []) ∷ []))
     × (tell inAndOut [] ≡ told inAndOutTurns Success 12 (Bound (Const 6) ∷ Free ∷ Bound (Var 0) ∷ Bound (Var 0) ∷ []) [])
     × (tell nested [] ≡ told nestedTurns Success 19 (Bound (Const 3) ∷ Bound (Const 7) ∷ Bound (Var 1) ∷ Bound (Const 3) ∷ Bound (Var 1) ∷ Bound (Var 1) ∷ []) [])
-unfolding opened notesIn tellFrom tell
-stories = (refl, refl, refl, refl, refl, refl, refl, refl, refl, refl, refl, refl, refl, refl, refl)
 
 -- ---- every rule is made
 
@@ -304,6 +303,5 @@ abbrev pub allTurns : List Turn
 allTurns = noClauseTurns ++ wrongValueTurns ++ bothHoldTurns ++ oneFailsTurns ++ stagesTurns ++ stageFailsTurns ++ guardedTurns ++ blocksTurns ++ blocksEndTurns ++ firstOfBlockTurns ++ guardWaitsTurns ++ consumerTurns ++ twoNotesTurns ++ inAndOutTurns ++ nestedTurns
 
 -- rules 1 to 35
-pub everyRule : every (λ k. madeIn allTurns (suc k)) 35 ≡ true
-unfolding every madeIn
-everyRule = refl
+abbrev pub RulesMade : Type 0
+RulesMade = every (λ k. madeIn allTurns (suc k)) 35 ≡ true

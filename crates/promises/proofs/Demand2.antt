@@ -12,12 +12,12 @@ use Rattle.parlog.proofs.Exact.{at-most-one}
 use Rattle.parlog.proofs.Kept.{run-keeps, step-keeps, supply-keeps}
 use Rattle.parlog.proofs.Repeated.{runs, runs-only}
 use Rattle.parlog.proofs.Rows.{rows-length, written-past}
-use Rattle.parlog.proofs.Sane.{Sane}
 use Rattle.parlog.specs.Limits.{Limits, Usable}
 use Rattle.parlog.specs.Load.{loadOf, refusal}
 use Rattle.parlog.specs.Program.{Program, programOf}
 use Rattle.parlog.specs.Relation.{Fits, Rule}
 use Rattle.parlog.specs.Run.{made, Running, runTables, Stepping, stepTables, supplied, Supplying, supplyTables, unmade}
+use Rattle.parlog.specs.Sane.{Sane}
 use Rattle.parlog.specs.TableRules.{stateOk, tablesOk}
 use Rattle.parlog.specs.Tables.{bindingBytes, cellSize, Lent, procCount, processBytes, putTables, rowsBytes, rowSize, startedLent, State, Tables, tablesIn}
 use Rattle.parlog.specs.declared.Loaded.the-variants.{Accepted}

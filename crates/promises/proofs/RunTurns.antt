@@ -10,13 +10,13 @@ use Rattle.machine.proofs.Entering.{lent-inside}
 use Rattle.machine.proofs.Held.{cells-fit, put-over, rows-fit, same-lent}
 use Rattle.parlog.proofs.Effects.{apply-count, apply-vars}
 use Rattle.parlog.proofs.Kept.{turn-keeps}
-use Rattle.parlog.proofs.Sane.{Sane}
 use Rattle.parlog.proofs.Steps.{step-made, turn-made}
 use Rattle.parlog.specs.Demands.{no-more, once-more, Repeats}
 use Rattle.parlog.specs.Limits.{Limits}
 use Rattle.parlog.specs.Numbers.{stepNumbers, word}
 use Rattle.parlog.specs.Program.{Program, programOf}
 use Rattle.parlog.specs.Run.{goalEnded, made, stepped, stepTables, turnTables}
+use Rattle.parlog.specs.Sane.{Sane}
 use Rattle.parlog.specs.TableRules.{tablesOk}
 use Rattle.parlog.specs.Tables.{Lent, putTables, Tables, tablesIn}
 use Rattle.parlog.specs.declared.Move.{Move}
