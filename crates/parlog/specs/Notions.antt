@@ -7,6 +7,7 @@ use lib.ListN.{getD, length, replicate}
 use Rattle.parlog.specs.Clauses.{HasVars, OutputPlaces}
 use Rattle.parlog.specs.Codes.{dormant, guard-eval, kindCode, Mode, modeCode, ready, reporting, Result, resultCode, Tag, tagCode, the-body, the-goal, the-guard, try-clause}
 use Rattle.parlog.specs.Delta.{literalSpot, trySpot, withMode, withResult}
+use Rattle.parlog.specs.Image.{equality, inputMode}
 use Rattle.parlog.specs.Listed.{Listed}
 use Rattle.parlog.specs.Program.{Clause, clauseAt, Goal, Literal, modesAt, noLiteral, Program, tagOfLiteral}
 use Rattle.parlog.specs.Tables.{at, bindingOf, newProcess, noted, place, State}
@@ -99,9 +100,9 @@ pub record UnderGuard (s : State) (p : ℕ) : Type 0 where
 -- Tags 41: an equation per output argument that the head has a term for, in order; the variables count on from v
 pub record Outputs (ms : List ℕ) (ts : List Term) (v : ℕ) (es : List Literal) : Type 0 where
   pub places : List ℕ
-  pub outputs : Listed (λ i. (getD ms i 0 ≢ 0) × (i < length ts)) places
+  pub outputs : Listed (λ i. (getD ms i inputMode ≢ inputMode) × (i < length ts)) places
   pub count : length es ≡ length places
-  pub equation : (j : ℕ) → j < length places → getD es j noLiteral ≡ record { rel = 255; args = getD ts (getD places j 0) (Const 0) ∷ Var (v + j) ∷ [] }
+  pub equation : (j : ℕ) → j < length places → getD es j noLiteral ≡ record { rel = equality; args = getD ts (getD places j 0) (Const 0) ∷ Var (v + j) ∷ [] }
 
 -- Tags 41: those of a clause
 abbrev pub OutputsOf : Program → Clause → List Literal → Type 0
@@ -187,12 +188,12 @@ pub record Matches (base first : ℕ) (ms : List ℕ) (xs ts : List Term) (out :
   pub within : (i : ℕ) → i < length es → (i < length ms) × (i < length xs) × (i < length ts)
   pub all : (i : ℕ) → i < length ms → i < length xs → i < length ts → i < length es
   pub call : (i : ℕ) → i < length es → getD es i noPair .left ≡ shift base (getD xs i (Const 0))
-  pub input : (i : ℕ) → i < length es → getD ms i 0 ≡ 0 → getD es i noPair .right ≡ shift first (getD ts i (Const 0))
+  pub input : (i : ℕ) → i < length es → getD ms i inputMode ≡ inputMode → getD es i noPair .right ≡ shift first (getD ts i (Const 0))
   pub output : (j : ℕ) → j < length places → getD places j 0 < length es → getD es (getD places j 0) noPair .right ≡ Var (first + (out + j))
 
 -- Tags 30: in_var: some input argument leads to v
 pub data InputValue (vs : List Binding) (base v : ℕ) : List ℕ → List Term → Type 0 where
-  this-one : {m : ℕ} {ms : List ℕ} {a : Term} {xs : List Term} → m ≡ 0 → Leads vs (shift base a) (Var v) → InputValue vs base v (m ∷ ms) (a ∷ xs)
+  this-one : {m : ℕ} {ms : List ℕ} {a : Term} {xs : List Term} → m ≡ inputMode → Leads vs (shift base a) (Var v) → InputValue vs base v (m ∷ ms) (a ∷ xs)
   a-later : {m : ℕ} {ms : List ℕ} {a : Term} {xs : List Term} → InputValue vs base v ms xs → InputValue vs base v (m ∷ ms) (a ∷ xs)
 
 -- Tags 35: below the first variable of the nearest try-clause, for a process below a guard-eval

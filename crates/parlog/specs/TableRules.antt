@@ -5,7 +5,7 @@ use Prim.Native.Nat.{_*_, _+_, suc, zero, ℕ}
 use lib.Dec.{eqb, leb, ltb}
 use lib.ListN.{length}
 use Rattle.parlog.specs.Codes.{and-par, and-seq, dormant, equate, guard-eval, input-match, isMode, isOneOf, isResult, isTag, Kind, kindCode, kindOf, none, or-par, or-search, reporting, seq-search, success, suspended, Tag, tagCode, tagOf, the-body, the-goal, the-guard, try-clause, waiting}
-use Rattle.parlog.specs.Image.{equality}
+use Rattle.parlog.specs.Image.{equality, mostConstant}
 use Rattle.parlog.specs.Limits.{Limits}
 use Rattle.parlog.specs.Program.{blockCount, clauseAt, goalAt, Literal, literalAt, Program, stageAt, tagOfGoal, varsOf}
 use Rattle.parlog.specs.Scan.{every, implies}
@@ -177,7 +177,7 @@ rowOk pr ps n i =
 -- Tables 3i: bindings lead to constants of an image or downward
 abbrev pub bindingOk : ℕ → Binding → Bool
 bindingOk v Free = true
-bindingOk v (Bound (Const c)) = leb c 32767
+bindingOk v (Bound (Const c)) = leb c mostConstant
 bindingOk v (Bound (Var w)) = ltb w v
 
 -- Tables 3i: that for variable v
