@@ -11,8 +11,9 @@ use Rattle.decide.specs.Decision.{changesOf, decidedBy, decidedOf, Decid
 use Rattle.decide.specs.declared.Decision.{Decision}
 use Rattle.decide.specs.declared.Deed.the-variants.{Binds, Fails, Suspends}
 use Rattle.parlog.proofs.Bindings.{DecidedIn}
-use Rattle.parlog.proofs.Sane.{all-of-at, termIn, termsIn}
+use Rattle.parlog.proofs.Sane.{all-of-at}
 use Rattle.parlog.specs.Delta.{fourOf}
+use Rattle.parlog.specs.Sane.{termIn, termsIn}
 use Rattle.parlog.specs.TableRules.{allBelow}
 use Rattle.parlog.specs.Unify.{binds, Decided, fails, suspends}
 use Rattle.parlog.specs.declared.Term.{Term}

@@ -10,13 +10,14 @@ use native.Mathlib.Omega.{arith}
 use Rattle.load.proofs.Accepted.{accepted, Right}
 use Rattle.parlog.proofs.Along.{along-add, each-up, list-at, list-length, list-past}
 use Rattle.parlog.proofs.Bools.{and-true, split}
-use Rattle.parlog.proofs.Sane.{all-of-listed, allOf, argsIn, ClauseSane, goalTerms, Sane, stageTerms, termIn, termsIn}
+use Rattle.parlog.proofs.Sane.{all-of-listed}
 use Rattle.parlog.specs.Body.{relationBody}
 use Rattle.parlog.specs.Image.{bodyAt, equality, guardAt, literalEnd, modeEnd, stageEnd, termAt, termEnd}
 use Rattle.parlog.specs.Load.{loadOf}
 use Rattle.parlog.specs.Names.{clauseInside, goalNamed, literalNamed, relationNamed, stageNamed, termNamed, termNamedAt, termsNamed}
 use Rattle.parlog.specs.Program.{clauseAt, clauseOf, goalOf, literalOf, modesAt, modesOf, noClause, programOf, stageOf}
 use Rattle.parlog.specs.Records.{byteAt, recordAt, recordEnd, wordAt}
+use Rattle.parlog.specs.Sane.{allOf, argsIn, ClauseSane, goalTerms, Sane, stageTerms, termIn, termsIn}
 use Rattle.parlog.specs.Scan.{listOf}
 use Rattle.parlog.specs.declared.Loaded.the-variants.{Accepted}
 use Rattle.parlog.specs.declared.Term.the-variants.{Const, Var}

@@ -15,7 +15,6 @@ use Rattle.moves.specs.Legal.{Legal}
 use Rattle.parlog.proofs.Along.{along-add, list-at, list-length, list-past}
 use Rattle.parlog.proofs.Assume.{assume-block, assume-known, assume-notes, assume-stage}
 use Rattle.parlog.proofs.Bools.{split}
-use Rattle.parlog.proofs.Sane.{Sane}
 use Rattle.parlog.specs.Body.{goalRange}
 use Rattle.parlog.specs.Codes.{Kind, kindOf, the-body, the-goal, the-guard}
 use Rattle.parlog.specs.Image.{bodyAt, byteAt, guardAt, recordAt, recordEnd, stageEnd}
@@ -23,6 +22,7 @@ use Rattle.parlog.specs.Limits.{Limits}
 use Rattle.parlog.specs.Notions.{me}
 use Rattle.parlog.specs.Program.{before, blockCount, blockOf, clauseAt, clauseOf, committedBody, Goal, goalAt, goalBy, goalOf, Literal, literalAt, modesAt, noClause, opens, outputs, Program, programOf, stageAt, stageOf}
 use Rattle.parlog.specs.Rules.{blockAt}
+use Rattle.parlog.specs.Sane.{Sane}
 use Rattle.parlog.specs.Scan.{tally}
 use Rattle.parlog.specs.TableRules.{stateOk}
 use Rattle.parlog.specs.Tables.{State}

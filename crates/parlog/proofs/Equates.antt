@@ -20,7 +20,6 @@ use Rattle.parlog.proofs.Keeps.{state-facts}
 use Rattle.parlog.proofs.Moves.{move-keeps}
 use Rattle.parlog.proofs.Order.{any-order}
 use Rattle.parlog.proofs.Placed.{literal-only}
-use Rattle.parlog.proofs.Sane.{Sane, termIn}
 use Rattle.parlog.proofs.Says.{agrees-below, there}
 use Rattle.parlog.proofs.Solutions.{each-reordered}
 use Rattle.parlog.proofs.Terms.{equate-in}
@@ -32,6 +31,7 @@ use Rattle.parlog.specs.Notions.{Below, Child, deeper, HasTag, me, next-
 use Rattle.parlog.specs.Orders.{a-later-fails, all-stepped, AllAsk, and-asks, and-succeeds, Asks, both-fail, both-succeed, Each, each-fails, each-succeeds, EndAlike, Equations, none-asks, OneFails, Over, Reordered, SameOutcome, StepHolds, Succeed, TermThere, this-fails, with-binding, with-nothing}
 use Rattle.parlog.specs.Program.{argument, literalAt, Program}
 use Rattle.parlog.specs.Relation.{equate-bind, equate-failure, equate-success, Fits, Rule, spotOf}
+use Rattle.parlog.specs.Sane.{Sane, termIn}
 use Rattle.parlog.specs.TableRules.{equalityIn, goalIn, isEquality, literalIn, placesOk, stateOk}
 use Rattle.parlog.specs.Tables.{State}
 use Rattle.parlog.specs.Unify.{bound, changed, clash, Outcome, shift, unify, unifyFrom}

@@ -13,6 +13,7 @@ use Rattle.parlog.proofs.Effects.{apply-count, apply-vars}
 use Rattle.parlog.proofs.Good.{Good, state-good}
 use Rattle.parlog.proofs.Says.{Says, says, says-rule}
 use Rattle.parlog.specs.Delta.{apply, Delta}
+use Rattle.parlog.specs.Demands.{Applies, Makes, NoRoom}
 use Rattle.parlog.specs.Limits.{Limits}
 use Rattle.parlog.specs.Program.{Program}
 use Rattle.parlog.specs.Relation.{Fits, Rule}
@@ -20,25 +21,6 @@ use Rattle.parlog.specs.Rules.{Applied, by-rule, fits, move, moved, no-r
 use Rattle.parlog.specs.TableRules.{stateOk}
 use Rattle.parlog.specs.Tables.{State}
 use Rattle.parlog.specs.declared.Move.{Move}
-
--- the move that a process makes, and the tables after it
-pub record Makes (lim : Limits) (pr : Program) (s : State) (p : ℕ) (m : Move) (s′ : State) : Type 0 where
-  pub delta : Delta
-  pub move : move lim pr s p ≡ moved m delta
-  pub state : s′ ≡ apply s p delta
-
--- some rule applies
-pub record Applies (pr : Program) (s : State) (p : ℕ) : Type 0 where
-  pub rule : Move
-  pub after : State
-  pub holds : Rule pr s p rule after
-
--- one applies whose rows are not left
-pub record NoRoom (lim : Limits) (pr : Program) (s : State) (p : ℕ) : Type 0 where
-  pub rule : Move
-  pub after : State
-  pub holds : Rule pr s p rule after
-  pub full : Fits lim after → ⊥
 
 -- ---- room: what the tables have after a move
 

@@ -14,13 +14,13 @@ use Rattle.parlog.proofs.Keeps.{Ruled, state-facts, state-test}
 use Rattle.parlog.proofs.Made.{goal-place}
 use Rattle.parlog.proofs.Moves.{move-keeps}
 use Rattle.parlog.proofs.RowRules.{kind-known, new-row, Row}
-use Rattle.parlog.proofs.Sane.{allOf, Sane}
 use Rattle.parlog.specs.Codes.{kindOf, starting, tagCode, the-goal}
 use Rattle.parlog.specs.Delta.{apply, Delta}
 use Rattle.parlog.specs.Limits.{Limits}
 use Rattle.parlog.specs.Program.{goalAt, goalBy, Program, tagOfGoal}
 use Rattle.parlog.specs.Rules.{Decision, move, moved, room, still}
 use Rattle.parlog.specs.Run.{given, goalEnded, halt, made, procsIn, runFrom, Running, runStep, runTables, runTest, runTurn, stepBy, stepped, Stepping, stepTables, supplied, supplyTables, supplyValue, turnFor, turnTables, turnTo, ungiven, unmade}
+use Rattle.parlog.specs.Sane.{allOf, Sane}
 use Rattle.parlog.specs.TableRules.{goalIn, goalInBy, kinOk, stateOk, tablesOk}
 use Rattle.parlog.specs.Tables.{fresh, freshTables, goalSpot, newProcess, Tables}
 use Rattle.parlog.specs.Unify.{change, value}

@@ -1,4 +1,6 @@
 -- Laws of the definitions, and the theorems over them.
+pub mod Opened
+pub mod Computed
 pub mod Bools
 pub mod Scans
 pub mod Limits

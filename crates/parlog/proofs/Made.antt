@@ -9,12 +9,13 @@ use borrow.Author.Tests.{le-leb, lt-ltb}
 use native.Mathlib.Omega.{arith}
 use Rattle.parlog.proofs.Bools.{and-true, true-and}
 use Rattle.parlog.proofs.RowRules.{AllNew, kind-known, New, new-process}
-use Rattle.parlog.proofs.Sane.{all-of-append, allOf}
+use Rattle.parlog.proofs.Sane.{all-of-append}
 use Rattle.parlog.specs.Codes.{and-par, and-seq, equate, guard-eval, input-match, Kind, kindOf, or-par, or-search, ready, seq-search, starting, Tag, the-body, the-goal, the-guard, try-clause}
 use Rattle.parlog.specs.Delta.{atBlock, atStage, blockSpot, callSpot, guardSpot, literalSpot, trySpot, withClause}
 use Rattle.parlog.specs.Image.{equality}
 use Rattle.parlog.specs.Program.{blockCount, blockOf, clauseAt, committedBody, Goal, goalAt, goalBy, inBlock, Literal, literalAt, noLiteral, Program, stageAt, tagOfGoal, tagOfLiteral, tagOfStage, varsOf}
 use Rattle.parlog.specs.Rules.{bodyChild, member, members, memberTag, tries, triesVars}
+use Rattle.parlog.specs.Sane.{allOf}
 use Rattle.parlog.specs.Scan.{build, those}
 use Rattle.parlog.specs.TableRules.{blockIn, callIn, clauseIn, equalityIn, foundIn, goalIn, goalInBy, isEquality, literalIn, makesTag, placesOk, stageIn, tryIn}
 use Rattle.parlog.specs.Tables.{goalSpot, newProcess}

@@ -17,13 +17,13 @@ use Rattle.parlog.proofs.Keeps.{apply-keeps, Ruled, Safe, state-facts, 
 use Rattle.parlog.proofs.Kin.{heard-bad, heard-good, lowest-child-at, reports-test}
 use Rattle.parlog.proofs.Made.{block-clauses, new-block, new-body, new-eval, new-guard, new-match, new-members, new-search, new-stage, new-tries, same-at-block, same-at-stage, same-call, same-goal, same-goal-in, same-literal, same-with-clause}
 use Rattle.parlog.proofs.RowRules.{AllNew, call-more, going-quiet, mode-known, notes-none, result-known, result-live, result-told, Row, row-more}
-use Rattle.parlog.proofs.Sane.{allOf, Sane}
 use Rattle.parlog.specs.Codes.{and-par, and-seq, dormant, equate, failure, guard-eval, input-match, isMode, isResult, isTag, Mode, modeCode, modeOf, none, or-par, or-search, ready, reporting, Result, resultCode, seq-search, starting, success, suspended, Tag, tagCode, tagOf, try-clause, waiting}
 use Rattle.parlog.specs.Delta.{apply, atBlock, atStage, blockSpot, Delta, fourOf, making, only, report, reporting-with, withClause, withMode, withNotes, withResult, withSpot, woken}
 use Rattle.parlog.specs.Limits.{Limits}
 use Rattle.parlog.specs.Notions.{Child, Hears, me, Reports}
 use Rattle.parlog.specs.Program.{blockCount, blockOf, clauseAt, Goal, goalAt, literalAt, Program, stageAt}
 use Rattle.parlog.specs.Rules.{andParStart, andParWait, andSeqStart, andSeqWait, Applied, blockAt, bodyChild, by-rule, equateAt, equateStart, fits, guardEvalStart, guardEvalWait, inputMatchStart, matchAt, members, move, moved, no-rule, orParHeard, orParStart, orParWait, orSearchStart, orSearchWait, room, ruleIn, ruleOf, searching, seqSearchNext, seqSearchStart, seqSearchWait, startRule, stopRule, tries, triesVars, tryClauseStart, tryClauseWait, waitRule, wakeRule, withFound, withRoom}
+use Rattle.parlog.specs.Sane.{allOf, Sane}
 use Rattle.parlog.specs.Scan.{implies}
 use Rattle.parlog.specs.TableRules.{allBelow, blockIn, callIn, equalityIn, foundIn, goalIn, goingOk, isEquality, literalIn, makesTag, notesOk, placesOk, resultOk, stageIn, stateOk, succeeds, tryIn}
 use Rattle.parlog.specs.Tables.{idle, newProcess, noted, State}

@@ -13,7 +13,6 @@ use Rattle.parlog.proofs.Bools.{never, not-so, or-false, or-right, spli
 use Rattle.parlog.proofs.Coded.{code-mode}
 use Rattle.parlog.proofs.Computes.{computes}
 use Rattle.parlog.proofs.Effects.{apply-other, sleepsIn}
-use Rattle.parlog.proofs.Exact.{Applies}
 use Rattle.parlog.proofs.Fine.{below-child, child-back, child-forth, Fine, fine}
 use Rattle.parlog.proofs.Good.{state-good}
 use Rattle.parlog.proofs.Kin.{all-at, all-test, any-at, any-test, heard-bad, heard-good, hears-bad, hears-good, Kin, lowest-child-at, lowest-child-none}
@@ -23,7 +22,7 @@ use Rattle.parlog.proofs.Stays.{Grows, grows-const, someBound-stays}
 use Rattle.parlog.proofs.Values.{Falling, value-free}
 use Rattle.parlog.specs.Codes.{and-par, and-seq, dormant, equate, failure, guard-eval, input-match, Mode, modeOf, or-par, or-search, ready, reporting, Result, seq-search, starting, success, suspended, Tag, tagOf, try-clause, waiting}
 use Rattle.parlog.specs.Delta.{apply, Delta, isAt, withMode}
-use Rattle.parlog.specs.Demands.{Stays}
+use Rattle.parlog.specs.Demands.{Applies, Stays}
 use Rattle.parlog.specs.Limits.{Limits}
 use Rattle.parlog.specs.Notions.{AllReport, Child, HasMode, Hears, me, Reports, SomeReports}
 use Rattle.parlog.specs.Program.{Program}

@@ -8,10 +8,11 @@ use lib.ListN.{length}
 use borrow.Author.Tests.{eqb-true, leb-true, lt-ltb, ltb-true}
 use native.Mathlib.Omega.{arith}
 use Rattle.parlog.proofs.Bools.{and-true, true-and}
-use Rattle.parlog.proofs.Sane.{all-of-append, all-of-at, all-of-more, allOf, argsIn, goalTerms, Sane, stageTerms, termIn, termsIn}
+use Rattle.parlog.proofs.Sane.{all-of-append, all-of-at, all-of-more}
 use Rattle.parlog.specs.Codes.{Kind, kindOf, the-body, the-goal, the-guard}
 use Rattle.parlog.specs.Image.{isInput}
 use Rattle.parlog.specs.Program.{argument, before, callModes, clauseAt, committedBody, equation, Goal, goalAt, goalBy, Literal, literalAt, modesAt, noLiteral, outCount, outputs, Program, stageAt, varsOf}
+use Rattle.parlog.specs.Sane.{allOf, argsIn, goalTerms, Sane, stageTerms, termIn, termsIn}
 use Rattle.parlog.specs.TableRules.{clauseIn, goalIn, goalInBy}
 use Rattle.parlog.specs.Unify.{headSide, outAfter, pairOf, pairsOf, shift}
 use Rattle.parlog.specs.declared.Pair.{Pair}

@@ -1,12 +1,11 @@
 -- Marked runs, c1 to c12, computed from the bytes of their images, with the images in order of first mention.
-use mathlib.Core.Path.{_≡_, refl}
+use mathlib.Core.Path.{_≡_}
 use mathlib.Core.List.{[], _++_, _∷_, List}
 use Prim.Native.Nat.{suc, zero, ℕ}
 use lib.ListN.{length}
 use Rattle.parlog.specs.Limits.{small}
 use Rattle.parlog.specs.Load.{loadOf}
 use Rattle.parlog.specs.Numbers.{ruleNumber, touched}
-use Rattle.parlog.specs.Opened.{opened}
 use Rattle.parlog.specs.Program.{Program, programOf}
 use Rattle.parlog.specs.Run.{given, made, Running, runTables, Stepping, Supplying, supplyTables, turnTables, ungiven, unmade}
 use Rattle.parlog.specs.Tables.{at, freshTables, noted, Tables}
@@ -103,7 +102,9 @@ give v c = record { var = v; value = c }
 -- ---- the table
 
 -- c1 to c12
-pub cases : (outcome emptyGoal [] ≡ shown 2 Success 1)
+abbrev pub MarkedRuns : Type 0
+MarkedRuns =
+    (outcome emptyGoal [] ≡ shown 2 Success 1)
     × (outcome (equationGoal 1 1) [] ≡ shown 2 Success 1)
     × (outcome (equationGoal 1 2) [] ≡ shown 2 Failure 1)
     × (outcome (relationP ++ goalP) [] ≡ shown 4 Failure 2)
@@ -118,13 +119,10 @@ pub cases : (outcome emptyGoal [] ≡ shown 2 Success 1)
     × (outcome twice (give 0 7 ∷ give 1 7 ∷ []) ≡ shown 18 Success 7)
     × (outcome [] [] ≡ refused 7 0)
     × (outcome (3 ∷ 0 ∷ 3 ∷ 0 ∷ []) [] ≡ refused 2 0)
-unfolding opened emptyGoal runThrough outcome notesOf
-cases = (refl, refl, refl, refl, refl, refl, refl, refl, refl, refl, refl, refl, refl, refl, refl)
 
 -- c9 with its second variable supplied first
-pub casesMore : (outcome twice (give 1 7 ∷ []) ≡ shown 11 Waiting 6) × (notesOf twice (give 1 7 ∷ []) 4 ≡ 0 ∷ [])
-unfolding opened runThrough outcome notesOf
-casesMore = (refl, refl)
+abbrev pub MarkedMore : Type 0
+MarkedMore = (outcome twice (give 1 7 ∷ []) ≡ shown 11 Waiting 6) × (notesOf twice (give 1 7 ∷ []) 4 ≡ 0 ∷ [])
 
 -- ---- the turns of a run: which process, which rule, and the number of what it touched
 
@@ -152,16 +150,16 @@ unfoldable pub turnsOf : ℕ → List ℕ → List Turn
 turnsOf n s = turnsLoaded (loadOf s) n s
 
 -- the fact p and the goal p: a turn begins behind the process last stepped, and comes round to that one itself
-pub order : turnsOf 20 (relationP ++ factP ++ goalP)
+abbrev pub MarkedTurns : Type 0
+MarkedTurns =
+    turnsOf 20 (relationP ++ factP ++ goalP)
     ≡ turn 0 11 1 ∷ turn 1 16 2 ∷ turn 2 20 3 ∷ turn 3 1 3 ∷ turn 3 23 4 ∷ turn 4 1 4 ∷ turn 5 1 5 ∷ turn 4 26 4
     ∷ turn 5 29 5 ∷ turn 3 24 3 ∷ turn 2 21 2 ∷ turn 1 18 1 ∷ turn 0 12 6 ∷ turn 6 9 6 ∷ turn 0 13 0 ∷ turn 0 3 0 ∷ []
-unfolding opened turnsFrom turnsOf
-order = refl
 
 -- what the runner prints for s(^), s(5), s(A): "steps 16", "end success", "var 0 = 5"
-pub printed : runnerText small (askOne 1 5)
+abbrev pub MarkedText : Type 0
+MarkedText =
+    runnerText small (askOne 1 5)
     ≡ 115 ∷ 116 ∷ 101 ∷ 112 ∷ 115 ∷ 32 ∷ 49 ∷ 54 ∷ 10
     ∷ 101 ∷ 110 ∷ 100 ∷ 32 ∷ 115 ∷ 117 ∷ 99 ∷ 99 ∷ 101 ∷ 115 ∷ 115 ∷ 10
     ∷ 118 ∷ 97 ∷ 114 ∷ 32 ∷ 48 ∷ 32 ∷ 61 ∷ 32 ∷ 53 ∷ 10 ∷ []
-unfolding opened
-printed = refl

@@ -1,7 +1,9 @@
 -- Tags, modes, results and kinds of goals, and the numbers that stand for them in a row.
-use mathlib.Core.Bool.{Bool, not}
-use Prim.Native.Nat.{suc, zero, ℕ}
+use mathlib.Core.Bool.{_||_, Bool, false, not}
+use mathlib.Core.List.{[], _∷_, List}
+use Prim.Native.Nat.{ℕ}
 use lib.Dec.{eqb}
+use lib.ListN.{getD}
 
 -- Tags 1: what a process is for; equality has a tag of its own
 pub data Tag : Type 0 where
@@ -54,46 +56,34 @@ kindCode the-goal = 0
 kindCode the-guard = 1
 kindCode the-body = 2
 
--- ---- and back; an unknown number, which the table rules refuse, reads as the last case
+-- ---- and back: each stands at its number in a list, the last behind it for all numbers from its own on; the table rules refuse those above
 
 -- the tag of a number
 unfoldable pub tagOf : ℕ → Tag
-tagOf zero = and-par
-tagOf (suc zero) = and-seq
-tagOf (suc (suc zero)) = or-par
-tagOf (suc (suc (suc zero))) = seq-search
-tagOf (suc (suc (suc (suc zero)))) = or-search
-tagOf (suc (suc (suc (suc (suc zero))))) = try-clause
-tagOf (suc (suc (suc (suc (suc (suc zero)))))) = input-match
-tagOf (suc (suc (suc (suc (suc (suc (suc zero))))))) = guard-eval
-tagOf (suc (suc (suc (suc (suc (suc (suc (suc n)))))))) = equate
+tagOf n = getD (and-par ∷ and-seq ∷ or-par ∷ seq-search ∷ or-search ∷ try-clause ∷ input-match ∷ guard-eval ∷ []) n equate
 
 -- the mode of a number
 unfoldable pub modeOf : ℕ → Mode
-modeOf zero = dormant
-modeOf (suc zero) = ready
-modeOf (suc (suc zero)) = starting
-modeOf (suc (suc (suc zero))) = waiting
-modeOf (suc (suc (suc (suc zero)))) = reporting
-modeOf (suc (suc (suc (suc (suc n))))) = suspended
+modeOf n = getD (dormant ∷ ready ∷ starting ∷ waiting ∷ reporting ∷ []) n suspended
 
 -- the result of a number
 unfoldable pub resultOf : ℕ → Result
-resultOf zero = none
-resultOf (suc zero) = success
-resultOf (suc (suc n)) = failure
+resultOf n = getD (none ∷ success ∷ []) n failure
 
 -- the kind of goal of a number
 unfoldable pub kindOf : ℕ → Kind
-kindOf zero = the-goal
-kindOf (suc zero) = the-guard
-kindOf (suc (suc n)) = the-body
+kindOf n = getD (the-goal ∷ the-guard ∷ []) n the-body
 
 -- ---- tests
 
 -- a number stands for this tag
 abbrev pub isTag : Tag → ℕ → Bool
 isTag t n = eqb n (tagCode t)
+
+-- a tag is one of these
+abbrev pub isOneOf : List Tag → Tag → Bool
+isOneOf [] t = false
+isOneOf (u ∷ us) t = isTag u (tagCode t) || isOneOf us t
 
 -- a number stands for this mode
 abbrev pub isMode : Mode → ℕ → Bool

@@ -103,7 +103,7 @@ report r x = reporting-with r x []
 abbrev pub making : Process → Found → List Process → ℕ → Delta
 making x nap new fresh = record { me = x; cut = false; nap = nap; new = new; changes = []; fresh = fresh }
 
--- ---- which rows new processes take: today the next ones
+-- ---- which rows new processes take: the next ones
 
 -- Tables 1: no row is used twice, so new processes take the rows behind
 abbrev pub nextRow : State → ℕ

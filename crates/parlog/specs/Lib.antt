@@ -5,6 +5,7 @@ pub mod Codes
 pub mod Records
 pub mod Image
 pub mod Program
+pub mod Sane
 pub mod Body
 pub mod Names
 pub mod Load
@@ -19,7 +20,6 @@ pub mod TableRules
 pub mod Numbers
 pub mod Calls
 pub mod Text
-pub mod Opened
 pub mod Cases
 pub mod Stories
 pub mod Listed

@@ -5,8 +5,9 @@ use mathlib.Core.List.{[], _++_, _∷_, List}
 use Prim.Native.Nat.{_+_, _<_, _≤_, suc, ℕ}
 use lib.ListN.{getD, length, replicate}
 use Rattle.parlog.specs.Clauses.{HasVars, OutputPlaces}
-use Rattle.parlog.specs.Codes.{dormant, guard-eval, Mode, modeCode, ready, reporting, Result, resultCode, Tag, tagCode, try-clause}
+use Rattle.parlog.specs.Codes.{dormant, guard-eval, kindCode, Mode, modeCode, ready, reporting, Result, resultCode, Tag, tagCode, the-body, the-goal, the-guard, try-clause}
 use Rattle.parlog.specs.Delta.{literalSpot, trySpot, withMode, withResult}
+use Rattle.parlog.specs.Image.{equality, inputMode}
 use Rattle.parlog.specs.Listed.{Listed}
 use Rattle.parlog.specs.Program.{Clause, clauseAt, Goal, Literal, modesAt, noLiteral, Program, tagOfLiteral}
 use Rattle.parlog.specs.Tables.{at, bindingOf, newProcess, noted, place, State}
@@ -26,28 +27,28 @@ use Rattle.parlog.specs.declared.Term.the-variants.{Const, Var}
 abbrev pub me : State → ℕ → Process
 me s p = at (s .procs) p
 
--- mode(p)
+-- the mode of p
 abbrev pub HasMode : State → ℕ → Mode → Type 0
 HasMode s p m = me s p .mode ≡ modeCode m
 
--- tag(p)
+-- the tag of p
 abbrev pub HasTag : State → ℕ → Tag → Type 0
 HasTag s p t = me s p .tag ≡ tagCode t
 
--- tag(p) and mode(p)
+-- both
 pub record Is (s : State) (p : ℕ) (t : Tag) (m : Mode) : Type 0 where
   pub tag : HasTag s p t
   pub mode : HasMode s p m
 
 -- ---- children
 
--- parent(c) = p; process 0 has no parent
+-- p is the parent of c; process 0 has no parent
 pub record Child (s : State) (p c : ℕ) : Type 0 where
   pub there : c < length (s .procs)
   pub other : c ≢ 0
   pub parent : me s c .parent ≡ p
 
--- mode(c) = reporting and res(c) = r
+-- c reports r
 pub record Reports (s : State) (c : ℕ) (r : Result) : Type 0 where
   pub mode : HasMode s c reporting
   pub result : me s c .result ≡ resultCode r
@@ -99,25 +100,25 @@ pub record UnderGuard (s : State) (p : ℕ) : Type 0 where
 -- Tags 41: an equation per output argument that the head has a term for, in order; the variables count on from v
 pub record Outputs (ms : List ℕ) (ts : List Term) (v : ℕ) (es : List Literal) : Type 0 where
   pub places : List ℕ
-  pub outputs : Listed (λ i. (getD ms i 0 ≢ 0) × (i < length ts)) places
+  pub outputs : Listed (λ i. (getD ms i inputMode ≢ inputMode) × (i < length ts)) places
   pub count : length es ≡ length places
-  pub equation : (j : ℕ) → j < length places → getD es j noLiteral ≡ record { rel = 255; args = getD ts (getD places j 0) (Const 0) ∷ Var (v + j) ∷ [] }
+  pub equation : (j : ℕ) → j < length places → getD es j noLiteral ≡ record { rel = equality; args = getD ts (getD places j 0) (Const 0) ∷ Var (v + j) ∷ [] }
 
 -- Tags 41: those of a clause
 abbrev pub OutputsOf : Program → Clause → List Literal → Type 0
 OutputsOf pr c es = Outputs (modesAt pr (c .rel)) (c .head) (c .vars) es
 
--- Tags 41: clbody(clause) with its equations
+-- Tags 41: the body of a clause with its equations
 pub data Committed (pr : Program) (c : Clause) : Goal → Type 0 where
   as-it-stands : OutputsOf pr c [] → Committed pr c (c .body)
   one-stage : {e : Literal} {es : List Literal} → OutputsOf pr c (e ∷ es) → c .body ≡ [] → Committed pr c ((e ∷ es) ∷ [])
   in-front : {e : Literal} {es st : List Literal} {g : Goal} → OutputsOf pr c (e ∷ es) → c .body ≡ st ∷ g → Committed pr c ((e ∷ es ++ st) ∷ g)
 
--- goal(p): the image's, a guard, or a committed body
+-- the goal that z names: the image's, a guard, or a committed body
 pub data Works (pr : Program) (z : Spot) : Goal → Type 0 where
-  in-goal : z .kind ≡ 0 → Works pr z (pr .goal)
-  in-guard : z .kind ≡ 1 → Works pr z (clauseAt pr (z .clause) .guard)
-  in-body : {g : Goal} → z .kind ≡ 2 → Committed pr (clauseAt pr (z .clause)) g → Works pr z g
+  in-goal : z .kind ≡ kindCode the-goal → Works pr z (pr .goal)
+  in-guard : z .kind ≡ kindCode the-guard → Works pr z (clauseAt pr (z .clause) .guard)
+  in-body : {g : Goal} → z .kind ≡ kindCode the-body → Committed pr (clauseAt pr (z .clause)) g → Works pr z g
 
 -- the stage that z names there
 pub record AtStage (pr : Program) (z : Spot) (st : List Literal) : Type 0 where
@@ -187,12 +188,12 @@ pub record Matches (base first : ℕ) (ms : List ℕ) (xs ts : List Term) (out :
   pub within : (i : ℕ) → i < length es → (i < length ms) × (i < length xs) × (i < length ts)
   pub all : (i : ℕ) → i < length ms → i < length xs → i < length ts → i < length es
   pub call : (i : ℕ) → i < length es → getD es i noPair .left ≡ shift base (getD xs i (Const 0))
-  pub input : (i : ℕ) → i < length es → getD ms i 0 ≡ 0 → getD es i noPair .right ≡ shift first (getD ts i (Const 0))
+  pub input : (i : ℕ) → i < length es → getD ms i inputMode ≡ inputMode → getD es i noPair .right ≡ shift first (getD ts i (Const 0))
   pub output : (j : ℕ) → j < length places → getD places j 0 < length es → getD es (getD places j 0) noPair .right ≡ Var (first + (out + j))
 
--- Tags 30: in_var: some input argument leads to v
+-- Tags 30: some input argument leads to v
 pub data InputValue (vs : List Binding) (base v : ℕ) : List ℕ → List Term → Type 0 where
-  this-one : {m : ℕ} {ms : List ℕ} {a : Term} {xs : List Term} → m ≡ 0 → Leads vs (shift base a) (Var v) → InputValue vs base v (m ∷ ms) (a ∷ xs)
+  this-one : {m : ℕ} {ms : List ℕ} {a : Term} {xs : List Term} → m ≡ inputMode → Leads vs (shift base a) (Var v) → InputValue vs base v (m ∷ ms) (a ∷ xs)
   a-later : {m : ℕ} {ms : List ℕ} {a : Term} {xs : List Term} → InputValue vs base v ms xs → InputValue vs base v (m ∷ ms) (a ∷ xs)
 
 -- Tags 35: below the first variable of the nearest try-clause, for a process below a guard-eval
@@ -202,7 +203,7 @@ pub record Older (s : State) (p v : ℕ) : Type 0 where
   pub nearest : Nearest s p try
   pub older : v < me s try .spot .first
 
--- Tags 30: susp_var: of what is bound, what was to be held, as it is bound
+-- Tags 30: of what is bound, what was to be held, as it is bound
 pub data Notes (Held : ℕ → Type 0) : List Change → List ℕ → Type 0 where
   none-left : Notes Held [] []
   a-note : {c : Change} {cs : List Change} {ns : List ℕ} → Held (c .var) → Notes Held cs ns → Notes Held (c ∷ cs) (c .var ∷ ns)

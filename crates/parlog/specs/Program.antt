@@ -5,7 +5,7 @@ use Prim.Native.Nat.{_+_, suc, zero, ℕ}
 use lib.Dec.{eqb}
 use lib.ListN.{getD, length}
 use Rattle.parlog.specs.Codes.{and-par, and-seq, equate, Kind, kindOf, or-par, Tag, the-body, the-goal, the-guard}
-use Rattle.parlog.specs.Image.{bodyAt, byteAt, equality, guardAt, isInput, literalEnd, modeEnd, recordAt, recordEnd, stageEnd, termAt, termEnd}
+use Rattle.parlog.specs.Image.{askGoal, askVars, bodyAt, byteAt, clauseArity, clauseHead, clauseMark, clauseRelation, clauseVars, equality, goalSize, goalStages, guardAt, isInput, literalArity, literalEnd, literalRelation, literalTerms, modeEnd, recordAt, recordEnd, relationArity, relationModes, stageEnd, stageLiterals, stageSize, termAt, termEnd}
 use Rattle.parlog.specs.Scan.{listOf, tally, those}
 use Rattle.parlog.specs.declared.Spot.{Spot}
 use Rattle.parlog.specs.declared.Term.{Term}
@@ -40,27 +40,27 @@ pub record Program : Type 0 where
 
 -- Image 11: the literal at a place
 unfoldable pub literalOf : List ℕ → ℕ → Literal
-literalOf s at = record { rel = byteAt s at; args = listOf (termAt s) termEnd (byteAt s (at + 1)) (at + 2) }
+literalOf s at = record { rel = literalRelation s at; args = listOf (termAt s) termEnd (literalArity s at) (literalTerms at) }
 
 -- Image 10: the stage at a place
 unfoldable pub stageOf : List ℕ → ℕ → List Literal
-stageOf s at = listOf (literalOf s) (literalEnd s) (byteAt s at) (at + 1)
+stageOf s at = listOf (literalOf s) (literalEnd s) (stageSize s at) (stageLiterals at)
 
 -- Image 10: the goal at a place
 unfoldable pub goalOf : List ℕ → ℕ → Goal
-goalOf s at = listOf (stageOf s) (stageEnd s) (byteAt s at) (at + 1)
+goalOf s at = listOf (stageOf s) (stageEnd s) (goalSize s at) (goalStages at)
 
 -- Image 3: the modes in a relation's record
 unfoldable pub modesOf : List ℕ → ℕ → List ℕ
-modesOf s at = listOf (byteAt s) modeEnd (byteAt s (at + 4)) (at + 5)
+modesOf s at = listOf (byteAt s) modeEnd (relationArity s at) (relationModes at)
 
 -- Image 5: the clause in a clause's record
 unfoldable pub clauseOf : List ℕ → ℕ → Clause
 clauseOf s at = record {
-  rel = byteAt s (at + 4);
-  mark = byteAt s (at + 6);
-  vars = byteAt s (at + 7);
-  head = listOf (termAt s) termEnd (byteAt s (at + 5)) (at + 8);
+  rel = clauseRelation s at;
+  mark = clauseMark s at;
+  vars = clauseVars s at;
+  head = listOf (termAt s) termEnd (clauseArity s at) (clauseHead at);
   guard = goalOf s (guardAt s at);
   body = goalOf s (bodyAt s at);
 }
@@ -70,8 +70,8 @@ unfoldable pub programOf : List ℕ → ℕ → ℕ → Program
 programOf s r c = record {
   relations = listOf (modesOf s) (recordEnd s) r 0;
   clauses = listOf (clauseOf s) (recordEnd s) c (recordAt s r);
-  goalVars = byteAt s (recordAt s (r + c) + 4);
-  goal = goalOf s (recordAt s (r + c) + 5);
+  goalVars = askVars s (recordAt s (r + c));
+  goal = goalOf s (askGoal (recordAt s (r + c)));
 }
 
 -- ---- read by number; past the end a clause of no relation, and an equality of nothing

@@ -45,7 +45,7 @@ stopRule (suc p) x = no-rule
 
 -- ---- and-par
 
--- Tags 12: a member of the stage is a literal today
+-- Tags 12: a member of the stage is a literal
 unfoldable pub memberTag : Program → Spot → ℕ → Tag
 memberTag pr z j = tagOfLiteral (getD (stageAt pr z) j noLiteral)
 

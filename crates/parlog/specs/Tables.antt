@@ -69,31 +69,43 @@ rowSize = 24
 abbrev pub u16At : List ℕ → ℕ → ℕ
 u16At l i = getD l i 0 + getD l (i + 1) 0 * 256
 
--- the places in row i
+-- where row i begins
+abbrev pub rowAt : ℕ → ℕ
+rowAt i = i * rowSize
+
+-- the byte at this offset in row i
+abbrev pub byteIn : List ℕ → ℕ → ℕ → ℕ
+byteIn l i offset = getD l (rowAt i + offset) 0
+
+-- the two bytes from there
+abbrev pub u16In : List ℕ → ℕ → ℕ → ℕ
+u16In l i offset = u16At l (rowAt i + offset)
+
+-- the places in row i, each field at its offset
 unfoldable pub spotAt : List ℕ → ℕ → Spot
 spotAt l i = record {
-  kind = getD l (i * 24 + 6) 0;
-  clause = getD l (i * 24 + 7) 0;
-  base = u16At l (i * 24 + 8);
-  stage = getD l (i * 24 + 10) 0;
-  literal = getD l (i * 24 + 11) 0;
-  block = getD l (i * 24 + 12) 0;
-  found = getD l (i * 24 + 13) 0;
-  first = u16At l (i * 24 + 14);
+  kind = byteIn l i 6;
+  clause = byteIn l i 7;
+  base = u16In l i 8;
+  stage = byteIn l i 10;
+  literal = byteIn l i 11;
+  block = byteIn l i 12;
+  found = byteIn l i 13;
+  first = u16In l i 14;
 }
 
 -- the notes in row i
 unfoldable pub notesAt : List ℕ → ℕ → List ℕ
-notesAt l i = u16At l (i * 24 + 16) ∷ u16At l (i * 24 + 18) ∷ u16At l (i * 24 + 20) ∷ u16At l (i * 24 + 22) ∷ []
+notesAt l i = u16In l i 16 ∷ u16In l i 18 ∷ u16In l i 20 ∷ u16In l i 22 ∷ []
 
--- row i as a process
+-- row i as a process, each field at its offset
 unfoldable pub processAt : List ℕ → ℕ → Process
 processAt l i = record {
-  tag = getD l (i * 24) 0;
-  mode = getD l (i * 24 + 1) 0;
-  result = getD l (i * 24 + 2) 0;
-  count = getD l (i * 24 + 3) 0;
-  parent = u16At l (i * 24 + 4);
+  tag = getD l (rowAt i) 0;
+  mode = byteIn l i 1;
+  result = byteIn l i 2;
+  count = byteIn l i 3;
+  parent = u16In l i 4;
   spot = spotAt l i;
   notes = notesAt l i;
 }
@@ -130,13 +142,17 @@ procsOf l n = build (processAt l) n
 abbrev pub cellSize : ℕ
 cellSize = 4
 
+-- where row v begins
+abbrev pub cellAt : ℕ → ℕ
+cellAt v = v * cellSize
+
 -- the sort in row v: 0 unbound, 1 a constant, 2 a variable
 abbrev pub sortAt : List ℕ → ℕ → ℕ
-sortAt l v = getD l (v * 4) 0
+sortAt l v = getD l (cellAt v) 0
 
 -- the number in row v, three bytes
 abbrev pub numberAt : List ℕ → ℕ → ℕ
-numberAt l v = getD l (v * 4 + 1) 0 + getD l (v * 4 + 2) 0 * 256 + getD l (v * 4 + 3) 0 * 65536
+numberAt l v = getD l (cellAt v + 1) 0 + getD l (cellAt v + 2) 0 * 256 + getD l (cellAt v + 3) 0 * 65536
 
 -- what sort and number say; an unknown sort, which the table rules refuse, reads as the last case
 unfoldable pub bindingBy : ℕ → ℕ → Binding

@@ -11,12 +11,12 @@ use Rattle.machine.proofs.Held.{count-procs, same-lent, started-good, started-r
 use Rattle.parlog.proofs.Exact.{at-most-one}
 use Rattle.parlog.proofs.Kept.{step-keeps, supply-keeps}
 use Rattle.parlog.proofs.Rows.{rows-length, written-past}
-use Rattle.parlog.proofs.Sane.{Sane}
 use Rattle.parlog.specs.Limits.{Limits, Usable}
 use Rattle.parlog.specs.Load.{loadOf, refusal}
 use Rattle.parlog.specs.Program.{Program, programOf}
 use Rattle.parlog.specs.Relation.{Fits, Rule}
 use Rattle.parlog.specs.Run.{made, Stepping, stepTables, supplied, Supplying, supplyTables, unmade}
+use Rattle.parlog.specs.Sane.{Sane}
 use Rattle.parlog.specs.TableRules.{stateOk, tablesOk}
 use Rattle.parlog.specs.Tables.{bindingBytes, cellSize, freshTables, Lent, procCount, processBytes, putTables, rowsBytes, rowSize, startedLent, State, Tables, tablesIn}
 use Rattle.parlog.specs.declared.Loaded.the-variants.{Accepted}

@@ -28,6 +28,7 @@ use Rattle.parlog.specs.Notions.{HasMode, me}
 use Rattle.parlog.specs.Numbers.{endNumber, stepNumbers, word}
 use Rattle.parlog.specs.Program.{Program, programOf}
 use Rattle.parlog.specs.Run.{goalEnded, goalResult, made, Running, runTables, stepped, Stepping, stepTables, turnFor, turnTables, turnTo, unmade}
+use Rattle.parlog.specs.Sane.{Sane}
 use Rattle.parlog.specs.Scan.{every, implies}
 use Rattle.parlog.specs.TableRules.{countsOk, resultOk, rowOk, stateOk, tablesOk, varOk}
 use Rattle.parlog.specs.Tables.{Lent, putTables, State, Tables, tablesIn}

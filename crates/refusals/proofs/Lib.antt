@@ -8,3 +8,4 @@ pub mod Exactly
 pub mod Places
 pub mod Kinship
 pub mod RuledExactly
+pub mod Computed

@@ -1,12 +1,11 @@
 -- Refusals computed from bytes: each from 1 to 14 once at least, each limit at and past it, their order, offsets, a row's bytes and words.
 -- What is computed here is the load and the calls; for 1 to 8 the relations say the same (proofs/Exactly, proofs/RuledExactly).
-use mathlib.Core.Path.{_≡_, refl}
+use mathlib.Core.Path.{_≡_}
 use mathlib.Core.List.{[], _++_, _∷_, List}
 use Prim.Native.Nat.{_+_, suc, zero, ℕ}
 use lib.ListN.{length, replicate}
 use Rattle.parlog.specs.Cases.{emptyGoal, factP, relationP}
 use Rattle.parlog.specs.Load.{loadOf, refusal}
-use Rattle.parlog.specs.Opened.{opened}
 use Rattle.parlog.specs.declared.Loaded.the-variants.{Accepted, Refused}
 
 -- ---- images
@@ -55,7 +54,9 @@ sixtyFour = times 8 factP ++ times 7 (factOf 0 1 0 ++ times 7 factP)
 -- ---- 1 to 7
 
 -- Refusals 2, 3, 7: CUT, KIND and NOGOAL, at offsets above 0 too
-pub cutsAndKinds : RefusedWith (relationP ++ (1 ∷ [])) 2 5
+abbrev pub CutsAndKindsRefused : Type 0
+CutsAndKindsRefused =
+    RefusedWith (relationP ++ (1 ∷ [])) 2 5
     × RefusedWith (relationP ++ (3 ∷ 0 ∷ 3 ∷ 0 ∷ [])) 2 5
     × RefusedWith (relationP ++ (7 ∷ 0 ∷ 3 ∷ 0 ∷ 0 ∷ 0 ∷ [])) 2 5
     × RefusedWith (recordOf 0 (0 ∷ [])) 3 0
@@ -65,11 +66,11 @@ pub cutsAndKinds : RefusedWith (relationP ++ (1 ∷ [])) 2 5
     × RefusedWith (emptyGoal ++ emptyGoal) 3 6
     × RefusedWith (relationP ++ factP) 7 15
     × RefusedWith [] 7 0
-unfolding opened emptyGoal
-cutsAndKinds = (refl, refl, refl, refl, refl, refl, refl, refl, refl, refl)
 
 -- Refusals 4: BODY, each range at its limit and past it, and fields that end before or behind the record's end
-pub bodies : AcceptedWith (relationWith (0 ∷ 1 ∷ 1 ∷ 0 ∷ []) ++ emptyGoal) 1 0
+abbrev pub BodiesRefused : Type 0
+BodiesRefused =
+    AcceptedWith (relationWith (0 ∷ 1 ∷ 1 ∷ 0 ∷ []) ++ emptyGoal) 1 0
     × RefusedWith (relationWith (0 ∷ 1 ∷ 1 ∷ 0 ∷ 0 ∷ []) ++ emptyGoal) 4 0
     × RefusedWith (relationWith (2 ∷ []) ++ emptyGoal) 4 0
     × AcceptedWith (relationP ++ factOf 0 0 16 ++ emptyGoal) 1 1
@@ -88,11 +89,11 @@ pub bodies : AcceptedWith (relationWith (0 ∷ 1 ∷ 1 ∷ 0 ∷ []) ++ emptyGoa
     × RefusedWith (relationWith (0 ∷ 0 ∷ 0 ∷ 0 ∷ []) ++ goalWith 0 (1 ∷ 1 ∷ 0 ∷ 5 ∷ times 10 (0 ∷ []))) 4 9
     × RefusedWith (goalWith 0 (0 ∷ 0 ∷ [])) 4 0
     × RefusedWith (goalWith 0 (1 ∷ 1 ∷ 255 ∷ 2 ∷ 0 ∷ 0 ∷ 0 ∷ [])) 4 0
-unfolding opened emptyGoal times
-bodies = (refl, refl, refl, refl, refl, refl, refl, refl, refl, refl, refl, refl, refl, refl, refl, refl, refl, refl, refl)
 
 -- Refusals 5: NAME: relations, arities, equality, variables at their count and below, the order of clauses, and the mark of a relation's first clause
-pub names : RefusedWith (goalWith 0 (1 ∷ 1 ∷ callP)) 5 0
+abbrev pub NamesRefused : Type 0
+NamesRefused =
+    RefusedWith (goalWith 0 (1 ∷ 1 ∷ callP)) 5 0
     × RefusedWith (asksP (1 ∷ 1 ∷ 0 ∷ 1 ∷ 0 ∷ 0 ∷ [])) 5 5
     × RefusedWith (goalWith 0 (1 ∷ 1 ∷ 255 ∷ 1 ∷ 0 ∷ 0 ∷ [])) 5 0
     × RefusedWith (relationP ++ factOf 255 0 0 ++ emptyGoal) 5 5
@@ -103,11 +104,11 @@ pub names : RefusedWith (goalWith 0 (1 ∷ 1 ∷ callP)) 5 0
     × RefusedWith (times 3 relationP ++ factOf 2 0 0 ++ factOf 0 0 0 ++ emptyGoal) 5 25
     × RefusedWith (relationP ++ factOf 0 1 0 ++ emptyGoal) 5 5
     × RefusedWith (times 2 relationP ++ factP ++ factOf 1 1 0 ++ emptyGoal) 5 20
-unfolding opened emptyGoal times
-names = (refl, refl, refl, refl, refl, refl, refl, refl, refl, refl, refl)
 
 -- Refusals 6: MANY: 32 relations and one more, 64 clauses and one more, 8 clauses of a block and one more, also of a later block
-pub many : AcceptedWith (times 32 relationP ++ emptyGoal) 32 0
+abbrev pub ManyRefused : Type 0
+ManyRefused =
+    AcceptedWith (times 32 relationP ++ emptyGoal) 32 0
     × RefusedWith (times 33 relationP ++ emptyGoal) 6 160
     × AcceptedWith (relationP ++ sixtyFour ++ emptyGoal) 1 64
     × RefusedWith (relationP ++ sixtyFour ++ factOf 0 1 0 ++ emptyGoal) 6 645
@@ -115,21 +116,19 @@ pub many : AcceptedWith (times 32 relationP ++ emptyGoal) 32 0
     × RefusedWith (relationP ++ times 9 factP ++ emptyGoal) 6 85
     × RefusedWith (relationP ++ factP ++ factOf 0 1 0 ++ times 8 factP ++ emptyGoal) 6 95
     × AcceptedWith (times 2 relationP ++ times 8 factP ++ times 8 (factOf 1 0 0) ++ emptyGoal) 2 16
-unfolding opened emptyGoal times
-many = (refl, refl, refl, refl, refl, refl, refl, refl)
 
 -- Refusals 16, 17: one record with several faults: 2 before 3, 3 before 6, 6 before 4, 4 before 5, 5 before the ninth of a block; and the first record that has one
-pub testOrder : RefusedWith (3 ∷ 0 ∷ 9 ∷ 0 ∷ []) 2 0
+abbrev pub OrderOfTests : Type 0
+OrderOfTests =
+    RefusedWith (3 ∷ 0 ∷ 9 ∷ 0 ∷ []) 2 0
     × RefusedWith (times 32 relationP ++ factP ++ relationP) 3 170
     × RefusedWith (times 32 relationP ++ relationWith (2 ∷ [])) 6 160
     × RefusedWith (relationP ++ sixtyFour ++ factOf 1 2 17) 6 645
     × RefusedWith (relationP ++ factOf 1 0 17) 4 5
     × RefusedWith (relationP ++ times 8 factP ++ recordOf 2 (0 ∷ 1 ∷ 0 ∷ 0 ∷ 0 ∷ 0 ∷ 0 ∷ 0 ∷ [])) 5 85
     × RefusedWith (relationP ++ factOf 1 0 0 ++ relationWith (2 ∷ []) ++ (1 ∷ [])) 5 5
-unfolding opened times
-testOrder = (refl, refl, refl, refl, refl, refl, refl)
 
 -- Refusals 1, 15: LONG: one byte more than 32,768 is refused for that and for nothing else; at 32,768 the first record is looked at
-pub longs : RefusedWith (replicate 32769 0) 1 0 × RefusedWith (replicate 32768 0) 2 0
-unfolding opened
-longs = (refl, refl)
+abbrev pub LongsRefused : Type 0
+LongsRefused =
+    RefusedWith (replicate 32769 0) 1 0 × RefusedWith (replicate 32768 0) 2 0

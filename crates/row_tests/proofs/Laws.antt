@@ -1,16 +1,16 @@
 -- The tests on numbers are the definitions' tests on what the numbers stand for.
-use mathlib.Core.Path.{_∙_, _≡_, ap, refl, sym}
-use mathlib.Core.Bool.{_&&_, _||_, Bool, cond, false, true}
+use mathlib.Core.Path.{_∙_, _≡_, ap, ap₂, refl, sym}
+use mathlib.Core.Bool.{_&&_, _||_, Bool, cond, false, or-comm, true}
 use mathlib.Core.List.{[], _∷_, List}
 use Prim.Native.Nat.{_<_, suc, zero, ℕ}
 use lib.Dec.{eqb, leb, ltb}
 use lib.ListN.{getD, length, take}
 use borrow.Author.Tests.{le-ltb, lt-leb, lt-ltb, ne-eqb}
 use native.Mathlib.Omega.{arith}
-use Rattle.parlog.proofs.Bools.{or-right}
-use Rattle.parlog.specs.Codes.{tagCode, tagOf}
+use Rattle.parlog.proofs.Bools.{or-none, or-right}
+use Rattle.parlog.specs.Codes.{isOneOf, tagCode, tagOf}
 use Rattle.parlog.specs.Scan.{implies}
-use Rattle.parlog.specs.TableRules.{allBelow, bindingOk, isGoalTag, isLiteralTag, makesTag}
+use Rattle.parlog.specs.TableRules.{allBelow, bindingOk, goalTags, literalTags, makesTag}
 use Rattle.parlog.specs.Tables.{bindingBy}
 
 -- ---- tags
@@ -40,7 +40,7 @@ off n k h = ne-eqb _ k (λ e. omega arith)
 over : (n : ℕ) → ltb 7 (suc (suc (suc (suc (suc (suc (suc (suc n)))))))) ≡ true
 over n = lt-ltb 7 (suc (suc (suc (suc (suc (suc (suc (suc n)))))))) (omega arith)
 
-literal-code : (t : ℕ) → literalCode t ≡ isLiteralTag (tagOf t)
+literal-code : (t : ℕ) → literalCode t ≡ isOneOf literalTags (tagOf t)
 unfolding tagOf
 literal-code zero = refl
 literal-code (suc zero) = refl
@@ -52,7 +52,7 @@ literal-code (suc (suc (suc (suc (suc (suc zero)))))) = refl
 literal-code (suc (suc (suc (suc (suc (suc (suc zero))))))) = refl
 literal-code (suc (suc (suc (suc (suc (suc (suc (suc n)))))))) = or-right (eqb (suc (suc (suc (suc (suc (suc (suc (suc n)))))))) 2) _ (over n)
 
-goal-code : (t : ℕ) → goalCode t ≡ isGoalTag (tagOf t)
+goal-code : (t : ℕ) → goalCode t ≡ isOneOf goalTags (tagOf t)
 unfolding tagOf
 goal-code zero = refl
 goal-code (suc zero) = refl
@@ -77,14 +77,17 @@ tag-test (suc (suc (suc (suc (suc (suc zero)))))) k h = refl
 tag-test (suc (suc (suc (suc (suc (suc (suc zero))))))) k h = refl
 tag-test (suc (suc (suc (suc (suc (suc (suc (suc n)))))))) k h = off n k h ∙ sym (off 0 k h)
 
+only-tag : (t k : ℕ) → k < 8 → eqb t k ≡ (eqb (tagCode (tagOf t)) k || false)
+only-tag t k h = tag-test t k h ∙ sym (or-none (eqb (tagCode (tagOf t)) k))
+
 pub makes-code : (up t : ℕ) → makesCode up t ≡ makesTag (tagOf up) (tagOf t)
 unfolding tagOf
 makes-code zero t = literal-code t
-makes-code (suc zero) t = rw (← literal-code t, ← tag-test t 0 (omega arith))
-makes-code (suc (suc zero)) t = rw (← goal-code t, ← tag-test t 3 (omega arith))
-makes-code (suc (suc (suc zero))) t = tag-test t 4 (omega arith)
-makes-code (suc (suc (suc (suc zero)))) t = tag-test t 5 (omega arith)
-makes-code (suc (suc (suc (suc (suc zero))))) t = rw (← tag-test t 6 (omega arith), ← tag-test t 7 (omega arith))
+makes-code (suc zero) t = or-comm (literalCode t) (eqb t 0) ∙ ap₂ (λ a b. a || b) (tag-test t 0 (omega arith)) (literal-code t)
+makes-code (suc (suc zero)) t = ap₂ (λ a b. a || b) (tag-test t 3 (omega arith)) (goal-code t)
+makes-code (suc (suc (suc zero))) t = only-tag t 4 (omega arith)
+makes-code (suc (suc (suc (suc zero)))) t = only-tag t 5 (omega arith)
+makes-code (suc (suc (suc (suc (suc zero))))) t = ap₂ (λ a b. a || b) (tag-test t 6 (omega arith)) (only-tag t 7 (omega arith))
 makes-code (suc (suc (suc (suc (suc (suc zero)))))) t = refl
 makes-code (suc (suc (suc (suc (suc (suc (suc zero))))))) t = goal-code t
 makes-code (suc (suc (suc (suc (suc (suc (suc (suc n)))))))) t =

@@ -12,13 +12,13 @@ use Rattle.parlog.proofs.Bindings.{DecidedIn, equate-decided, match-decided}
 use Rattle.parlog.proofs.Bools.{and-true}
 use Rattle.parlog.proofs.Coded.{code-tag}
 use Rattle.parlog.proofs.Keeps.{state-facts}
-use Rattle.parlog.proofs.Sane.{Sane}
 use Rattle.parlog.proofs.Terms.{literal-terms, sizeAt}
 use Rattle.parlog.specs.Codes.{equate, input-match, Tag, tagCode}
 use Rattle.parlog.specs.Limits.{Limits}
 use Rattle.parlog.specs.Notions.{me}
 use Rattle.parlog.specs.Program.{argument, clauseAt, literalAt, Program, stageAt, varsOf}
 use Rattle.parlog.specs.Rules.{matchAt}
+use Rattle.parlog.specs.Sane.{Sane}
 use Rattle.parlog.specs.TableRules.{callIn, equalityIn, foundIn, goalIn, isEquality, literalIn, placesOk, stateOk, tryIn}
 use Rattle.parlog.specs.Tables.{State}
 use Rattle.parlog.specs.Unify.{binds, Decided, equateOf, fails, suspends}

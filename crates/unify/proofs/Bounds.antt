@@ -9,7 +9,7 @@ use borrow.Author.Tests.{leb-false, leb-true, ltb-true}
 use native.Mathlib.Omega.{arith}
 use Rattle.parlog.proofs.Bindings.{changeIn, changesIn}
 use Rattle.parlog.proofs.Bools.{and-true, split}
-use Rattle.parlog.proofs.Sane.{allOf}
+use Rattle.parlog.specs.Sane.{allOf}
 use Rattle.parlog.specs.TableRules.{bindingOk}
 use Rattle.parlog.specs.Tables.{bindingOf, numberCode}
 use Rattle.parlog.specs.Unify.{bound, changed, chase, clash, follow, joined, meet, meetVars, Outcome, unify, unifyFrom, unifyOne, value, valueOf}
