@@ -12,8 +12,8 @@
  * A call writes only rows that are not const here. A refused call leaves every lent byte as it was.
  *
  * Threads: the library has no data that it writes, so that a call depends on nothing but what it is lent. Any number of calls
- * may run at once, as long as no row that one of them writes is lent to another; rows that all of them only read, an
- * image above all, may be shared. Nothing is locked: calls on the same run are for the caller to take one after another.
+ * may run at once, as long as no row that one of them writes is lent to another: runs of one image side by side, or values
+ * and watches of one run. Nothing is locked; what else is done to one run is for the caller to take one after another.
  *
  * Stack: a call takes at most RISSOBARM_STACK bytes, whatever it is lent; nothing in it calls itself.
  */
@@ -37,22 +37,23 @@ extern "C" {
 /* ---- sizes and limits ---- */
 
 enum {
-    RISSOBARM_IMAGE_LIMIT = 32768,   /* bytes of an image */
-    RISSOBARM_RECORD_HEAD = 4,       /* bytes of a record before its body: two of length, two of kind */
-    RISSOBARM_RELATION_LIMIT = 32,   /* relations of an image */
-    RISSOBARM_CLAUSE_LIMIT = 64,     /* clauses of an image */
-    RISSOBARM_BLOCK_LIMIT = 8,       /* clauses of a parallel block */
-    RISSOBARM_ARITY_LIMIT = 4,       /* arguments of a relation */
-    RISSOBARM_OWN_LIMIT = 16,        /* variables of a clause, or of the goal */
-    RISSOBARM_STAGE_LIMIT = 8,       /* stages of a goal */
-    RISSOBARM_LITERAL_LIMIT = 8,     /* literals of a goal, over all its stages */
+    RISSOBARM_IMAGE_LIMIT = 32768,    /* bytes of an image */
+    RISSOBARM_RECORD_HEAD = 4,        /* bytes of a record before its body: two of length, two of kind */
+    RISSOBARM_RELATION_LIMIT = 32,    /* relations of an image */
+    RISSOBARM_CLAUSE_LIMIT = 64,      /* clauses of an image */
+    RISSOBARM_BLOCK_LIMIT = 8,        /* clauses of a parallel block */
+    RISSOBARM_ARITY_LIMIT = 4,        /* arguments of a relation */
+    RISSOBARM_OWN_LIMIT = 16,         /* variables of a clause, or of the goal */
+    RISSOBARM_STAGE_LIMIT = 8,        /* stages of a goal */
+    RISSOBARM_LITERAL_LIMIT = 8,      /* literals of a goal, over all its stages */
     RISSOBARM_CONSTANT_LIMIT = 32767, /* the highest constant */
-    RISSOBARM_RUN_LIMIT = 65535      /* the highest limit of one run call */
+    RISSOBARM_RUN_LIMIT = 65535       /* the highest limit of one run call */
 };
 
 /*
- * Bytes of stack that are enough for any call. Turn and run take the most: under 3,700 bytes of their own, and some thousand
- * more where the program binds memset, of the C library, at the first call. tests/header/stack.c measures it.
+ * Bytes of stack that are enough for any call. Turn and run take the most: under 3,700 bytes of their own, by the machine code
+ * and as tests/header/stack.c measures it, and some 3,200 more where the C library's memset or memcpy is bound in that very
+ * call (measured with AVX-512; not so in the shared library, which binds them as it is loaded).
  */
 enum { RISSOBARM_STACK = 8192 };
 
