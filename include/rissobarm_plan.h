@@ -113,11 +113,11 @@ struct rissobarm_plan {
 };
 
 /* What every call but load and watch is lent first: rissobarm_turn(RISSOBARM_PLAN_LENT(&run)). */
-#define RISSOBARM_PLAN_LENT(plan)                                                                      \
-    (plan)->image, (plan)->image_len, (plan)->head, sizeof (plan)->head, (plan)->procs, sizeof (plan)->procs, \
+#define RISSOBARM_PLAN_LENT(plan)                                                                                \
+    (plan)->image, (plan)->image_len, (plan)->head, sizeof (plan)->head, (plan)->procs, sizeof (plan)->procs,    \
         (plan)->vars, sizeof (plan)->vars
 
-/* Begins a run of an image, whatever the struct held. Where it is refused, every later call is, as this one was. */
+/* Begins a run of an image, whatever the struct held. Where it is refused, so is every later call but the watch, by the same word. */
 static inline uint64_t rissobarm_plan_start(struct rissobarm_plan *plan, const uint8_t *image, size_t image_len)
 {
     plan->image = image;
