@@ -1,7 +1,8 @@
 # `make` alone tells the targets: those with a text behind two # signs, in this order.
-.PHONY: help run test archive install uninstall bench soak faults clean
+.PHONY: help run test archive shared install uninstall bench soak faults clean
 
-VERSION = 0.1
+VERSION = $(shell sed -n 's/^.define RISSOBARM_VERSION "\(.*\)"$$/\1/p' include/rissobarm.h)
+MAJOR = $(firstword $(subst ., ,$(VERSION)))
 PREFIX = /usr/local
 DESTDIR =
 into = $(DESTDIR)$(PREFIX)
@@ -20,15 +21,23 @@ test: ## the gate: every check and every proof; its last line is `N passed, 0 fa
 archive: ## proves and builds build/librissobarm.a, unless it stands there for these sources
 	@tools/archive
 
-install: archive ## installs the archive, its header and rissobarm.pc below PREFIX (/usr/local)
+shared: ## builds build/librissobarm.so out of the archive
+	@tools/shared
+
+install: shared ## installs archive, shared library, headers and rissobarm.pc below PREFIX (/usr/local)
 	@sed -e 's|@PREFIX@|$(PREFIX)|' -e 's|@VERSION@|$(VERSION)|' rissobarm.pc.in >build/rissobarm.pc
 	install -d '$(into)/lib/pkgconfig' '$(into)/include'
 	install -m 644 build/librissobarm.a '$(into)/lib/librissobarm.a'
-	install -m 644 include/rissobarm.h '$(into)/include/rissobarm.h'
+	install -m 755 build/librissobarm.so.$(VERSION) '$(into)/lib/librissobarm.so.$(VERSION)'
+	ln -sf librissobarm.so.$(VERSION) '$(into)/lib/librissobarm.so.$(MAJOR)'
+	ln -sf librissobarm.so.$(MAJOR) '$(into)/lib/librissobarm.so'
+	install -m 644 include/rissobarm.h include/rissobarm_plan.h '$(into)/include'
 	install -m 644 build/rissobarm.pc '$(into)/lib/pkgconfig/rissobarm.pc'
 
-uninstall: ## takes these three files out again
-	rm -f '$(into)/lib/librissobarm.a' '$(into)/include/rissobarm.h' '$(into)/lib/pkgconfig/rissobarm.pc'
+uninstall: ## takes these files out again
+	rm -f '$(into)/lib/librissobarm.a' '$(into)/include/rissobarm.h' '$(into)/include/rissobarm_plan.h'
+	rm -f '$(into)/lib/librissobarm.so' '$(into)/lib/librissobarm.so.$(MAJOR)' '$(into)/lib/librissobarm.so.$(VERSION)'
+	rm -f '$(into)/lib/pkgconfig/rissobarm.pc'
 
 bench: ## measures the archive beside plain C, RUNS times (5); on x86-64 alone
 	@bench/run $(RUNS)

@@ -15,7 +15,7 @@
  * Ends with 0 where the goal succeeded, 1 failed, 2 still waits when no arrival is left, 3 has no room, 4 where a call was
  * refused that had to be accepted, 5 where the arguments or a file are no good. A refused arrival is told and left out.
  */
-#include "rissobarm.h"
+#include "rissobarm_plan.h"
 
 #include <stdio.h>
 #include <stdlib.h>
@@ -23,17 +23,15 @@
 
 enum { SUCCEEDED = 0, FAILED = 1, WAITS = 2, NO_ROOM = 3, REFUSED = 4, NO_GOOD = 5 };
 enum { FREE = 0, KEY = 1, PLACE = 2, FIELDS = 3 };
-enum { MOST_RECORDS = 5, LAST_RECORD = 9999, LINE_ROOM = 200, SLICE = 50, SLICE_LIMIT = 65535 };
+enum { MOST_RECORDS = 5, LAST_RECORD = 9999, LINE_ROOM = 200, SLICE = 50, SLICE_LIMIT = 1000000 };
 
 static const char *const field_names[FIELDS] = { "free", "key", "place" };
 
-/* A plan, the tables of its run, and what is known of it. */
+/* A plan, its run, and what is known of it. */
 struct job {
     uint8_t image[RISSOBARM_IMAGE_LIMIT + 1];
     size_t length;
-    uint8_t head[RISSOBARM_HEAD_SIZE];
-    uint8_t procs[RISSOBARM_PROCS_SIZE];
-    uint8_t vars[RISSOBARM_VARS_SIZE];
+    struct rissobarm_plan run;
     unsigned records;
     unsigned slice;
     int placed[MOST_RECORDS]; /* whether its place was told */
@@ -46,63 +44,6 @@ struct arrival {
     unsigned steps; /* not before so many */
 };
 
-#define IMAGE(job) (job)->image, (job)->length
-#define TABLES(job) (job)->head, sizeof (job)->head, (job)->procs, sizeof (job)->procs, (job)->vars, sizeof (job)->vars
-
-/* ---- numbers in words ---- */
-
-struct name {
-    unsigned number;
-    const char *words;
-};
-
-/* The words of a number, or those for one that is not there. */
-static const char *words_of(const struct name *names, size_t count, unsigned number, const char *unknown)
-{
-    size_t k;
-
-    for (k = 0; k < count; k++)
-        if (names[k].number == number)
-            return names[k].words;
-    return unknown;
-}
-
-static const char *refusal_words(unsigned refusal)
-{
-    static const struct name names[] = {
-        { RISSOBARM_ACCEPTED, "accepted" },
-        { RISSOBARM_LONG, "LONG, the image is over 32,768 bytes" },
-        { RISSOBARM_CUT, "CUT, a record does not end where the image says" },
-        { RISSOBARM_KIND, "KIND, a record is of no known kind or out of order" },
-        { RISSOBARM_BODY, "BODY, a number in a record is out of range, or its fields do not fill it" },
-        { RISSOBARM_NAME, "NAME, a record names what is not there, or a clause is out of place" },
-        { RISSOBARM_MANY, "MANY, one relation or clause too many" },
-        { RISSOBARM_NOGOAL, "NOGOAL, the image has no goal" },
-        { RISSOBARM_STATE, "STATE, the tables are not those of a run of this image" },
-        { RISSOBARM_NODE, "NODE, there is no such process" },
-        { RISSOBARM_STILL, "STILL, no rule applies" },
-        { RISSOBARM_ROOM, "ROOM, the move needs more rows than are left" },
-        { RISSOBARM_NOVAR, "NOVAR, the goal has no such variable" },
-        { RISSOBARM_BOUND, "BOUND, that variable has its value already" },
-        { RISSOBARM_CONST, "CONST, the value is over 32,767" }
-    };
-
-    return words_of(names, sizeof names / sizeof names[0], refusal, "a refusal that this job does not know");
-}
-
-static const char *tag_name(unsigned tag)
-{
-    static const struct name names[] = {
-        { RISSOBARM_TAG_AND_PAR, "and-par" },         { RISSOBARM_TAG_AND_SEQ, "and-seq" },
-        { RISSOBARM_TAG_OR_PAR, "or-par" },           { RISSOBARM_TAG_SEQ_SEARCH, "seq-search" },
-        { RISSOBARM_TAG_OR_SEARCH, "or-search" },     { RISSOBARM_TAG_TRY_CLAUSE, "try-clause" },
-        { RISSOBARM_TAG_INPUT_MATCH, "input-match" }, { RISSOBARM_TAG_GUARD_EVAL, "guard-eval" },
-        { RISSOBARM_TAG_EQUATE, "equate" }
-    };
-
-    return words_of(names, sizeof names / sizeof names[0], tag, "unknown");
-}
-
 /* Where the image is refused, the offset tells the record. */
 static void say_refusal(const char *call, uint64_t answer)
 {
@@ -111,32 +52,22 @@ static void say_refusal(const char *call, uint64_t answer)
     printf("%s: refused %u", call, refusal);
     if (refusal <= RISSOBARM_NOGOAL)
         printf(" at %u", (unsigned)rissobarm_offset(answer));
-    printf(" (%s)\n", refusal_words(refusal));
-}
-
-/* ---- the tables ---- */
-
-static unsigned word_at(const uint8_t *bytes)
-{
-    return bytes[0] + 256u * bytes[1];
+    printf(" (%s)\n", rissobarm_refusal_text(refusal));
 }
 
 static unsigned steps_made(const struct job *job)
 {
-    return word_at(job->head + RISSOBARM_HEAD_STEPS) + 65536u * word_at(job->head + RISSOBARM_HEAD_STEPS + 2);
-}
-
-static const uint8_t *row_of(const struct job *job, unsigned process)
-{
-    return job->procs + process * RISSOBARM_PROCESS_ROW;
+    return (unsigned)rissobarm_plan_steps(&job->run);
 }
 
 /* The record that a process works for: the literal of the goal that the topmost process above it has. */
 static unsigned record_of(const struct job *job, unsigned process)
 {
-    while (word_at(row_of(job, process) + RISSOBARM_ROW_PARENT) != 0)
-        process = word_at(row_of(job, process) + RISSOBARM_ROW_PARENT);
-    return row_of(job, process)[RISSOBARM_ROW_LITERAL] + 1u;
+    const uint8_t *row = rissobarm_plan_row(&job->run, process);
+
+    while (rissobarm_word_at(row + RISSOBARM_ROW_PARENT) != 0)
+        row = rissobarm_plan_row(&job->run, rissobarm_word_at(row + RISSOBARM_ROW_PARENT));
+    return row[RISSOBARM_ROW_LITERAL] + 1u;
 }
 
 /* ---- what is told ---- */
@@ -147,7 +78,7 @@ static void tell_places(struct job *job)
     unsigned r;
 
     for (r = 0; r < job->records; r++) {
-        uint64_t value = rissobarm_value(IMAGE(job), TABLES(job), FIELDS * r + PLACE);
+        uint64_t value = rissobarm_plan_value(&job->run, FIELDS * r + PLACE);
 
         if (job->placed[r] || rissobarm_refusal(value) != RISSOBARM_ACCEPTED)
             continue;
@@ -166,17 +97,17 @@ static int is_goal_variable(const struct job *job, unsigned variable)
 /* A suspended process that waits for a goal variable; 0 where it waits for values from inside the plan. */
 static int tell_suspended(const struct job *job, unsigned process)
 {
-    const uint8_t *row = row_of(job, process);
+    const uint8_t *row = rissobarm_plan_row(&job->run, process);
     unsigned k, told = 0;
 
     for (k = 0; k < row[RISSOBARM_ROW_NOTE_COUNT]; k++) {
-        unsigned variable = word_at(row + RISSOBARM_ROW_NOTES + 2 * k);
+        unsigned variable = rissobarm_word_at(row + RISSOBARM_ROW_NOTES + 2 * k);
 
         if (!is_goal_variable(job, variable))
             continue;
         if (told++ == 0)
-            printf("  process %u (%s, clause %u, record %u) waits for", process, tag_name(row[RISSOBARM_ROW_TAG]),
-                   row[RISSOBARM_ROW_FOUND], record_of(job, process));
+            printf("  process %u (%s, clause %u, record %u) waits for", process,
+                   rissobarm_tag_text(row[RISSOBARM_ROW_TAG]), row[RISSOBARM_ROW_FOUND], record_of(job, process));
         printf(" %s of record %u", field_names[variable % FIELDS], variable / FIELDS + 1);
     }
     if (told > 0)
@@ -184,27 +115,22 @@ static int tell_suspended(const struct job *job, unsigned process)
     return told > 0;
 }
 
-/* Every suspended process, found by watching the rows behind the one found last; then one step, which has to be refused. */
+/* Every suspended process, each found by a watch from behind the one before; then one step, which has to be refused. */
 static void tell_waiting(struct job *job)
 {
-    unsigned used = word_at(job->head + RISSOBARM_HEAD_PROCS), from = 0, first = 0, all = 0, told = 0;
+    uint64_t seen = rissobarm_plan_watch(&job->run, 0);
+    unsigned first = (unsigned)rissobarm_watch_number(seen), all = 0, told = 0;
 
     printf("step %u: waiting\n", steps_made(job));
-    while (from < used) {
-        uint64_t seen = rissobarm_watch(row_of(job, from), (size_t)(used - from) * RISSOBARM_PROCESS_ROW);
-
-        if (!rissobarm_watch_found(seen))
-            break;
-        from += (unsigned)rissobarm_watch_number(seen);
-        if (all++ == 0)
-            first = from;
-        told += (unsigned)tell_suspended(job, from);
-        from++;
+    while (rissobarm_watch_found(seen)) {
+        told += (unsigned)tell_suspended(job, (unsigned)rissobarm_watch_number(seen));
+        all++;
+        seen = rissobarm_plan_watch(&job->run, rissobarm_watch_number(seen) + 1);
     }
     printf("  %u more wait for values from inside the plan\n", all - told);
     if (all > 0) {
         printf("  process %u, ", first);
-        say_refusal("stepped by number", rissobarm_step(IMAGE(job), TABLES(job), first));
+        say_refusal("stepped by number", rissobarm_plan_step(&job->run, first));
     }
 }
 
@@ -212,8 +138,8 @@ static void tell_waiting(struct job *job)
 static void tell_room(struct job *job)
 {
     printf("step %u: no room, with %u processes and %u variables\n  ", steps_made(job),
-           word_at(job->head + RISSOBARM_HEAD_PROCS), word_at(job->head + RISSOBARM_HEAD_VARS));
-    say_refusal("the next turn", rissobarm_turn(IMAGE(job), TABLES(job)));
+           rissobarm_plan_processes(&job->run), rissobarm_plan_variables(&job->run));
+    say_refusal("the next turn", rissobarm_plan_turn(&job->run));
 }
 
 /* ---- arrivals ---- */
@@ -252,7 +178,7 @@ static void look_ahead(struct arrival *next)
 static void deliver(struct job *job, struct arrival *next)
 {
     unsigned variable = FIELDS * (next->record - 1) + next->field;
-    uint64_t answer = rissobarm_supply(IMAGE(job), TABLES(job), variable, next->value);
+    uint64_t answer = rissobarm_plan_supply(&job->run, variable, next->value);
 
     printf("step %u: %s of record %u arrives as %u\n", steps_made(job), field_names[next->field], next->record,
            next->value);
@@ -279,8 +205,8 @@ static int after_slice(struct job *job, struct arrival *next, unsigned end)
     case RISSOBARM_END_SUCCESS:
     case RISSOBARM_END_FAILURE:
         printf("step %u: the goal has %s, with %u processes and %u variables\n", steps_made(job),
-               end == RISSOBARM_END_SUCCESS ? "succeeded" : "failed", word_at(job->head + RISSOBARM_HEAD_PROCS),
-               word_at(job->head + RISSOBARM_HEAD_VARS));
+               end == RISSOBARM_END_SUCCESS ? "succeeded" : "failed", rissobarm_plan_processes(&job->run),
+               rissobarm_plan_variables(&job->run));
         return end == RISSOBARM_END_SUCCESS ? SUCCEEDED : FAILED;
     case RISSOBARM_END_WAITING:
         tell_waiting(job);
@@ -302,7 +228,7 @@ static int after_slice(struct job *job, struct arrival *next, unsigned end)
 static int work(struct job *job)
 {
     struct arrival next = { 0, 0, 0, 0, 0 };
-    uint64_t answer = rissobarm_start(IMAGE(job), TABLES(job));
+    uint64_t answer = rissobarm_plan_start(&job->run, job->image, job->length);
     int how = -1;
 
     if (rissobarm_refusal(answer) != RISSOBARM_ACCEPTED) {
@@ -310,7 +236,7 @@ static int work(struct job *job)
         return REFUSED;
     }
     while (how < 0) {
-        answer = rissobarm_run(IMAGE(job), TABLES(job), (uint16_t)job->slice);
+        answer = rissobarm_plan_run(&job->run, job->slice);
         if (rissobarm_refusal(answer) != RISSOBARM_ACCEPTED) {
             say_refusal("run", answer);
             return REFUSED;
@@ -347,7 +273,7 @@ int main(int count, char **words)
         fprintf(stderr, "index_job: 1 to %d records, slices of 1 to %d steps\n", MOST_RECORDS, SLICE_LIMIT);
         return NO_GOOD;
     }
-    answer = rissobarm_load(IMAGE(&job));
+    answer = rissobarm_load(job.image, job.length);
     if (rissobarm_refusal(answer) != RISSOBARM_ACCEPTED) {
         say_refusal("load", answer);
         return REFUSED;

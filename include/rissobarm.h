@@ -1,5 +1,6 @@
 /*
- * The PARLOG process machine as a C library: link librissobarm.a (x86-64 Linux).
+ * The PARLOG process machine as a C library: link librissobarm.a or librissobarm.so (x86-64 Linux). rissobarm_plan.h puts a
+ * plan and its rows into one struct, with shorter calls, and has a text for each number.
  *
  * A plan is an image, a row of bytes. A run of it lives in three byte rows that the caller lends to each call: a head, the
  * process table and the variable table (docs/LAYOUT.md has every byte). Between two calls the rows are the whole run: a
@@ -9,6 +10,12 @@
  * is readable (and writable where it is not const) over the whole length. Rows lent to one call do not overlap.
  * No call keeps a pointer, allocates memory or fails in any other way than by a refusal in its answer.
  * A call writes only rows that are not const here. A refused call leaves every lent byte as it was.
+ *
+ * Threads: the library has no data that it writes, so that a call depends on nothing but what it is lent. Any number of calls
+ * may run at once, as long as no row that one of them writes is lent to another: runs of one image side by side, or values
+ * and watches of one run. Nothing is locked; what else is done to one run is for the caller to take one after another.
+ *
+ * Stack: a call takes at most RISSOBARM_STACK bytes, whatever it is lent; nothing in it calls itself.
  */
 #ifndef RISSOBARM_H
 #define RISSOBARM_H
@@ -20,20 +27,35 @@
 extern "C" {
 #endif
 
+/* ---- version ---- */
+
+/* The major number is that of the shared library's name too; it goes up when the size of a row or the answer of a call changes. */
+#define RISSOBARM_VERSION "0.1"
+#define RISSOBARM_VERSION_MAJOR 0
+#define RISSOBARM_VERSION_MINOR 1
+
 /* ---- sizes and limits ---- */
 
 enum {
-    RISSOBARM_IMAGE_LIMIT = 32768,   /* bytes of an image */
-    RISSOBARM_RECORD_HEAD = 4,       /* bytes of a record before its body: two of length, two of kind */
-    RISSOBARM_RELATION_LIMIT = 32,   /* relations of an image */
-    RISSOBARM_CLAUSE_LIMIT = 64,     /* clauses of an image */
-    RISSOBARM_BLOCK_LIMIT = 8,       /* clauses of a parallel block */
-    RISSOBARM_ARITY_LIMIT = 4,       /* arguments of a relation */
-    RISSOBARM_OWN_LIMIT = 16,        /* variables of a clause, or of the goal */
-    RISSOBARM_STAGE_LIMIT = 8,       /* stages of a goal */
-    RISSOBARM_LITERAL_LIMIT = 8,     /* literals of a goal, over all its stages */
-    RISSOBARM_CONSTANT_LIMIT = 32767 /* the highest constant */
+    RISSOBARM_IMAGE_LIMIT = 32768,    /* bytes of an image */
+    RISSOBARM_RECORD_HEAD = 4,        /* bytes of a record before its body: two of length, two of kind */
+    RISSOBARM_RELATION_LIMIT = 32,    /* relations of an image */
+    RISSOBARM_CLAUSE_LIMIT = 64,      /* clauses of an image */
+    RISSOBARM_BLOCK_LIMIT = 8,        /* clauses of a parallel block */
+    RISSOBARM_ARITY_LIMIT = 4,        /* arguments of a relation */
+    RISSOBARM_OWN_LIMIT = 16,         /* variables of a clause, or of the goal */
+    RISSOBARM_STAGE_LIMIT = 8,        /* stages of a goal */
+    RISSOBARM_LITERAL_LIMIT = 8,      /* literals of a goal, over all its stages */
+    RISSOBARM_CONSTANT_LIMIT = 32767, /* the highest constant */
+    RISSOBARM_RUN_LIMIT = 65535       /* the highest limit of one run call */
 };
+
+/*
+ * Bytes of stack that are enough for any call. Turn and run take the most: under 3,700 bytes of their own, by the machine code
+ * and as tests/header/stack.c measures it, and some 3,200 more where the C library's memset or memcpy is bound in that very
+ * call (measured with AVX-512; not so in the shared library, which binds them as it is loaded).
+ */
+enum { RISSOBARM_STACK = 8192 };
 
 /* The three rows of a run; a row that is lent with another length is refused 8. Only the watch takes any length. */
 enum {
@@ -319,7 +341,8 @@ static inline uint32_t rissobarm_touched(uint64_t answer)
 /*
  * Makes turns until the goal has ended, nothing can move, the limit is used up, or there is no room: the first of these
  * that holds, in that order, also with limit 0. Accepted: the end in bits 8-15, the steps made by this call in bits
- * 32-63. Refused: 1 to 8; want of room is an end here, with every step before it kept.
+ * 32-63. Refused: 1 to 8; want of room is an end here, with every step before it kept. A limit has 16 bits: C makes 65,536
+ * into 0, by which a loop up to the budget never ends; rissobarm_plan_run takes one of 32 bits.
  */
 uint64_t rissobarm_run(const uint8_t *image, size_t image_len, uint8_t *head, size_t head_len,
                        uint8_t *procs, size_t procs_len, uint8_t *vars, size_t vars_len,

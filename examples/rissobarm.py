@@ -1,0 +1,51 @@
+"""The PARLOG process machine from Python: a Plan is a run of an image, in rows that it lends to librissobarm.so."""
+import ctypes
+
+LIMIT = 65535  # of one run call
+ENDS = {1: 'success', 2: 'failure', 3: 'waiting', 4: 'room', 5: 'budget'}
+ROWS = (10, 12288, 4096)  # bytes of head, processes and variables
+LIBRARY = ctypes.CDLL('librissobarm.so.0')
+
+
+class Refused(Exception):
+    """A refused call: its number, and for 1 to 7 the offset of the record."""
+
+    def __init__(self, word):
+        self.number, self.offset = word & 255, word >> 32
+        super().__init__('refused %d at %d' % (self.number, self.offset))
+
+
+class Plan:
+    """A run of an image; each call raises Refused or answers what its word tells."""
+
+    def __init__(self, image):
+        rows = [ctypes.create_string_buffer(image, len(image) + 1)] + [ctypes.create_string_buffer(size) for size in ROWS]
+        sizes = map(ctypes.c_size_t, (len(image),) + ROWS)
+        self.lent = [part for pair in zip(rows, sizes) for part in pair]
+        self.call('start')
+
+    def call(self, name, *numbers):
+        function = getattr(LIBRARY, 'rissobarm_' + name)
+        function.restype = ctypes.c_uint64
+        word = function(*self.lent, *map(ctypes.c_uint32, numbers))
+        if word & 255:
+            raise Refused(word)
+        return word
+
+    def run(self, limit):
+        """Makes turns: how it ended, and how many were made. A call takes 16 bits of limit, so there may be several."""
+        made = 0
+        while True:
+            word = self.call('run', min(limit - made, LIMIT))
+            made += word >> 32
+            end = ENDS[word >> 8 & 255]
+            if end != 'budget' or made == limit:
+                return end, made
+
+    def supply(self, variable, value):
+        self.call('supply', variable, value)
+
+    def value(self, variable):
+        """A constant, or None where it is open."""
+        word = self.call('value', variable)
+        return word >> 32 if word >> 8 & 255 == 1 else None

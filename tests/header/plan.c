@@ -1,0 +1,148 @@
+/* The calls of rissobarm_plan.h on small plans, and its run with limits on both sides of what one run call takes. */
+#include "longrun.h"
+
+#include <stdio.h>
+#include <string.h>
+
+/* mode q(?), fact q(1), goal q(A) */
+static const uint8_t waits[] = {
+    6,  0, RISSOBARM_RECORD_RELATION, 0, 1, 0,
+    12, 0, RISSOBARM_RECORD_CLAUSE,   0, 0, 1, 0, 0, 1, 0, 0, 0,
+    11, 0, RISSOBARM_RECORD_GOAL,     0, 1, 1, 1, 0, 1, 0, RISSOBARM_TERM_VARIABLE / 256,
+};
+/* mode p, p <- p, goal p */
+static const uint8_t fills[] = {
+    5,  0, RISSOBARM_RECORD_RELATION, 0, 0,
+    13, 0, RISSOBARM_RECORD_CLAUSE,   0, 0, 0, 0, 0, 0, 1, 1, 0, 0,
+    9,  0, RISSOBARM_RECORD_GOAL,     0, 0, 1, 1, 0, 0,
+};
+
+/* Steps that these runs make, by the marked runs of docs/MACHINE.md; how many the long one does, to be found in a first run. */
+enum { TILL_WAITING = 9, TILL_SUCCESS = 18, TILL_ROOM = 1106, SMALL_SLICE = 1000, LARGE_LIMIT = 100000 };
+
+static struct rissobarm_plan run, other;
+static unsigned wrong, tried;
+
+static void hold(const char *what, int holds)
+{
+    tried++;
+    if (!holds) {
+        wrong++;
+        printf("plan: not so: %s\n", what);
+    }
+}
+
+/* Whether a run's word has no refusal, this end and this count, and nothing else. */
+static int ran(uint64_t answer, unsigned end, uint32_t steps)
+{
+    return answer == ((uint64_t)steps << 32 | (uint64_t)end << 8);
+}
+
+static int same_rows(void)
+{
+    return memcmp(run.head, other.head, sizeof run.head) == 0 && memcmp(run.procs, other.procs, sizeof run.procs) == 0 &&
+           memcmp(run.vars, other.vars, sizeof run.vars) == 0;
+}
+
+static void try_waiting(void)
+{
+    uint64_t seen, step;
+
+    hold("start", rissobarm_plan_start(&run, waits, sizeof waits) == RISSOBARM_ACCEPTED);
+    hold("limit 0", ran(rissobarm_plan_run(&run, 0), RISSOBARM_END_BUDGET, 0));
+    step = rissobarm_plan_step(&run, 0);
+    hold("step", rissobarm_rule(step) == RISSOBARM_RULE_OR_PAR_START && rissobarm_touched(step) == 1);
+    hold("turn", rissobarm_rule(rissobarm_plan_turn(&run)) == RISSOBARM_RULE_SEQ_SEARCH_START);
+    hold("waiting", ran(rissobarm_plan_run(&run, LARGE_LIMIT), RISSOBARM_END_WAITING, TILL_WAITING - 2));
+    hold("still waiting", ran(rissobarm_plan_run(&run, UINT32_MAX), RISSOBARM_END_WAITING, 0));
+    seen = rissobarm_plan_watch(&run, 0);
+    hold("watch", rissobarm_watch_found(seen) && rissobarm_watch_number(seen) == 4);
+    hold("watch from there", rissobarm_plan_watch(&run, 4) == seen);
+    hold("watch behind", !rissobarm_watch_found(rissobarm_plan_watch(&run, 5)));
+    hold("watch past all", rissobarm_plan_watch(&run, UINT32_MAX) == 0);
+    hold("row", rissobarm_plan_row(&run, 4)[RISSOBARM_ROW_MODE] == RISSOBARM_MODE_SUSPENDED);
+    hold("open", rissobarm_value_sort(rissobarm_plan_value(&run, 0)) == RISSOBARM_SORT_VARIABLE);
+    hold("no such variable", rissobarm_refusal(rissobarm_plan_supply(&run, 1, 1)) == RISSOBARM_NOVAR);
+    hold("supply", rissobarm_plan_supply(&run, 0, 1) == RISSOBARM_ACCEPTED);
+    hold("value", rissobarm_value_number(rissobarm_plan_value(&run, 0)) == 1);
+    hold("success", ran(rissobarm_plan_run(&run, RISSOBARM_RUN_LIMIT), RISSOBARM_END_SUCCESS, TILL_SUCCESS - TILL_WAITING));
+    hold("after the end", ran(rissobarm_plan_run(&run, 0), RISSOBARM_END_SUCCESS, 0));
+    hold("steps", rissobarm_plan_steps(&run) == TILL_SUCCESS);
+    hold("turn refused", rissobarm_refusal(rissobarm_plan_turn(&run)) == RISSOBARM_STILL);
+}
+
+static void try_room(void)
+{
+    rissobarm_plan_start(&run, fills, sizeof fills);
+    hold("room", ran(rissobarm_plan_run(&run, LARGE_LIMIT), RISSOBARM_END_ROOM, TILL_ROOM));
+    hold("full", rissobarm_plan_processes(&run) == RISSOBARM_PROCESS_LIMIT && rissobarm_plan_variables(&run) == 0);
+}
+
+/* A refused start leaves a plan that every call refuses alike, with the offset where it was. */
+static void try_refused(void)
+{
+    uint64_t answer = rissobarm_plan_start(&run, waits, sizeof waits - 1);
+
+    hold("refused", rissobarm_refusal(answer) == RISSOBARM_CUT && rissobarm_offset(answer) == 18);
+    hold("run refused", rissobarm_plan_run(&run, LARGE_LIMIT) == answer);
+    hold("step refused", rissobarm_plan_step(&run, 0) == answer);
+    hold("turn refused too", rissobarm_plan_turn(&run) == answer);
+    hold("supply refused", rissobarm_plan_supply(&run, 0, 1) == answer);
+    hold("value refused", rissobarm_plan_value(&run, 0) == answer);
+}
+
+/* The long run by the calls themselves, a thousand steps at a time. */
+static uint32_t run_by_slices(struct rissobarm_plan *plan)
+{
+    uint32_t made = 0;
+    uint64_t answer;
+
+    longrun_fill(plan);
+    do {
+        answer = rissobarm_run(RISSOBARM_PLAN_LENT(plan), SMALL_SLICE);
+        made += rissobarm_steps(answer);
+    } while (rissobarm_refusal(answer) == RISSOBARM_ACCEPTED && rissobarm_end(answer) == RISSOBARM_END_BUDGET);
+    return made;
+}
+
+/* Runs both from the beginning up to limit, the other by calls of rissobarm_run with these two slices. */
+static void try_limit(uint32_t limit, uint16_t first, uint16_t second)
+{
+    longrun_fill(&run);
+    longrun_fill(&other);
+    hold("long: budget", ran(rissobarm_plan_run(&run, limit), RISSOBARM_END_BUDGET, limit));
+    rissobarm_run(RISSOBARM_PLAN_LENT(&other), first);
+    rissobarm_run(RISSOBARM_PLAN_LENT(&other), second);
+    hold("long: the same bytes", same_rows());
+    hold("long: the steps in the head", rissobarm_plan_steps(&run) == limit);
+}
+
+static void try_long(void)
+{
+    uint32_t all = run_by_slices(&other);
+
+    hold("long enough", all > LARGE_LIMIT);
+    longrun_fill(&run);
+    hold("long: to the end", ran(rissobarm_plan_run(&run, UINT32_MAX), RISSOBARM_END_SUCCESS, all));
+    hold("long: the same bytes at the end", same_rows());
+    longrun_fill(&run);
+    hold("long: the limit is what it makes", ran(rissobarm_plan_run(&run, all), RISSOBARM_END_SUCCESS, all));
+    longrun_fill(&run);
+    hold("long: one step less", ran(rissobarm_plan_run(&run, all - 1), RISSOBARM_END_BUDGET, all - 1));
+    hold("long: the last step", ran(rissobarm_plan_run(&run, 1), RISSOBARM_END_SUCCESS, 1));
+    try_limit(0, 0, 0);
+    try_limit(RISSOBARM_RUN_LIMIT, RISSOBARM_RUN_LIMIT, 0);
+    try_limit(RISSOBARM_RUN_LIMIT + 1, RISSOBARM_RUN_LIMIT, 1);
+    try_limit(LARGE_LIMIT, LARGE_LIMIT / 2, LARGE_LIMIT / 2);
+    printf("plan: a run of %u steps, over %d, cut at five limits\n", (unsigned)all, RISSOBARM_RUN_LIMIT);
+}
+
+int main(void)
+{
+    try_waiting();
+    try_room();
+    try_refused();
+    try_long();
+    printf("plan: %u tried, %u wrong\n", tried, wrong);
+    return wrong != 0;
+}

@@ -1,0 +1,108 @@
+/*
+ * How much stack each call takes: it runs on a painted stack, and what is not paint afterwards was used. On the largest images
+ * that are accepted, over whole runs turn by turn, and on tables with every row in use.
+ */
+#define _XOPEN_SOURCE 700
+#include "images.h"
+#include "longrun.h"
+
+#include <stdio.h>
+#include <string.h>
+#include <ucontext.h>
+
+enum { STACK_ROOM = 262144, PAINT = 0xA5, IMAGES = 20, LARGE_RUN = 5000 };
+enum deed { NOTHING, LOAD, START, STEP, TURN, RUN, SUPPLY, VALUE, WATCH, DEEDS };
+
+static const char *const names[DEEDS] = { "nothing", "load", "start", "step", "turn", "run", "supply", "value", "watch" };
+
+static uint8_t stack[STACK_ROOM];
+static ucontext_t here, there;
+static struct rissobarm_plan plan;
+static struct image image;
+static enum deed next;
+static uint64_t answer;
+static size_t most[DEEDS];
+
+/* Makes the call that is next; the same frame for each, so that what nothing takes can be taken off. */
+static void make(void)
+{
+    switch (next) {
+    case LOAD: answer = rissobarm_load(plan.image, plan.image_len); break;
+    case START: answer = rissobarm_start(RISSOBARM_PLAN_LENT(&plan)); break;
+    case STEP: answer = rissobarm_step(RISSOBARM_PLAN_LENT(&plan), rissobarm_word_at(plan.head + RISSOBARM_HEAD_LAST)); break;
+    case TURN: answer = rissobarm_turn(RISSOBARM_PLAN_LENT(&plan)); break;
+    case RUN: answer = rissobarm_run(RISSOBARM_PLAN_LENT(&plan), LARGE_RUN); break;
+    case SUPPLY: answer = rissobarm_supply(RISSOBARM_PLAN_LENT(&plan), 0, 1); break;
+    case VALUE: answer = rissobarm_value(RISSOBARM_PLAN_LENT(&plan), 0); break;
+    case WATCH: answer = rissobarm_watch(plan.procs, sizeof plan.procs); break;
+    default: break;
+    }
+}
+
+/* Makes a call on the painted stack, and notes how far down it went. */
+static void measure(enum deed deed)
+{
+    size_t untouched = 0;
+
+    memset(stack, PAINT, sizeof stack);
+    getcontext(&there);
+    there.uc_stack.ss_sp = stack;
+    there.uc_stack.ss_size = sizeof stack;
+    there.uc_link = &here;
+    next = deed;
+    makecontext(&there, make, 0);
+    swapcontext(&here, &there);
+    while (untouched < sizeof stack && stack[untouched] == PAINT)
+        untouched++;
+    if (sizeof stack - untouched > most[deed])
+        most[deed] = sizeof stack - untouched;
+}
+
+/* Every call where the run stands; a step may be refused, as it may in a program. */
+static void measure_all(void)
+{
+    measure(NOTHING);
+    measure(LOAD);
+    measure(VALUE);
+    measure(WATCH);
+    measure(STEP);
+    measure(SUPPLY);
+}
+
+/* A whole run of one of the largest images: turn by turn, then from the start by one run call. */
+static void measure_image(struct random *random)
+{
+    unsigned turns = 0;
+
+    image_by_recipe(&image, random, &full_recipe);
+    rissobarm_plan_start(&plan, image.bytes, image.length);
+    do {
+        measure(TURN);
+    } while (rissobarm_refusal(answer) == RISSOBARM_ACCEPTED && ++turns < LARGE_RUN);
+    measure_all();
+    measure(START);
+    measure(RUN);
+}
+
+int main(void)
+{
+    struct random random = { 1 };
+    unsigned k;
+    int good = 1;
+
+    for (k = 0; k < IMAGES; k++)
+        measure_image(&random);
+    longrun_fill(&plan);
+    measure(TURN);
+    measure_all();
+    measure(RUN);
+    for (k = LOAD; k < DEEDS; k++) {
+        size_t taken = most[k] - most[NOTHING];
+
+        printf("stack: %s takes %u bytes\n", names[k], (unsigned)taken);
+        if (taken > RISSOBARM_STACK)
+            good = 0;
+    }
+    printf("stack: %s %d bytes\n", good ? "none takes more than" : "FAILED, some call takes more than", RISSOBARM_STACK);
+    return good ? 0 : 1;
+}
