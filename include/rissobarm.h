@@ -165,8 +165,8 @@ enum {
     RISSOBARM_STILL = 10,   /* it has nothing to do */
     RISSOBARM_ROOM = 11,    /* its move does not fit into the tables any more */
     RISSOBARM_NOVAR = 12,   /* the goal has no such variable */
-    RISSOBARM_BOUND = 13,   /* that variable has its value */
-    RISSOBARM_CONST = 14,   /* the value is no constant of an image */
+    RISSOBARM_BOUND = 13,   /* the value of that variable is a constant already */
+    RISSOBARM_CONST = 14,   /* the value supplied is above RISSOBARM_CONSTANT_LIMIT */
     RISSOBARM_REFUSAL_COUNT = 14
 };
 

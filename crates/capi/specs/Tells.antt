@@ -5,7 +5,8 @@ use Prim.Native.Nat.{_/_, ℕ}
 use lib.ListN.{length}
 use Rattle.parlog.specs.Calls.{runCall, startCall, stepCall, supplyCall, turnCall, valueCall}
 use Rattle.parlog.specs.Limits.{Limits}
-use Rattle.parlog.specs.Numbers.{Numbers, runNumbers, startNumbers, stepNumbers, supplyNumbers, valueNumbers, watchNumbers, word}
+use Rattle.parlog.specs.Load.{loadOf}
+use Rattle.parlog.specs.Numbers.{loadNumbers, Numbers, runNumbers, startNumbers, stepNumbers, supplyNumbers, valueNumbers, watchNumbers, word}
 use Rattle.parlog.specs.Run.{watchOf}
 use Rattle.parlog.specs.Tables.{Lent, procsOf, rowSize}
 use Rattle.words.specs.Fits.{reached}
@@ -16,6 +17,10 @@ pub record Tells (n : Numbers) (l : Lent) (r : ℕ) (h p v : List ℕ) : Type 0 
   pub head : h ≡ l .head
   pub procs : p ≡ l .procs
   pub vars : v ≡ l .vars
+
+-- of a load: nothing is written
+abbrev pub LoadTells : List ℕ → ℕ → Type 0
+LoadTells s r = r ≡ word (loadNumbers (loadOf s))
 
 -- of a start
 abbrev pub StartTells : Limits → List ℕ → Lent → ℕ → List ℕ → List ℕ → List ℕ → Type 0

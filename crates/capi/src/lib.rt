@@ -1,16 +1,13 @@
 // What a C program calls: numbers and byte rows alone. Each answer is one word.
 use parlog::Loaded;
-ghost use mathlib.Core.Path.{_≡_};
-ghost use Rattle.capi.specs.Tells.{RunTells, StartTells, StepTells, SupplyTells, TurnTells, ValueTells, WatchTells};
+ghost use Rattle.capi.specs.Tells.{LoadTells, RunTells, StartTells, StepTells, SupplyTells, TurnTells, ValueTells, WatchTells};
 ghost use Rattle.parlog.specs.Limits.{small};
-ghost use Rattle.parlog.specs.Load.{loadOf};
-ghost use Rattle.parlog.specs.Numbers.{loadNumbers, word};
 ghost use Rattle.parlog.specs.Tables.{lent};
 
 // Tests an image: its relation and clause counts, or the first refusal.
 #[no_mangle]
 pub extern "C" fn rissobarm_load(image: &[u8]) -> u64
-    ensures { λ r. ⌜ r ≡ word (loadNumbers (loadOf (now (image .entry)))) ⌝ }
+    ensures { λ r. ⌜ LoadTells (now (image .entry)) r ⌝ }
 {
     let l = load::load(image);
     let Loaded::Accepted(relations, clauses) = l else {

@@ -1,11 +1,8 @@
 -- What a C program sees of a call: a word, and the lent bytes afterwards. An outcome is one that meets the contract of the call.
-use mathlib.Core.Path.{_≡_}
 use mathlib.Core.List.{List}
 use Prim.Native.Nat.{_%_, _/_, ℕ}
-use Rattle.capi.specs.Tells.{RunTells, StartTells, StepTells, SupplyTells, TurnTells, ValueTells, WatchTells}
+use Rattle.capi.specs.Tells.{LoadTells, RunTells, StartTells, StepTells, SupplyTells, TurnTells, ValueTells, WatchTells}
 use Rattle.parlog.specs.Limits.{Limits}
-use Rattle.parlog.specs.Load.{loadOf}
-use Rattle.parlog.specs.Numbers.{loadNumbers, word}
 use Rattle.parlog.specs.Tables.{Lent}
 
 -- ---- a word taken apart: bits 0 to 7, 8 to 15, 16 to 23, and 32 to 63
@@ -30,7 +27,7 @@ largeIn w = w / 4294967296
 
 -- of rissobarm_load
 pub record LoadMeets (s : List ℕ) (w : ℕ) : Type 0 where
-  pub contract : w ≡ word (loadNumbers (loadOf s))
+  pub contract : LoadTells s w
 
 -- of rissobarm_start
 pub record StartMeets (lim : Limits) (s : List ℕ) (l : Lent) (w : ℕ) (l′ : Lent) : Type 0 where
