@@ -14,7 +14,7 @@ cases = (refl, refl, refl, refl, refl, refl, refl, refl, refl, refl, refl, refl,
 
 pub casesMore : MarkedMore
 unfolding opened runThrough outcome notesOf
-casesMore = (refl, refl)
+casesMore = (refl, refl, refl, refl, refl)
 
 pub order : MarkedTurns
 unfolding opened turnsFrom turnsOf

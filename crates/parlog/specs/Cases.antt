@@ -51,6 +51,14 @@ twice =
     ∷ 14 ∷ 0 ∷ 2 ∷ 0 ∷ 0 ∷ 2 ∷ 0 ∷ 1 ∷ 0 ∷ 128 ∷ 0 ∷ 128 ∷ 0 ∷ 0
     ∷ 13 ∷ 0 ∷ 3 ∷ 0 ∷ 2 ∷ 1 ∷ 1 ∷ 0 ∷ 2 ∷ 0 ∷ 128 ∷ 1 ∷ 128 ∷ []
 
+-- u(1) and u(X) with an input argument, asked of variable 1
+abbrev pub either : List ℕ
+either =
+    6 ∷ 0 ∷ 1 ∷ 0 ∷ 1 ∷ 0
+    ∷ 12 ∷ 0 ∷ 2 ∷ 0 ∷ 0 ∷ 1 ∷ 0 ∷ 0 ∷ 1 ∷ 0 ∷ 0 ∷ 0
+    ∷ 12 ∷ 0 ∷ 2 ∷ 0 ∷ 0 ∷ 1 ∷ 0 ∷ 1 ∷ 0 ∷ 128 ∷ 0 ∷ 0
+    ∷ 11 ∷ 0 ∷ 3 ∷ 0 ∷ 2 ∷ 1 ∷ 1 ∷ 0 ∷ 1 ∷ 1 ∷ 128 ∷ []
+
 -- ---- what is shown of an image's run in turn order from a start
 
 -- what is compared of a run, or a refusal
@@ -120,9 +128,14 @@ MarkedRuns =
     × (outcome [] [] ≡ refused 7 0)
     × (outcome (3 ∷ 0 ∷ 3 ∷ 0 ∷ []) [] ≡ refused 2 0)
 
--- c9 with its second variable supplied first
+-- c9 with its second variable supplied first; a process that was woken has no notes any more, and one that fell asleep has those that it had
 abbrev pub MarkedMore : Type 0
-MarkedMore = (outcome twice (give 1 7 ∷ []) ≡ shown 11 Waiting 6) × (notesOf twice (give 1 7 ∷ []) 4 ≡ 0 ∷ [])
+MarkedMore =
+    (outcome twice (give 1 7 ∷ []) ≡ shown 11 Waiting 6)
+    × (notesOf twice (give 1 7 ∷ []) 4 ≡ 0 ∷ [])
+    × (notesOf (askOne 0 1) (give 0 1 ∷ []) 4 ≡ [])
+    × (outcome either [] ≡ shown 22 Success 10)
+    × (notesOf either [] 5 ≡ 1 ∷ [])
 
 -- ---- the turns of a run: which process, which rule, and the number of what it touched
 

@@ -1,20 +1,20 @@
 -- Tables 3c, 3d, 3e, 3i, 3k: results, kin, bindings and notes: the tests decide the facts.
-use mathlib.Core.Path.{_∙_, _≡_, ap, refl, subst, sym}
+use mathlib.Core.Path.{_≡_, refl, sym}
 use mathlib.Core.Logic.{_≢_, _⊎_, inl, inr, ⊎-elim}
 use mathlib.Core.Bool.{_&&_, _||_, not, true}
 use mathlib.Core.List.{[], _∷_, List}
 use Prim.Native.Nat.{_<_, _≤_, suc, zero, ℕ}
 use lib.Dec.{eqb, leb, ltb}
 use lib.ListN.{getD, length}
-use borrow.Author.Tests.{eqb-true, le-leb, leb-true, lt-ltb, ltb-true}
+use borrow.Author.Tests.{le-leb, leb-true, lt-ltb, ltb-true}
 use native.Mathlib.Omega.{arith}
 use native.Mathlib.Nat.{le-of-suc-le-suc, not-suc-le-zero}
-use Rattle.parlog.proofs.Bools.{and-true, never, or-left, or-right, or-true, true-and}
+use Rattle.parlog.proofs.Bools.{and-true, never, or-right, true-and}
 use Rattle.parlog.proofs.Coded.{code-tag, tag-code}
-use Rattle.parlog.specs.Codes.{and-par, and-seq, dormant, equate, guard-eval, input-match, isMode, isResult, isTag, kindCode, modeCode, none, or-par, or-search, reporting, resultCode, seq-search, suspended, Tag, tagCode, tagOf, the-goal, try-clause}
+use Rattle.parlog.specs.Codes.{and-par, and-seq, dormant, equate, guard-eval, input-match, isMode, isOneOf, isResult, isTag, kindCode, modeCode, none, or-par, or-search, reporting, resultCode, seq-search, suspended, Tag, tagCode, tagOf, the-goal, try-clause}
 use Rattle.parlog.specs.Notions.{me}
 use Rattle.parlog.specs.Program.{Program, tagOfGoal}
-use Rattle.parlog.specs.TableRules.{allBelow, bindingOk, isGoalTag, isLiteralTag, isStageTag, kinOk, makesTag, notesOk, resultOk}
+use Rattle.parlog.specs.TableRules.{allBelow, bindingOk, goalTags, kinOk, literalTags, stageTags, makesTag, notesOk, resultOk}
 use Rattle.parlog.specs.Tables.{noted, State}
 use Rattle.parlog.specs.declared.Binding.{Binding}
 use Rattle.parlog.specs.declared.Binding.the-variants.{Bound, Free}
@@ -25,10 +25,7 @@ use Rattle.refusals.specs.Ruled.{a-call-tag, an-equality-tag, for-block,
 
 -- ---- which tags a tag makes
 
-tag-same : (t u : Tag) → isTag u (tagCode t) ≡ true → t ≡ u
-tag-same t u e = sym (code-tag t (tagCode t) refl) ∙ ap tagOf (eqb-true (tagCode t) (tagCode u) e) ∙ code-tag u (tagCode u) refl
-
-literal-tag : (t : Tag) → isLiteralTag t ≡ true → LiteralTag t
+literal-tag : (t : Tag) → isOneOf literalTags t ≡ true → LiteralTag t
 literal-tag and-par e = never e
 literal-tag and-seq e = never e
 literal-tag or-par e = a-call-tag
@@ -39,39 +36,95 @@ literal-tag input-match e = never e
 literal-tag guard-eval e = never e
 literal-tag equate e = an-equality-tag
 
-tag-literal : {t : Tag} → LiteralTag t → isLiteralTag t ≡ true
+tag-literal : {t : Tag} → LiteralTag t → isOneOf literalTags t ≡ true
 tag-literal a-call-tag = refl
 tag-literal an-equality-tag = refl
 
-stage-tag : (t : Tag) → isStageTag t ≡ true → StageTag t
-stage-tag t e =
-    ⊎-elim (λ q. one-literal (literal-tag t q)) (λ q. subst (λ u. StageTag u) (sym (tag-same t and-par q)) more-literals)
-    (or-true (isLiteralTag t) (isTag and-par (tagCode t)) e)
+stage-tag : (t : Tag) → isOneOf stageTags t ≡ true → StageTag t
+stage-tag and-par e = more-literals
+stage-tag and-seq e = never e
+stage-tag or-par e = one-literal a-call-tag
+stage-tag seq-search e = never e
+stage-tag or-search e = never e
+stage-tag try-clause e = never e
+stage-tag input-match e = never e
+stage-tag guard-eval e = never e
+stage-tag equate e = one-literal an-equality-tag
 
-tag-stage : {t : Tag} → StageTag t → isStageTag t ≡ true
-tag-stage (one-literal {t} l) = or-left (isLiteralTag t) (isTag and-par (tagCode t)) (tag-literal l)
+tag-stage : {t : Tag} → StageTag t → isOneOf stageTags t ≡ true
+tag-stage (one-literal a-call-tag) = refl
+tag-stage (one-literal an-equality-tag) = refl
 tag-stage more-literals = refl
 
-goal-tag : (t : Tag) → isGoalTag t ≡ true → GoalTag t
-goal-tag t e =
-    ⊎-elim (λ q. only-stage (stage-tag t q)) (λ q. subst (λ u. GoalTag u) (sym (tag-same t and-seq q)) in-sequence)
-    (or-true (isStageTag t) (isTag and-seq (tagCode t)) e)
+goal-tag : (t : Tag) → isOneOf goalTags t ≡ true → GoalTag t
+goal-tag and-par e = only-stage more-literals
+goal-tag and-seq e = in-sequence
+goal-tag or-par e = only-stage (one-literal a-call-tag)
+goal-tag seq-search e = never e
+goal-tag or-search e = never e
+goal-tag try-clause e = never e
+goal-tag input-match e = never e
+goal-tag guard-eval e = never e
+goal-tag equate e = only-stage (one-literal an-equality-tag)
 
-tag-goal : {t : Tag} → GoalTag t → isGoalTag t ≡ true
-tag-goal (only-stage {t} g) = or-left (isStageTag t) (isTag and-seq (tagCode t)) (tag-stage g)
+tag-goal : {t : Tag} → GoalTag t → isOneOf goalTags t ≡ true
+tag-goal (only-stage (one-literal a-call-tag)) = refl
+tag-goal (only-stage (one-literal an-equality-tag)) = refl
+tag-goal (only-stage more-literals) = refl
 tag-goal in-sequence = refl
+
+-- the rows of the table that have one tag or two
+call-makes : (t : Tag) → makesTag or-par t ≡ true → MakesTag or-par t
+call-makes and-par e = for-body (only-stage more-literals)
+call-makes and-seq e = for-body in-sequence
+call-makes or-par e = for-body (only-stage (one-literal a-call-tag))
+call-makes seq-search e = for-search
+call-makes or-search e = never e
+call-makes try-clause e = never e
+call-makes input-match e = never e
+call-makes guard-eval e = never e
+call-makes equate e = for-body (only-stage (one-literal an-equality-tag))
+
+search-makes : (t : Tag) → makesTag seq-search t ≡ true → MakesTag seq-search t
+search-makes and-par e = never e
+search-makes and-seq e = never e
+search-makes or-par e = never e
+search-makes seq-search e = never e
+search-makes or-search e = for-block
+search-makes try-clause e = never e
+search-makes input-match e = never e
+search-makes guard-eval e = never e
+search-makes equate e = never e
+
+block-makes : (t : Tag) → makesTag or-search t ≡ true → MakesTag or-search t
+block-makes and-par e = never e
+block-makes and-seq e = never e
+block-makes or-par e = never e
+block-makes seq-search e = never e
+block-makes or-search e = never e
+block-makes try-clause e = per-clause
+block-makes input-match e = never e
+block-makes guard-eval e = never e
+block-makes equate e = never e
+
+trial-makes : (t : Tag) → makesTag try-clause t ≡ true → MakesTag try-clause t
+trial-makes and-par e = never e
+trial-makes and-seq e = never e
+trial-makes or-par e = never e
+trial-makes seq-search e = never e
+trial-makes or-search e = never e
+trial-makes try-clause e = never e
+trial-makes input-match e = to-match
+trial-makes guard-eval e = to-guard
+trial-makes equate e = never e
 
 makes-to : (a t : Tag) → makesTag a t ≡ true → MakesTag a t
 makes-to and-par t e = per-literal (literal-tag t e)
 makes-to and-seq t e = for-stage (stage-tag t e)
-makes-to or-par t e =
-    ⊎-elim (λ q. subst (λ u. MakesTag or-par u) (sym (tag-same t seq-search q)) for-search) (λ q. for-body (goal-tag t q))
-    (or-true (isTag seq-search (tagCode t)) (isGoalTag t) e)
-makes-to seq-search t e = subst (λ u. MakesTag seq-search u) (sym (tag-same t or-search e)) for-block
-makes-to or-search t e = subst (λ u. MakesTag or-search u) (sym (tag-same t try-clause e)) per-clause
-makes-to try-clause t e =
-    ⊎-elim (λ q. subst (λ u. MakesTag try-clause u) (sym (tag-same t input-match q)) to-match) (λ q. subst (λ u. MakesTag try-clause u) (sym (tag-same t guard-eval q)) to-guard)
-    (or-true (isTag input-match (tagCode t)) (isTag guard-eval (tagCode t)) e)
+makes-to or-par t e = call-makes t e
+makes-to seq-search t e = search-makes t e
+makes-to or-search t e = block-makes t e
+makes-to try-clause t e = trial-makes t e
 makes-to input-match t e = never e
 makes-to guard-eval t e = for-guard (goal-tag t e)
 makes-to equate t e = never e
@@ -80,7 +133,7 @@ makes-from : {a t : Tag} → MakesTag a t → makesTag a t ≡ true
 makes-from (per-literal l) = tag-literal l
 makes-from (for-stage g) = tag-stage g
 makes-from for-search = refl
-makes-from (for-body {t} g) = or-right (isTag seq-search (tagCode t)) (isGoalTag t) (tag-goal g)
+makes-from (for-body {t} g) = or-right (isTag seq-search (tagCode t)) (isOneOf goalTags t) (tag-goal g)
 makes-from for-block = refl
 makes-from per-clause = refl
 makes-from to-match = refl
