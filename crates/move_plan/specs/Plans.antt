@@ -1,27 +1,22 @@
--- What a plan means, and what its writers do to the lists of processes and bindings.
+-- What a plan means.
 use mathlib.Core.Path.{_≡_}
-use mathlib.Core.Bool.{_&&_, Bool, cond, false, true}
-use mathlib.Core.List.{_++_, List}
+use mathlib.Core.Bool.{_&&_, Bool, cond}
+use mathlib.Core.List.{List}
 use Prim.Native.Nat.{_*_, _+_, _<_, suc, zero, ℕ}
 use lib.Dec.{leb}
-use lib.ListN.{getD, length, replicate, set, take}
-use Rattle.parlog.specs.Codes.{dormant, Mode, modeCode, Tag, tagCode}
-use Rattle.parlog.specs.Delta.{Delta, rowAfter, withMode}
+use lib.ListN.{getD, take}
+use Rattle.parlog.specs.Codes.{Mode, modeCode, Tag, tagCode}
+use Rattle.parlog.specs.Delta.{Delta}
 use Rattle.parlog.specs.Rules.{Applied, by-rule, no-rule}
-use Rattle.parlog.specs.Scan.{build}
-use Rattle.parlog.specs.Tables.{at, newProcess, numberCode, procsOf, rowSize, State, varsIn}
-use Rattle.parlog.specs.Unify.{change, changed}
-use Rattle.parlog.specs.declared.Binding.{Binding}
-use Rattle.parlog.specs.declared.Binding.the-variants.{Bound, Free}
+use Rattle.parlog.specs.Tables.{newProcess, numberCode, procsOf, rowSize, State, varsIn}
+use Rattle.parlog.specs.Unify.{change}
+use Rattle.parlog.specs.declared.Binding.the-variants.{Bound}
 use Rattle.parlog.specs.declared.Change.{Change}
-use Rattle.parlog.specs.declared.Found.{Found}
-use Rattle.parlog.specs.declared.Found.the-variants.{At, Nothing}
 use Rattle.parlog.specs.declared.Process.{Process}
 use Rattle.parlog.specs.declared.Spot.{Spot}
 use Rattle.parlog.specs.declared.Term.the-variants.{Const}
 use Rattle.move_plan.specs.declared.Changes.{Changes}
 use Rattle.move_plan.specs.declared.Plan.{Plan}
-use Rattle.tree.specs.Family.{sleptBelow}
 
 -- what holds for each case whose number is k
 abbrev pub Of : {K A : Type 0} → (K → ℕ) → ℕ → (K → A) → A → Type 0
@@ -68,29 +63,11 @@ unfoldable pub touched : ℕ → ℕ → ℕ → ℕ
 touched n p zero = p
 touched n p (suc k) = n
 
--- ---- the writers
+-- ---- what a plan is carried out on
 
 -- the tables' lists
 abbrev pub stateIn : List ℕ → ℕ → List ℕ → ℕ → State
 stateIn procs n vars m = record { procs = procsOf procs n; vars = varsIn vars m }
-
-unfoldable pub cutBelow : Bool → List Process → ℕ → List Process
-cutBelow true ps p = sleptBelow ps p
-cutBelow false ps p = ps
-
-unfoldable pub sleptAt : List Process → ℕ → List Process
-sleptAt ps c = set ps c (withMode dormant (at ps c))
-
-unfoldable pub napped : Found → List Process → List Process
-napped Nothing ps = ps
-napped (At c) ps = sleptAt ps c
-
--- apply, list by list
-unfoldable pub procsAfter : List Process → ℕ → Delta → List Process
-procsAfter ps p d = build (rowAfter ps p d) (length ps) ++ d .new
-
-unfoldable pub varsAfter : List Binding → Delta → List Binding
-varsAfter vs d = changed (vs ++ replicate (d .fresh) Free) (d .changes)
 
 -- a change of one of the first m variables, to a term that a row can hold
 abbrev pub Binds : ℕ → Change → Type 0

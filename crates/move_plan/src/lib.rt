@@ -1,17 +1,13 @@
-// What a move will do, decided before anything is written, and the one function that carries it out.
+// What a move will do, decided before anything is written, and whether there is room for it.
 ghost use mathlib.Core.Path.{_≡_};
-ghost use mathlib.Core.List.{[], _∷_, _++_};
-ghost use Prim.Native.Nat.{_+_, _*_, _≤_, _<_};
-ghost use lib.ListN.{getD, length, take};
+ghost use mathlib.Core.List.{[], _∷_};
+ghost use Prim.Native.Nat.{_*_, _≤_, _<_};
+ghost use lib.ListN.{getD, take};
 ghost use Rattle.parlog.specs.Codes.{kindCode, modeCode, resultCode};
-ghost use Rattle.parlog.specs.Delta.{apply, atBlock, atStage, blockSpot, callSpot, guardSpot, literalSpot, making, only, report, reporting-with, trySpot, withClause, withMode, withNotes, withResult, withSpot, woken};
+ghost use Rattle.parlog.specs.Delta.{atBlock, atStage, blockSpot, guardSpot, literalSpot, making, only, report, reporting-with, trySpot, withClause, withMode, withNotes, withSpot, woken};
 ghost use Rattle.parlog.specs.Rules.{by-rule, no-rule};
-ghost use Rattle.parlog.specs.Tables.{cellSize, goalSpot, procsOf, rowSize, varsIn};
-ghost use Rattle.parlog.specs.Unify.{changed};
-ghost use Rattle.rows.specs.Rows.{Table};
-ghost use Rattle.tree.specs.Family.{Falls};
-ghost use Rattle.vars.specs.Cells.{Cells};
-ghost use Rattle.move_plan.specs.Plans.{appliedOf, Born, changesOf, cutBelow, deltaOf, fitsIn, napped, newMost, Of, procsAfter, sleptAt, stateIn, touched, varsAfter, Within};
+ghost use Rattle.parlog.specs.Tables.{goalSpot, procsOf};
+ghost use Rattle.move_plan.specs.Plans.{appliedOf, Born, changesOf, fitsIn, newMost, Of, touched};
 use parlog::Change;
 use parlog::Found;
 use parlog::Move;
@@ -50,15 +46,6 @@ pub fn with_mode(mut x: Process, mode: u8) -> Process
     ensures { λ r. ⌜ Of modeCode mode (λ m. withMode m x) r ⌝ }
 {
     x.mode = mode;
-    x
-}
-
-// Reporting, with this result.
-pub fn with_result(mut x: Process, result: u8) -> Process
-    ensures { λ r. ⌜ Of resultCode result (λ t. withResult t x) r ⌝ }
-{
-    x.mode = codes::REPORTING;
-    x.result = result;
     x
 }
 
@@ -145,27 +132,24 @@ pub fn literal_spot(mut z: Spot, j: u8) -> Spot
     z
 }
 
-// The call that z names.
-pub fn call_spot(z: Spot) -> Spot
-    ensures { λ r. ⌜ r ≡ callSpot z ⌝ }
-{
-    literal_spot(z, z.literal)
-}
-
-// A block for that call.
-pub fn block_spot(z: Spot, b: u8) -> Spot
+// A block for the call that z names.
+pub fn block_spot(mut z: Spot, b: u8) -> Spot
     ensures { λ r. ⌜ r ≡ blockSpot z b ⌝ }
 {
-    let y = call_spot(z);
-    at_block(y, b)
+    z.block = b;
+    z.found = 0;
+    z.first = 0;
+    z
 }
 
 // A clause for that call, with its first variable.
-pub fn try_spot(z: Spot, k: u8, v: u16) -> Spot
+pub fn try_spot(mut z: Spot, k: u8, v: u16) -> Spot
     ensures { λ r. ⌜ r ≡ trySpot z k v ⌝ }
 {
-    let y = call_spot(z);
-    with_clause(y, k, v)
+    z.block = 0;
+    z.found = k;
+    z.first = v;
+    z
 }
 
 // The clause alone.
@@ -304,15 +288,16 @@ pub fn only(mv: Move, x: Process) -> Plan
 }
 
 // The mover reports, and binds these.
-pub fn report_with(mv: Move, result: u8, x: Process, changes: Changes) -> Plan
+pub fn report_with(mv: Move, result: u8, mut x: Process, changes: Changes) -> Plan
     ensures { λ r. ⌜ Of resultCode result (λ t. by-rule mv (reporting-with t x (changesOf changes))) (appliedOf r) × (r .count ≤ newMost) × (r .changes ≡ changes) × (r .fresh ≡ 0) ⌝ }
 {
     let rows = [0u8; NEW_SIZE];
-    let y = with_result(x, result);
+    x.mode = codes::REPORTING;
+    x.result = result;
     Plan {
         acts: true,
         mv,
-        me: y,
+        me: x,
         cut: true,
         nap: Found::Nothing,
         count: 0,
@@ -338,98 +323,4 @@ pub fn fits(procs: usize, vars: usize, n: usize, m: usize, plan: Plan) -> bool
         return false;
     }
     plan.fresh <= vars - m
-}
-
-// ---- the writers
-
-// Where `cut` says so, all below p fall asleep.
-fn cut_below(procs: &mut [u8], n: usize, p: usize, cut: bool)
-    requires { ⌜ (n * rowSize ≤ length (now procs)) × (p < n) × Falls (procsOf (now procs) n) ⌝ }
-    ensures { λ _. ⌜ Table (now (procs .entry)) (now (procs .exit)) (cutBelow cut (procsOf (now (procs .entry)) n) p) ⌝ }
-{
-    if cut {
-        tree::sleep_below(procs, n, p);
-    }
-}
-
-fn sleep_at(procs: &mut [u8], n: usize, c: usize)
-    requires { ⌜ n * rowSize ≤ length (now procs) ⌝ }
-    ensures { λ _. ⌜ Table (now (procs .entry)) (now (procs .exit)) (sleptAt (procsOf (now (procs .entry)) n) c) ⌝ }
-{
-    if c < n {
-        let x = rows::get(procs, n, c);
-        let y = with_mode(x, codes::DORMANT);
-        rows::put(procs, n, c, y);
-    }
-}
-
-// The child that falls asleep, if there is one.
-fn nap_at(procs: &mut [u8], n: usize, nap: Found)
-    requires { ⌜ n * rowSize ≤ length (now procs) ⌝ }
-    ensures { λ _. ⌜ Table (now (procs .entry)) (now (procs .exit)) (napped nap (procsOf (now (procs .entry)) n)) ⌝ }
-{
-    match nap {
-        Found::At(c) => sleep_at(procs, n, c),
-        Found::Nothing => {}
-    }
-}
-
-// The first k of these rows follow the first n.
-fn append_all(procs: &mut [u8], n: usize, rows: [u8; NEW_SIZE], k: usize)
-    requires { ⌜ ((n + k) * rowSize ≤ length (now procs)) × (k ≤ newMost) ⌝ }
-    ensures { λ _. ⌜ Table (now (procs .entry)) (now (procs .exit)) (procsOf (now (procs .entry)) n ++ procsOf rows k) ⌝ }
-{
-    let mut i = 0;
-    while i < k {
-        let x = rows::get(&rows, k, i);
-        rows::append(procs, n + i, x);
-        i += 1;
-    }
-}
-
-// The first k of these changes are bound, in order.
-fn bind_all(vars: &mut [u8], m: usize, list: [Change; codes::MOST_ARITY], k: usize)
-    requires { ⌜ (m * cellSize ≤ length (now vars)) × (k ≤ 4) × Within m k list ⌝ }
-    ensures { λ _. ⌜ Cells m (now (vars .entry)) (now (vars .exit)) (changed (varsIn (now (vars .entry)) m) (take k list)) ⌝ }
-{
-    let mut i = 0;
-    while i < k {
-        let c = list[i];
-        let v = basics::wide_u32(c.var);
-        let t = c.to;
-        vars::bind(vars, m, v, t);
-        i += 1;
-    }
-}
-
-fn write_procs(procs: &mut [u8], n: usize, p: usize, plan: Plan)
-    requires { ⌜ ((n + plan .count) * rowSize ≤ length (now procs)) × (plan .count ≤ newMost) × (p < n) × Falls (procsOf (now procs) n) ⌝ }
-    ensures { λ _. ⌜ Table (now (procs .entry)) (now (procs .exit)) (procsAfter (procsOf (now (procs .entry)) n) p (deltaOf plan)) ⌝ }
-{
-    let me = plan.me;
-    let nap = plan.nap;
-    let new = plan.rows;
-    cut_below(procs, n, p, plan.cut);
-    nap_at(procs, n, nap);
-    rows::put(procs, n, p, me);
-    append_all(procs, n, new, plan.count);
-}
-
-fn write_vars(vars: &mut [u8], m: usize, plan: Plan)
-    requires { ⌜ ((m + plan .fresh) * cellSize ≤ length (now vars)) × (plan .changes .count ≤ 4) × Within (m + plan .fresh) (plan .changes .count) (plan .changes .list) ⌝ }
-    ensures { λ _. ⌜ Cells m (now (vars .entry)) (now (vars .exit)) (varsAfter (varsIn (now (vars .entry)) m) (deltaOf plan)) ⌝ }
-{
-    let changes = plan.changes;
-    let list = changes.list;
-    vars::grow(vars, m, plan.fresh);
-    bind_all(vars, m + plan.fresh, list, changes.count);
-}
-
-// Carries a plan out.
-pub fn write(procs: &mut [u8], n: usize, vars: &mut [u8], m: usize, p: usize, plan: Plan)
-    requires { ⌜ ((n + plan .count) * rowSize ≤ length (now procs)) × (plan .count ≤ newMost) × (p < n) × Falls (procsOf (now procs) n) × ((m + plan .fresh) * cellSize ≤ length (now vars)) × (plan .changes .count ≤ 4) × Within (m + plan .fresh) (plan .changes .count) (plan .changes .list) ⌝ }
-    ensures { λ _. ⌜ Table (now (procs .entry)) (now (procs .exit)) (apply (stateIn (now (procs .entry)) n (now (vars .entry)) m) p (deltaOf plan) .procs) × Cells m (now (vars .entry)) (now (vars .exit)) (apply (stateIn (now (procs .entry)) n (now (vars .entry)) m) p (deltaOf plan) .vars) ⌝ }
-{
-    write_procs(procs, n, p, plan);
-    write_vars(vars, m, plan);
 }

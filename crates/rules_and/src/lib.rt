@@ -90,10 +90,9 @@ pub fn start_and_par(
     requires { ⌜ (rels ≤ 32) × (clauses ≤ 64) × (n ≤ 65535) × (p < n) × (length (stageAt (programOf (now image) rels clauses) (x .spot)) ≤ newMost) ⌝ }
     ensures { λ r. ⌜ Starts and-par (programOf (now (image .entry)) rels clauses) n p x (appliedOf r) × (r .count ≤ newMost) × (r .changes .count ≡ 0) ⌝ }
 {
-    let z = x.spot;
-    let k = program_goal::stage_size(image, rels, clauses, z);
+    let k = program_goal::stage_size(image, rels, clauses, x.spot);
     let mut new = [0u8; move_plan::NEW_SIZE];
-    members(image, rels, clauses, p, z, k, &mut new);
+    members(image, rels, clauses, p, x.spot, k, &mut new);
     let me = move_plan::with_mode(x, codes::WAITING);
     let q = move_plan::touched(n, p, k);
     move_plan::make(Move::AndParStart(q), me, Found::Nothing, k, new, 0)
@@ -126,14 +125,13 @@ pub fn start_and_seq(
     requires { ⌜ (rels ≤ 32) × (clauses ≤ 64) × (n ≤ 65535) × (p < n) ⌝ }
     ensures { λ r. ⌜ Starts and-seq (programOf (now (image .entry)) rels clauses) n p x (appliedOf r) × (r .count ≤ newMost) × (r .changes .count ≡ 0) ⌝ }
 {
-    let z = x.spot;
-    let stages = program_goal::goal_size(image, rels, clauses, z.kind, z.clause);
-    let i = z.stage as usize;
+    let stages = program_goal::goal_size(image, rels, clauses, x.spot.kind, x.spot.clause);
+    let i = x.spot.stage as usize;
     if stages <= i {
         return move_plan::report(Move::AndSeqSuccess(p), codes::SUCCESS, x);
     }
-    let t = program_goal::tag_of_stage(image, rels, clauses, z);
-    let y = move_plan::literal_spot(z, 0);
+    let t = program_goal::tag_of_stage(image, rels, clauses, x.spot);
+    let y = move_plan::literal_spot(x.spot, 0);
     let child = move_plan::new_process(t, codes::STARTING, p, y);
     let me = move_plan::with_mode(x, codes::WAITING);
     move_plan::make_one(Move::AndSeqStart(n), me, Found::Nothing, child)
@@ -144,8 +142,7 @@ fn next_stage(x: Process) -> Process
     requires { ⌜ x .spot .stage < 255 ⌝ }
     ensures { λ r. ⌜ r ≡ nextStage x ⌝ }
 {
-    let z = x.spot;
-    let y = move_plan::at_stage(z, z.stage + 1);
+    let y = move_plan::at_stage(x.spot, x.spot.stage + 1);
     move_plan::with_spot(x, codes::STARTING, y)
 }
 
@@ -179,10 +176,9 @@ pub fn start_try_clause(n: usize, p: usize, x: Process) -> Plan
     requires { ⌜ (n ≤ 65535) × (p < n) ⌝ }
     ensures { λ r. ⌜ ((pr : Program) → Starts try-clause pr n p x (appliedOf r)) × (r .count ≤ newMost) × (r .changes .count ≡ 0) ⌝ }
 {
-    let z = x.spot;
-    let call = move_plan::try_spot(z, z.found, z.first);
+    let call = move_plan::try_spot(x.spot, x.spot.found, x.spot.first);
     let one = move_plan::new_process(codes::INPUT_MATCH, codes::READY, p, call);
-    let guard = move_plan::guard_spot(z.found, z.first);
+    let guard = move_plan::guard_spot(x.spot.found, x.spot.first);
     let other = move_plan::new_process(codes::GUARD_EVAL, codes::READY, p, guard);
     let me = move_plan::with_mode(x, codes::WAITING);
     with_children(Move::TryClauseStart(n), me, one, other)
@@ -215,13 +211,12 @@ pub fn start_guard_eval(
     requires { ⌜ (rels ≤ 32) × (clauses ≤ 64) × (n ≤ 65535) × (p < n) ⌝ }
     ensures { λ r. ⌜ Starts guard-eval (programOf (now (image .entry)) rels clauses) n p x (appliedOf r) × (r .count ≤ newMost) × (r .changes .count ≡ 0) ⌝ }
 {
-    let z = x.spot;
-    let size = program_goal::goal_size(image, rels, clauses, codes::THE_GUARD, z.found);
+    let size = program_goal::goal_size(image, rels, clauses, codes::THE_GUARD, x.spot.found);
     if size == 0 {
         return move_plan::report(Move::GuardEvalEmpty(p), codes::SUCCESS, x);
     }
-    let y = move_plan::goal_spot(codes::THE_GUARD, z.found, z.first);
-    let t = program_goal::tag_of_goal(image, rels, clauses, codes::THE_GUARD, z.found);
+    let y = move_plan::goal_spot(codes::THE_GUARD, x.spot.found, x.spot.first);
+    let t = program_goal::tag_of_goal(image, rels, clauses, codes::THE_GUARD, x.spot.found);
     let child = move_plan::new_process(t, codes::STARTING, p, y);
     let me = move_plan::with_mode(x, codes::WAITING);
     move_plan::make_one(Move::GuardEvalStart(n), me, Found::Nothing, child)

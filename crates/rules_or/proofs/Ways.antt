@@ -11,8 +11,9 @@ use native.Mathlib.Numerals.{add-one}
 use Rattle.children.specs.Telling.{heardOf}
 use Rattle.children.specs.declared.News.{News}
 use Rattle.children.specs.declared.News.the-variants.{Bad, Good, Silent}
+use Rattle.move_plan.specs.Plans.{Born, Of}
 use Rattle.parlog.specs.Codes.{failure, isTag, kindCode, kindOf, modeCode, or-par, or-search, reporting, resultCode, seq-search, starting, success, tagCode, the-body, waiting}
-use Rattle.parlog.specs.Delta.{atBlock, blockSpot, callSpot, making, report, withClause, withMode, withSpot}
+use Rattle.parlog.specs.Delta.{atBlock, blockSpot, callSpot, literalSpot, making, report, withClause, withMode, withSpot}
 use Rattle.parlog.specs.Program.{blockCount, clauseAt, committedBody, goalBy, literalAt, Program, tagOfGoal}
 use Rattle.parlog.specs.Rules.{Applied, bodyChild, by-rule, no-rule, orParHeard, orParStart, orParWait, orSearchWait, searching, seqSearchNext, seqSearchStart, seqSearchWait, startRule, waitRule, withFound}
 use Rattle.parlog.specs.Tables.{at, goalSpot, newProcess, procsOf, State}
@@ -24,7 +25,6 @@ use Rattle.parlog.specs.declared.Move.{Move}
 use Rattle.parlog.specs.declared.Move.the-variants.{OrParFailure, OrParSpawn, OrParStart, OrParSuccess, OrSearchCommit, OrSearchFailure, SeqSearchFailure, SeqSearchNext, SeqSearchNone, SeqSearchStart, SeqSearchSuccess}
 use Rattle.parlog.specs.declared.Process.{Process}
 use Rattle.parlog.specs.declared.Spot.{Spot}
-use Rattle.move_plan.specs.Plans.{Born, Of}
 use Rattle.program_goal.specs.Parts.{shown}
 use Rattle.program_goal.specs.declared.Lit.{Lit}
 use Rattle.rows.proofs.Tables.{procs-length}
@@ -48,9 +48,9 @@ module _ (ps : List Process) (vs : List Binding) (c : ℕ) (x : Process) where
 -- ---- or-par
 
 pub or-par-starts : (pr : Program) (s : State) (p : ℕ) (x : Process) {n : ℕ} {z : Spot} {y me : Process}
-    → z ≡ callSpot (x .spot) → Born 3 2 p z y → Of modeCode 3 (λ m. withMode m x) me
+    → z ≡ literalSpot (x .spot) (x .spot .literal) → Born 3 2 p z y → Of modeCode 3 (λ m. withMode m x) me
     → {a : Applied} → a ≡ by-rule (OrParStart n) (making me Nothing (y ∷ []) 0) → length (s .procs) ≡ n → a ≡ startRule or-par pr s p x
-unfolding startRule orParStart
+unfolding startRule orParStart callSpot
 or-par-starts pr s p x {n} {z} {y} {me} ez ey em ea en =
     let b : y ≡ newProcess seq-search starting p z = ey seq-search refl starting refl in
     let m : me ≡ withMode waiting x = em waiting refl in

@@ -40,9 +40,7 @@ fn commit(mv: Move, procs: &[u8], n: usize, c: usize, x: Process) -> Plan
     ensures { λ r. ⌜ ((vs : List Binding) → appliedOf r ≡ by-rule mv (report success (withFound (record { procs = procsOf (now (procs .entry)) n; vars = vs }) c x))) × (r .count ≤ newMost) × (r .changes .count ≡ 0) ⌝ }
 {
     let y = rows::get(procs, n, c);
-    let told = y.spot;
-    let own = x.spot;
-    let z = move_plan::with_clause(own, told.found, told.first);
+    let z = move_plan::with_clause(x.spot, y.spot.found, y.spot.first);
     let me = move_plan::with_spot(x, codes::REPORTING, z);
     move_plan::report(mv, codes::SUCCESS, me)
 }
@@ -54,8 +52,7 @@ pub fn start_or_par(n: usize, p: usize, x: Process) -> Plan
     requires { ⌜ (n ≤ 65535) × (p < n) ⌝ }
     ensures { λ r. ⌜ ((pr : Program) (s : State) → length (s .procs) ≡ n → appliedOf r ≡ startRule or-par pr s p x) × (r .count ≤ newMost) × (r .changes .count ≡ 0) ⌝ }
 {
-    let own = x.spot;
-    let z = move_plan::call_spot(own);
+    let z = move_plan::literal_spot(x.spot, x.spot.literal);
     let y = move_plan::new_process(codes::SEQ_SEARCH, codes::STARTING, p, z);
     let me = move_plan::with_mode(x, codes::WAITING);
     move_plan::make_one(Move::OrParStart(n), me, Found::Nothing, y)
@@ -89,8 +86,7 @@ fn or_par_heard(
     if y.tag != codes::SEQ_SEARCH {
         return move_plan::report(Move::OrParSuccess(p), codes::SUCCESS, x);
     }
-    let told = y.spot;
-    let child = body_child(image, rels, clauses, p, told.found, told.first);
+    let child = body_child(image, rels, clauses, p, y.spot.found, y.spot.first);
     move_plan::make_one(Move::OrParSpawn(n), x, Found::At(c), child)
 }
 
@@ -123,10 +119,9 @@ fn searching(mv: Move, b: u8, p: usize, x: Process, nap: Found) -> Plan
     requires { ⌜ p ≤ 65535 ⌝ }
     ensures { λ r. ⌜ (appliedOf r ≡ by-rule mv (searching b p x nap)) × (r .count ≤ newMost) × (r .changes .count ≡ 0) ⌝ }
 {
-    let own = x.spot;
-    let here = move_plan::at_block(own, b);
+    let here = move_plan::at_block(x.spot, b);
     let me = move_plan::with_spot(x, codes::WAITING, here);
-    let z = move_plan::block_spot(own, b);
+    let z = move_plan::block_spot(x.spot, b);
     let y = move_plan::new_process(codes::OR_SEARCH, codes::STARTING, p, z);
     move_plan::make_one(mv, me, nap, y)
 }
@@ -152,8 +147,7 @@ pub fn start_seq_search(
     requires { ⌜ (rels ≤ 32) × (clauses ≤ 64) × (n ≤ 65535) × (p < n) ⌝ }
     ensures { λ r. ⌜ ((s : State) → length (s .procs) ≡ n → appliedOf r ≡ startRule seq-search (programOf (now (image .entry)) rels clauses) s p x) × (r .count ≤ newMost) × (r .changes .count ≡ 0) ⌝ }
 {
-    let z = x.spot;
-    let count = blocks(image, rels, clauses, z);
+    let count = blocks(image, rels, clauses, x.spot);
     if count == 0 {
         return move_plan::report(Move::SeqSearchNone(p), codes::FAILURE, x);
     }
@@ -173,9 +167,8 @@ fn next_block(
     requires { ⌜ (rels ≤ 32) × (clauses ≤ 64) × (n ≤ 65535) × (p < n) × (x .spot .block < 255) ⌝ }
     ensures { λ r. ⌜ ((s : State) → length (s .procs) ≡ n → appliedOf r ≡ seqSearchNext (ltb (suc (x .spot .block)) (blockCount (programOf (now (image .entry)) rels clauses) (literalAt (programOf (now (image .entry)) rels clauses) (x .spot) .rel))) s p x c) × (r .count ≤ newMost) × (r .changes .count ≡ 0) ⌝ }
 {
-    let z = x.spot;
-    let count = blocks(image, rels, clauses, z);
-    let b = z.block + 1;
+    let count = blocks(image, rels, clauses, x.spot);
+    let b = x.spot.block + 1;
     if count <= b as usize {
         return move_plan::report(Move::SeqSearchFailure(p), codes::FAILURE, x);
     }
@@ -275,12 +268,11 @@ pub fn start_or_search(
     requires { ⌜ (rels ≤ 32) × (clauses ≤ 64) × (n ≤ 65535) × (p < n) × (length (blockAt (programOf (now image) rels clauses) (x .spot)) ≤ newMost) × (m + 510 * length (blockAt (programOf (now image) rels clauses) (x .spot)) ≤ 65535) ⌝ }
     ensures { λ r. ⌜ ((s : State) → length (s .procs) ≡ n → length (s .vars) ≡ m → appliedOf r ≡ startRule or-search (programOf (now (image .entry)) rels clauses) s p x) × (r .count ≤ newMost) × (r .changes .count ≡ 0) ⌝ }
 {
-    let z = x.spot;
-    let rel = called(image, rels, clauses, z);
-    let b = z.block;
+    let rel = called(image, rels, clauses, x.spot);
+    let b = x.spot.block;
     let size = program_block::block_size(image, rels, clauses, rel, b);
     let mut new = [0u8; move_plan::NEW_SIZE];
-    let v = try_all(image, rels, clauses, &mut new, m, p, z, rel, b, size);
+    let v = try_all(image, rels, clauses, &mut new, m, p, x.spot, rel, b, size);
     let me = move_plan::with_mode(x, codes::WAITING);
     let first = move_plan::touched(n, p, size);
     move_plan::make(

@@ -53,7 +53,7 @@ pub fn stepped(
     let made = head::marker_steps(head);
     let steps = count(made);
     let mv = plan.mv;
-    move_plan::write(procs, n, vars, m, p, plan);
+    move_write::write(procs, n, vars, m, p, plan);
     head::put_head(head, n + plan.count, m + plan.fresh, p, steps);
     Stepped::Moved(mv)
 }

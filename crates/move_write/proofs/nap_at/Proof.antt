@@ -1,7 +1,7 @@
 use borrow.Author.Needs.{needs}
-use Rattle.move_plan.proofs.Writers.{nap-none, nap-one}
-use Rattle.move_plan.proofs.nap_at.Statement.{statement}
-use Rattle.move_plan.proofs.nap_at.Tie as tie
+use Rattle.move_write.proofs.Writers.{nap-none, nap-one}
+use Rattle.move_write.proofs.nap_at.Statement.{statement}
+use Rattle.move_write.proofs.nap_at.Tie as tie
 
 pub nap-at-spec : {M : Type 1} → statement M
 nap-at-spec =

@@ -3,10 +3,10 @@ use Prim.Native.Nat.{_-_, _≤_}
 use borrow.Author.Needs.{needs}
 use native.Mathlib.Omega.{arith}
 use Rattle.parlog.specs.Tables.{procsOf}
-use Rattle.move_plan.proofs.Writers.{all-end, all-next, all-start}
+use Rattle.move_write.proofs.Writers.{all-end, all-next, all-start}
 use Rattle.rows.specs.Rows.{Table}
-use Rattle.move_plan.proofs.append_all.Statement.{statement}
-use Rattle.move_plan.proofs.append_all.Tie as tie
+use Rattle.move_write.proofs.append_all.Statement.{statement}
+use Rattle.move_write.proofs.append_all.Tie as tie
 
 abbrev Inv-loop : tie.InvT-loop
 Inv-loop procs₀ n k rows i₀ procs i = (i ≤ k) × Table procs₀ procs (procsOf procs₀ n ++ procsOf rows i)

@@ -24,8 +24,9 @@ use Rattle.parlog.specs.declared.Change.{Change}
 use Rattle.parlog.specs.declared.Found.{Found}
 use Rattle.parlog.specs.declared.Found.the-variants.{At, Nothing}
 use Rattle.parlog.specs.declared.Process.{Process}
-use Rattle.move_plan.specs.Plans.{changesOf, cutBelow, deltaOf, napped, procsAfter, sleptAt, stateIn, varsAfter, Within}
+use Rattle.move_plan.specs.Plans.{changesOf, deltaOf, stateIn, Within}
+use Rattle.move_write.specs.Writing.{cutBelow, napped, procsAfter, sleptAt, varsAfter}
 use Rattle.move_plan.specs.declared.Plan.{Plan}
 use Rattle.rows.proofs.Tables.{procs-at, procs-length, procs-none, procs-snoc, table-rows, table-same, table-then}
 use Rattle.rows.specs.Rows.{Table}
 use Rattle.tree.proofs.Passing.{slept-at, slept-length}

@@ -1,8 +1,8 @@
 use borrow.Author.Needs.{needs}
-use Rattle.move_plan.proofs.Writers.{applied-procs, applied-vars}
+use Rattle.move_write.proofs.Writers.{applied-procs, applied-vars}
 use Rattle.move_plan.specs.Plans.{deltaOf}
-use Rattle.move_plan.proofs.write.Statement.{statement}
-use Rattle.move_plan.proofs.write.Tie as tie
+use Rattle.move_write.proofs.write.Statement.{statement}
+use Rattle.move_write.proofs.write.Tie as tie
 
 pub write-spec : {M : Type 1} → statement M
 write-spec =

@@ -1,9 +1,9 @@
 use mathlib.Core.Path.{refl}
 use borrow.Author.Needs.{needs}
 use Rattle.parlog.specs.Codes.{dormant}
-use Rattle.move_plan.proofs.Writers.{sleep-none, sleep-one}
-use Rattle.move_plan.proofs.sleep_at.Statement.{statement}
-use Rattle.move_plan.proofs.sleep_at.Tie as tie
+use Rattle.move_write.proofs.Writers.{sleep-none, sleep-one}
+use Rattle.move_write.proofs.sleep_at.Statement.{statement}
+use Rattle.move_write.proofs.sleep_at.Tie as tie
 
 pub sleep-at-spec : {M : Type 1} → statement M
 sleep-at-spec =

@@ -6,10 +6,10 @@ use native.Mathlib.Omega.{arith}
 use Rattle.parlog.specs.Tables.{varsIn}
 use Rattle.parlog.specs.Unify.{change, changed}
 use Rattle.parlog.specs.declared.Term.the-variants.{Const}
-use Rattle.move_plan.proofs.Writers.{bind-end, bind-next, bind-start}
+use Rattle.move_write.proofs.Writers.{bind-end, bind-next, bind-start}
 use Rattle.vars.specs.Cells.{Cells}
-use Rattle.move_plan.proofs.bind_all.Statement.{statement}
-use Rattle.move_plan.proofs.bind_all.Tie as tie
+use Rattle.move_write.proofs.bind_all.Statement.{statement}
+use Rattle.move_write.proofs.bind_all.Tie as tie
 
 abbrev Inv-loop : tie.InvT-loop
 Inv-loop vars₀ m k list i₀ vars i = (i ≤ k) × Cells m vars₀ vars (changed (varsIn vars₀ m) (take i list))
