@@ -1,4 +1,5 @@
 -- What one pass over the rows notes for each process about its children, and who can move by it.
+use mathlib.Core.Path.{_≡_}
 use mathlib.Core.Bool.{_&&_, _||_, Bool, cond, false}
 use mathlib.Core.List.{List}
 use Prim.Native.Nat.{_<_, ℕ}
@@ -28,6 +29,10 @@ kept b rows i q = cond b (set rows i q) rows
 -- of each of the n the children from row q on were heard
 unfoldable pub AllNoted : List Process → ℕ → ℕ → List ℕ → List ℕ → List ℕ → List ℕ → Type 0
 AllNoted ps n q silent said latest lowest = (p : ℕ) → p < n → (getD silent p 0 < 2) × (getD said p 0 < 16) × Noted ps p q (noteIn silent said latest lowest p)
+
+-- what the children of process p said, once all were heard
+abbrev pub AllSaid : List Process → ℕ → ℕ → Type 0
+AllSaid ps p s = (x : Note) × (x .said ≡ s) × Noted ps p 0 x
 
 -- a waiting process of this tag can move by what its children said
 unfoldable pub tells : Tag → ℕ → Bool

@@ -1,4 +1,6 @@
 use native.Mathlib.Omega.{arith}
+use Rattle.parlog.specs.Run.{canMove}
+use Rattle.move_plan.specs.Plans.{stateIn}
 use Rattle.turn_search.proofs.Order.{turn-is}
 use borrow.Author.Needs.{needs}
 use Rattle.turn_search.proofs.pass.Statement.{statement}
@@ -20,4 +22,4 @@ pass-spec =
     (λ c. search needs)
     (λ c. search needs)
     (λ c. let u = c .before .before .before .before .before .before .before .before .before in let t = u .before .before .before .before .before .before .before .before .before .before .before .before .before in let s = t .before .before .before .before .before .before .before .before .before .before .before in
-    (λ pr. turn-is _ (s .args .n) (s .args .last) (s .pre .4) (t .sweep .result) (u .sweep2 .result) ((t .sweep .ensures .0) pr) ((u .sweep2 .ensures .0) pr) (c .first-below .ensures), (u .sweep2 .ensures .1), (u .sweep2 .ensures .2), (u .sweep2 .ensures .3), (u .sweep2 .ensures .4), (u .sweep2 .ensures .5))))
+    (λ pr. turn-is (canMove pr (stateIn (s .args .procs .now) (s .args .n) (s .args .vars .now) (s .args .m))) (s .args .n) (s .args .last) (s .pre .4) (t .sweep .result) (u .sweep2 .result) ((t .sweep .ensures .0) pr) ((u .sweep2 .ensures .0) pr) (c .first-below .ensures), (u .sweep2 .ensures .1), (u .sweep2 .ensures .2), (u .sweep2 .ensures .3), (u .sweep2 .ensures .4), (u .sweep2 .ensures .5))))

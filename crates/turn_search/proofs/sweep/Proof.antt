@@ -1,12 +1,12 @@
-use mathlib.Core.Path.{_≡_}
-use Prim.Native.Nat.{_≤_}
+use mathlib.Core.Path.{_≡_, refl}
+use Prim.Native.Nat.{_-_, _≤_}
 use lib.ListN.{length}
 use borrow.Author.Needs.{needs}
 use native.Mathlib.Omega.{arith}
 use Rattle.parlog.specs.Tables.{procsOf}
 use Rattle.move_plan.specs.Plans.{stateIn}
 use Rattle.rows.proofs.Tables.{procs-length}
-use Rattle.turn_search.specs.Notes.{AllNoted}
+use Rattle.turn_search.specs.Notes.{AllNoted, noteIn}
 use Rattle.turn_search.proofs.Passing.{all-end, all-here, all-less}
 use Rattle.turn_search.proofs.Order.{sweep-end, sweep-next, sweep-start, Swept}
 use Rattle.turn_search.proofs.sweep.Statement.{statement}
@@ -26,17 +26,15 @@ sweep-spec =
     μ-loop
     (λ c. (search needs, search needs, search needs, search needs, search needs, search needs, (c .before .before .before .before .before .before .pre .10), sweep-start _ (c .before .before .before .before .before .before .args .n) _ _))
     (λ c. omega arith)
-    (λ c κs. (
-      search needs,
-      search needs,
-      omega arith,
-      omega arith,
-      let s = c .before .before .before .before .before in all-here _ _ (procs-length _ _) (s .before .before .before .before .before .before .before .pre .3) _ _ _ _ _ (omega arith) (s .loop .inv .1) (s .loop .inv .6),
-    ))
-    (λ c κs. search needs)
-    (λ c κs. (search needs, search needs, omega arith, (c .before .before .before .before .before .before .before .before .before .before .before .before .before .before .before .before .before .before .pre .3), search needs, search needs, search needs, search needs, all-less _ _ _ _ _ _ _ (omega arith) (c .before .before .before .before .before .before .before .before .before .before .before .loop .inv .6)))
     (λ c. omega arith)
-    (λ c. let u = c .before .before .before .before .before .before .before .before in let t = u .before .before .before .before .before in let s = t .before .before .before .before .before .before in
+    (λ c. omega arith)
+    (λ c κs. let s = c .before .before .before in
+    ((c .before .before .before .before .before .before .before .before .before .before .pre .0), (c .before .before .before .before .before .before .before .before .before .before .pre .2), (noteIn (s .loop .silent) (s .loop .said) (s .loop .latest) (s .loop .lowest) (s .loop .q - 1), refl, all-here _ _ (procs-length _ _) (c .before .before .before .before .before .before .before .before .before .before .pre .3) _ _ _ _ _ (omega arith) (s .loop .inv .1) (s .loop .inv .6))))
+    (λ c κs. tt)
+    (λ c κs. let s = c .before .before .before .before .before .before .before .before .before in
+    ((c .before .before .before .before .before .before .before .before .before .before .before .before .before .before .before .before .pre .0), (c .before .before .before .before .before .before .before .before .before .before .before .before .before .before .before .before .pre .1), omega arith, (c .before .before .before .before .before .before .before .before .before .before .before .before .before .before .before .before .pre .3), (s .loop .inv .2), (s .loop .inv .3), (s .loop .inv .4), (s .loop .inv .5), all-less _ _ _ _ _ _ _ (omega arith) (s .loop .inv .6)))
+    (λ c. omega arith)
+    (λ c. let u = c .before .before .before .before .before .before .before .before in let t = u .before .before .before .before .before in let s = t .before .before .before .before in
     (omega arith, omega arith, (u .hear-row .ensures .0), (u .hear-row .ensures .1), (u .hear-row .ensures .2), (u .hear-row .ensures .3), (u .hear-row .ensures .4), sweep-next _ (s .before .before .before .before .before .before .before .before .args .n) _ _ _ (s .before .loop .best) (s .loop-test .taken) (s .before .loop .inv .1) (s .before .loop .inv .7) (t .before .can-move .ensures) (t .found .ensures)))
     (λ c. search needs)
     (λ c. search needs)
