@@ -30,9 +30,9 @@ use Rattle.promises.proofs.Entry.{away, Door, door, inside, let-full, t
 use Rattle.promises.specs.Outcomes.{MarkerMeets, RecordsMeet, TurnMeets, WatchMeets}
 use Rattle.rows.proofs.Laws.{row-length}
 use Rattle.rows.proofs.Tables.{procs-at, procs-length}
-use Rattle.turn_by_value.proofs.Marked.{beside-counts, beside-length, beside-marker, marker-back}
-use Rattle.turn_by_value.specs.Turned.{lentWith, markerBytes, markerIn}
-use Rattle.turn_by_value.specs.declared.Turned.{Turned}
+use Rattle.turn_forms.proofs.Marked.{beside-counts, beside-length, beside-marker, marker-back}
+use Rattle.turn_forms.specs.Turned.{lentWith, markerBytes, markerIn}
+use Rattle.turn_forms.specs.declared.Turned.{Turned}
 
 -- ---- a turn leaves the bytes as they were, or writes tables to a head of its size
 

@@ -10,8 +10,8 @@ use Rattle.parlog.specs.declared.Marker.{Marker}
 use Rattle.parlog.specs.declared.Process.{Process}
 use Rattle.parlog.specs.declared.Stepped.{Stepped}
 use Rattle.promises.specs.Outcomes.{LoadMeets, MarkerMeets, RecordsMeet, RunMeets, StartMeets, StepMeets, SupplyMeets, TurnMeets, ValueMeets, WatchMeets}
-use Rattle.turn_by_value.specs.Turned.{turnedFrom}
-use Rattle.turn_by_value.specs.declared.Turned.{Turned}
+use Rattle.turn_forms.specs.Turned.{turnedFrom}
+use Rattle.turn_forms.specs.declared.Turned.{Turned}
 
 module _ (s : List ℕ) where
   pub once-load : {w w′ : ℕ} → LoadMeets s w → LoadMeets s w′ → w ≡ w′

@@ -10,7 +10,7 @@ use Rattle.parlog.specs.declared.Found.{Found}
 use Rattle.parlog.specs.declared.Marker.{Marker}
 use Rattle.parlog.specs.declared.Process.{Process}
 use Rattle.parlog.specs.declared.Stepped.{Stepped}
-use Rattle.turn_by_value.specs.Turned.{turnedFrom, TurnedSays}
+use Rattle.turn_forms.specs.Turned.{turnedFrom, TurnedSays}
 
 -- ---- a word taken apart: bits 0 to 7, 8 to 15, 16 to 23, and 32 to 63
 
@@ -66,7 +66,7 @@ pub record WatchMeets (rows : List ℕ) (w : ℕ) : Type 0 where
 
 -- ---- and the contract of the two calls that no C program reaches
 
--- of turn_lent::turn, lent the counts cs, the rows ps and vs and the marker m: the answer a, and what is lent afterwards
+-- of turn_forms::turn, lent the counts cs, the rows ps and vs and the marker m: the answer a, and what is lent afterwards
 pub record MarkerMeets (lim : Limits) (s cs ps vs : List ℕ) (m : Marker) (a : Stepped) (cs′ ps′ vs′ : List ℕ) (m′ : Marker) : Type 0 where
   pub contract : TurnedSays lim s cs ps vs m (turnedFrom m′ a) cs′ ps′ vs′
 

@@ -1,24 +1,28 @@
 -- What a run promises: its answer, and each table afterwards, byte for byte; and what its parts do.
 use mathlib.Core.Path.{_≡_}
+use mathlib.Core.Bool.{Bool, cond, false, not, true}
 use mathlib.Core.List.{List}
 use Prim.Native.Nat.{_*_, _-_, _<_, _≤_, suc, ℕ}
+use lib.Dec.{eqb}
 use lib.ListN.{length}
 use Rattle.children.specs.Telling.{Tells}
 use Rattle.machine.specs.Entered.{Inside}
 use Rattle.parlog.specs.Calls.{runCall, stepAnswer, turnCall}
+use Rattle.parlog.specs.Codes.{isLive, resultOf}
 use Rattle.parlog.specs.Limits.{Limits}
 use Rattle.parlog.specs.Program.{Program, programOf}
-use Rattle.parlog.specs.Run.{halt, made, runFrom, runTables, stepTables, turnFor, turnTables, unmade}
-use Rattle.parlog.specs.Tables.{cellSize, headSize, Lent, markerLast, procCount, procsOf, putTables, rowSize, tablesIn, varCount}
+use Rattle.parlog.specs.Run.{endOf, halt, runFrom, runTables, turnFor, turnTables}
+use Rattle.parlog.specs.Tables.{at, cellSize, headSize, Lent, lent, markerLast, procCount, procsOf, putTables, rowSize, tablesIn, varCount}
 use Rattle.parlog.specs.declared.End.{End}
-use Rattle.parlog.specs.declared.End.the-variants.{Room}
+use Rattle.parlog.specs.declared.End.the-variants.{Room, Waiting}
 use Rattle.parlog.specs.declared.Found.the-variants.{At}
-use Rattle.parlog.specs.declared.Move.{Move}
 use Rattle.parlog.specs.declared.Ran.{Ran}
 use Rattle.parlog.specs.declared.Ran.the-variants.{Ended}
 use Rattle.parlog.specs.declared.Stepped.{Stepped}
+use Rattle.parlog.specs.declared.Stepped.the-variants.{Moved, Unmoved}
 use Rattle.run.specs.declared.Went.{Went}
 use Rattle.run.specs.declared.Went.the-variants.{On, Over}
+use Rattle.step.specs.Stepping.{tablesAfter}
 use Rattle.tree.specs.Family.{Falls}
 use Rattle.turn_search.specs.declared.Turn.{Turn}
 
@@ -38,12 +42,16 @@ pub record WhoseSays (l : Lent) (t : Turn) : Type 0 where
   pub who : (pr : Program) → t .who ≡ turnFor pr (tablesIn l)
   pub told : (p : ℕ) → t .who ≡ At p → Tells (procsOf (l .procs) (procCount (l .head))) p (t .told)
 
--- Turns 2: the turn in tables that keep the rules
+-- Turns 2: the turn in tables that keep the rules; they keep them afterwards, and no count shrinks
 pub record TurnedIn (lim : Limits) (s : List ℕ) (r c : ℕ) (l : Lent) (a : Stepped) (h p v : List ℕ) : Type 0 where
   pub answer : a ≡ stepAnswer (turnTables lim (programOf s r c) (tablesIn l)) l .answer
   pub head : h ≡ stepAnswer (turnTables lim (programOf s r c) (tablesIn l)) l .lent .head
   pub procs : p ≡ stepAnswer (turnTables lim (programOf s r c) (tablesIn l)) l .lent .procs
   pub vars : v ≡ stepAnswer (turnTables lim (programOf s r c) (tablesIn l)) l .lent .vars
+  pub inside : Inside lim s r c (lent h p v)
+  pub tables : tablesIn (lent h p v) ≡ tablesAfter (turnTables lim (programOf s r c) (tablesIn l)) (tablesIn l)
+  pub more-procs : procCount (l .head) ≤ procCount h
+  pub more-vars : varCount (l .head) ≤ varCount h
 
 -- ---- one turn of a run
 
@@ -55,6 +63,20 @@ pub record Grown (l l′ : Lent) : Type 0 where
   pub more-procs : procCount (l .head) ≤ procCount (l′ .head)
   pub more-vars : varCount (l .head) ≤ varCount (l′ .head)
 
+-- Turns 7: the run is over where the goal has ended
+abbrev pub goalWent : Bool → End → Went
+goalWent true e = Over e
+goalWent false e = On
+
+-- the same of the goal's process in these rows
+abbrev pub goalIn : List ℕ → List ℕ → Went
+goalIn h p = goalWent (not (isLive (at (procsOf p (procCount h)) 0 .mode))) (endOf (resultOf (at (procsOf p (procCount h)) 0 .result)))
+
+-- Turns 7: what the answer of a turn is to a run: a move more; nothing can move; no room for it
+abbrev pub wentBy : Stepped → Went
+wentBy (Moved m) = On
+wentBy (Unmoved f) = Over (cond (eqb (f .number) 10) Waiting Room)
+
 -- Turns 7: it ends here with nothing written, or the rest of the run begins where the step left the tables
 abbrev pub WentTo : Went → Limits → Program → Lent → Lent → Type 0
 WentTo (Over e) lim pr l l′ = ((k n : ℕ) → runFrom (suc k) lim pr n (tablesIn l) ≡ halt e n (tablesIn l)) × (l′ ≡ l)
@@ -64,16 +86,6 @@ WentTo On lim pr l l′ = ((k n : ℕ) → runFrom (suc k) lim pr n (tablesIn l)
 pub record WentSays (lim : Limits) (s : List ℕ) (r c : ℕ) (l : Lent) (w : Went) (l′ : Lent) : Type 0 where
   pub inside : Inside lim s r c l′
   pub went : WentTo w lim (programOf s r c) l l′
-
--- the step of process p: made, or refused with nothing written
-abbrev pub OneTo : Went → Limits → Program → Lent → ℕ → Lent → Type 0
-OneTo (Over e) lim pr l p l′ = (e ≡ Room) × ((k : ℕ) × (stepTables lim pr (tablesIn l) p ≡ unmade k)) × (l′ ≡ l)
-OneTo On lim pr l p l′ = ((m : Move) × (stepTables lim pr (tablesIn l) p ≡ made m (tablesIn l′))) × Grown l l′
-
--- the step in a run
-pub record OneSays (lim : Limits) (s : List ℕ) (r c : ℕ) (l : Lent) (p : ℕ) (w : Went) (l′ : Lent) : Type 0 where
-  pub inside : Inside lim s r c l′
-  pub one : OneTo w lim (programOf s r c) l p l′
 
 -- Turns 7: the end of a run that may make no more moves
 abbrev pub StopSays : Limits → Lent → End → Type 0

@@ -1,53 +1,23 @@
 // A turn, and a run of turns, over lent bytes.
-use children::Told;
 use parlog::End;
 use parlog::Found;
 use parlog::Loaded;
 use parlog::Ran;
 use parlog::Stepped;
+use parlog::codes;
 use turn_search::Turn;
 ghost use mathlib.Core.Path.{_≡_};
-ghost use mathlib.Core.Bool.{not};
-ghost use Prim.Native.Nat.{_*_, _≤_, _<_};
+ghost use Prim.Native.Nat.{_*_, _≤_};
 ghost use lib.ListN.{length};
-ghost use Rattle.children.specs.Telling.{Tells};
 ghost use Rattle.machine.specs.Entered.{Inside};
-ghost use Rattle.parlog.specs.Codes.{isLive, resultOf};
 ghost use Rattle.parlog.specs.Limits.{small};
-ghost use Rattle.parlog.specs.Run.{endOf};
-ghost use Rattle.parlog.specs.Tables.{at, lent, procCount, procsOf, rowSize};
-ghost use Rattle.run.specs.Running.{OneSays, RanSays, RunSays, StopSays, Turning, TurnedIn, TurnSays, WentSays, WhoseSays};
+ghost use Rattle.parlog.specs.Tables.{headSize, lent, procCount, rowSize};
+ghost use Rattle.run.specs.Running.{goalIn, RanSays, RunSays, StopSays, Turning, TurnedIn, TurnSays, wentBy, WentSays, WhoseSays};
 
 // How one turn of a run went: a move more, or the run's end.
 pub enum Went {
     On,
     Over(End),
-}
-
-// The goal's process sleeps.
-fn ended(procs: &[u8], n: usize) -> bool
-    requires { ⌜ n * rowSize ≤ length (now procs) ⌝ }
-    ensures { λ r. ⌜ r ≡ not (isLive (at (procsOf (now (procs .entry)) n) 0 .mode)) ⌝ }
-{
-    rows::mode_at(procs, n, 0) == 0
-}
-
-// The end that a result is.
-fn end_by(result: u8) -> End
-    ensures { λ r. ⌜ r ≡ endOf (resultOf result) ⌝ }
-{
-    if result == 1 {
-        return End::Success;
-    }
-    End::Failure
-}
-
-// What the goal's process had to tell.
-fn goal_end(procs: &[u8], n: usize) -> End
-    requires { ⌜ n * rowSize ≤ length (now procs) ⌝ }
-    ensures { λ r. ⌜ r ≡ endOf (resultOf (at (procsOf (now (procs .entry)) n) 0 .result)) ⌝ }
-{
-    end_by(rows::result_at(procs, n, 0))
 }
 
 // ---- a turn
@@ -97,28 +67,35 @@ pub fn turn(image: &[u8], head: &mut [u8], procs: &mut [u8], vars: &mut [u8]) ->
 
 // ---- a run
 
-// The step of process p, whose turn it is: a move more, or no room for it.
-fn one(
-    image: &[u8],
-    rels: usize,
-    clauses: usize,
-    head: &mut [u8],
-    procs: &mut [u8],
-    vars: &mut [u8],
-    p: usize,
-    told: Told,
-) -> Went
-    requires { ⌜ Inside small (now image) rels clauses (lent (now head) (now procs) (now vars)) × (p < procCount (now head)) × Tells (procsOf (now procs) (procCount (now head))) p told ⌝ }
-    ensures { λ r. ⌜ OneSays small (now (image .entry)) rels clauses (lent (now (head .entry)) (now (procs .entry)) (now (vars .entry))) p r (lent (now (head .exit)) (now (procs .exit)) (now (vars .exit))) ⌝ }
+// Whether the goal's process sleeps, and then the end that its result is.
+fn goal(head: &[u8], procs: &[u8]) -> Went
+    requires { ⌜ (headSize ≤ length (now head)) × (procCount (now head) * rowSize ≤ length (now procs)) ⌝ }
+    ensures { λ r. ⌜ r ≡ goalIn (now (head .entry)) (now (procs .entry)) ⌝ }
 {
-    let a = step::stepped(image, rels, clauses, head, procs, vars, p, told);
-    match a {
-        Stepped::Moved(_) => Went::On,
-        Stepped::Unmoved(_) => Went::Over(End::Room),
+    let n = head::proc_count(head);
+    if rows::mode_at(procs, n, 0) != codes::DORMANT {
+        return Went::On;
     }
+    if rows::result_at(procs, n, 0) == codes::SUCCESS {
+        return Went::Over(End::Success);
+    }
+    Went::Over(End::Failure)
 }
 
-// One turn of a run that may make a move more: its tests, then its step.
+// What the answer of a turn is to a run; refused as 10 is that nothing can move.
+fn went_by(a: Stepped) -> Went
+    ensures { λ r. ⌜ r ≡ wentBy a ⌝ }
+{
+    let Stepped::Unmoved(f) = a else {
+        return Went::On;
+    };
+    if f.number == 10 {
+        return Went::Over(End::Waiting);
+    }
+    Went::Over(End::Room)
+}
+
+// One turn of a run that may make a move more: the goal's test, then the turn.
 fn go(
     image: &[u8],
     rels: usize,
@@ -130,16 +107,12 @@ fn go(
     requires { ⌜ Inside small (now image) rels clauses (lent (now head) (now procs) (now vars)) ⌝ }
     ensures { λ r. ⌜ WentSays small (now (image .entry)) rels clauses (lent (now (head .entry)) (now (procs .entry)) (now (vars .entry))) r (lent (now (head .exit)) (now (procs .exit)) (now (vars .exit))) ⌝ }
 {
-    let n = head::proc_count(head);
-    if ended(procs, n) {
-        return Went::Over(goal_end(procs, n));
-    }
-    let t = whose(head, procs, vars);
-    let f = t.who;
-    let Found::At(p) = f else {
-        return Went::Over(End::Waiting);
+    let g = goal(head, procs);
+    let Went::On = g else {
+        return g;
     };
-    one(image, rels, clauses, head, procs, vars, p, t.told)
+    let a = turn_in(image, rels, clauses, head, procs, vars);
+    went_by(a)
 }
 
 // The tests alone, where the limit is used up.
@@ -147,9 +120,12 @@ fn stop(head: &[u8], procs: &[u8], vars: &[u8]) -> End
     requires { ⌜ Turning small (now head) (now procs) (now vars) ⌝ }
     ensures { λ r. ⌜ StopSays small (lent (now (head .entry)) (now (procs .entry)) (now (vars .entry))) r ⌝ }
 {
-    let n = head::proc_count(head);
-    if ended(procs, n) {
-        return goal_end(procs, n);
+    let g = goal(head, procs);
+    match g {
+        Went::Over(e) => {
+            return e;
+        }
+        Went::On => {}
     }
     let t = whose(head, procs, vars);
     let f = t.who;

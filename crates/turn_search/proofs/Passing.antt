@@ -21,7 +21,7 @@ use Rattle.parlog.proofs.Kin.{child-at}
 use Rattle.parlog.proofs.Repeated.{turn-can}
 use Rattle.parlog.specs.Codes.{failure, success}
 use Rattle.parlog.specs.Limits.{small}
-use Rattle.parlog.specs.Program.{Program}
+use Rattle.parlog.specs.Program.{Program, programOf}
 use Rattle.parlog.specs.Run.{canMove, turnFor, turnOf}
 use Rattle.parlog.specs.Tables.{at, State}
 use Rattle.parlog.specs.Tree.{isChild, reports}
@@ -150,9 +150,11 @@ module _ (ps : List Process) (n q : ℕ) (silent said latest lowest : List ℕ) 
   all-end lo e so = rw e at so
 
 -- whose turn it is stands in the table
-pub turn-there : (pr : Program) (st : State) (n last : ℕ) → length (st .procs) ≡ n → {p : ℕ} → turnOf (canMove pr st) n last ≡ At p → p < n
+pub turn-there : (st : State) (n last : ℕ) → length (st .procs) ≡ n → {g : Found} → ((pr : Program) → g ≡ turnOf (canMove pr st) n last) → {p : ℕ} → g ≡ At p → p < n
 unfolding turnFor
-turn-there pr st n last en {p} e = let h = turn-can small pr (record { state = st; last = last; steps = 0 }) p (rw en e) in omega (arith, h .0, en)
+turn-there st n last en is {p} e =
+    let any : Program = programOf [] 0 0 in
+    let h = turn-can small any (record { state = st; last = last; steps = 0 }) p (rw en (sym (is any) ∙ e)) in omega (arith, h .0, en)
 
 -- ---- what the children of the process that was found report
 

@@ -1,14 +1,14 @@
 -- What one pass over the rows notes for each process about its children, and who can move by it.
-use mathlib.Core.Bool.{_&&_, _||_, Bool, cond, false}
+use mathlib.Core.Path.{_≡_}
+use mathlib.Core.Bool.{_||_, Bool, cond, false}
 use mathlib.Core.List.{List}
 use Prim.Native.Nat.{_<_, ℕ}
-use lib.Dec.{leb, ltb}
+use lib.Dec.{ltb}
 use lib.Bits.{bitOr}
 use lib.ListN.{getD, set}
 use Rattle.children.specs.Notes.{latestBit, latestIn, noneSilent, Noted, someBad, someGood}
 use Rattle.children.specs.declared.Note.{Note}
 use Rattle.parlog.specs.Codes.{and-par, and-seq, equate, guard-eval, input-match, or-par, or-search, seq-search, Tag, try-clause}
-use Rattle.parlog.specs.Scan.{lowest}
 use Rattle.parlog.specs.declared.Found.{Found}
 use Rattle.parlog.specs.declared.Found.the-variants.{At, Nothing}
 use Rattle.parlog.specs.declared.Process.{Process}
@@ -28,6 +28,10 @@ kept b rows i q = cond b (set rows i q) rows
 -- of each of the n the children from row q on were heard
 unfoldable pub AllNoted : List Process → ℕ → ℕ → List ℕ → List ℕ → List ℕ → List ℕ → Type 0
 AllNoted ps n q silent said latest lowest = (p : ℕ) → p < n → (getD silent p 0 < 2) × (getD said p 0 < 16) × Noted ps p q (noteIn silent said latest lowest p)
+
+-- what the children of process p said, once all were heard
+abbrev pub AllSaid : List Process → ℕ → ℕ → Type 0
+AllSaid ps p s = (x : Note) × (x .said ≡ s) × Noted ps p 0 x
 
 -- a waiting process of this tag can move by what its children said
 unfoldable pub tells : Tag → ℕ → Bool
@@ -64,10 +68,6 @@ asksOf guard-eval = latestBit
 asksOf equate = 0
 
 -- ---- the search
-
--- the first from a on, below e, that passes the test
-unfoldable pub firstFrom : (ℕ → Bool) → ℕ → ℕ → Found
-firstFrom f a e = lowest (λ i. leb a i && f i) e
 
 -- the number, where it is below n
 abbrev pub foundIn : ℕ → ℕ → Found

@@ -4,7 +4,7 @@ ghost use mathlib.Core.Bool.{cond};
 ghost use Prim.Native.Nat.{_*_, _≤_, _<_, suc, ℕ};
 ghost use lib.Dec.{eqb, ltb};
 ghost use lib.ListN.{length, set};
-ghost use Rattle.children.specs.Notes.{goodNote, hear, Noted};
+ghost use Rattle.children.specs.Notes.{goodNote, hear};
 ghost use Rattle.children.specs.Telling.{Tells};
 ghost use Rattle.parlog.specs.Codes.{tagOf};
 ghost use Rattle.parlog.specs.Program.{Program};
@@ -15,7 +15,7 @@ ghost use Rattle.parlog.specs.Unify.{someBound};
 ghost use Rattle.parlog.specs.declared.Found.the-variants.{At};
 ghost use Rattle.move_plan.specs.Plans.{stateIn};
 ghost use Rattle.tree.specs.Family.{Falls};
-ghost use Rattle.turn_search.specs.Notes.{AllNoted, asksOf, firstFrom, foundIn, kept, noteIn, saidIn, tells};
+ghost use Rattle.turn_search.specs.Notes.{AllNoted, AllSaid, asksOf, foundIn, kept, noteIn, saidIn, tells};
 use children::Note;
 use children::Told;
 use parlog::Found;
@@ -90,19 +90,9 @@ fn wakes(procs: &[u8], n: usize, vars: &[u8], m: usize, p: usize) -> bool
     unify::some_bound(vars, m, count, notes)
 }
 
-// A rule applies to process p, once all its children were heard.
-fn can_move(
-    procs: &[u8],
-    n: usize,
-    vars: &[u8],
-    m: usize,
-    silent: &[u8],
-    said: &[u8],
-    latest: &[u16],
-    lowest: &[u16],
-    p: usize,
-) -> bool
-    requires { ⌜ (n * rowSize ≤ length (now procs)) × (m * cellSize ≤ length (now vars)) × (p < length (now silent)) × (p < length (now said)) × Noted (procsOf (now procs) n) p 0 (noteIn (now silent) (now said) (now latest) (now lowest) p) ⌝ }
+// A rule applies to process p, once all its children were heard; s is what they said.
+fn can_move(procs: &[u8], n: usize, vars: &[u8], m: usize, p: usize, s: u8) -> bool
+    requires { ⌜ (n * rowSize ≤ length (now procs)) × (m * cellSize ≤ length (now vars)) × AllSaid (procsOf (now procs) n) p s ⌝ }
     ensures { λ r. ⌜ ((pr : Program) → r ≡ canMove pr (stateIn (now (procs .entry)) n (now (vars .entry)) m) p) ⌝ }
 {
     let mode = rows::mode_at(procs, n, p);
@@ -111,7 +101,7 @@ fn can_move(
     }
     if mode == codes::WAITING {
         let tag = rows::tag_at(procs, n, p);
-        return tells(tag, silent[p] | said[p]);
+        return tells(tag, s);
     }
     if mode == codes::REPORTING {
         return p == 0;
@@ -212,34 +202,7 @@ fn first_below(n: usize, a: usize, b: usize) -> Found
     Found::Nothing
 }
 
-// The lowest that can move of the rows below `hi` down to `lo`, or n; each is heard by its parent.
-fn sweep(
-    procs: &[u8],
-    n: usize,
-    vars: &[u8],
-    m: usize,
-    silent: &mut [u8],
-    said: &mut [u8],
-    latest: &mut [u16],
-    lowest: &mut [u16],
-    lo: usize,
-    hi: usize,
-) -> usize
-    requires { ⌜ (n * rowSize ≤ length (now procs)) × (n ≤ 512) × (m * cellSize ≤ length (now vars)) × Falls (procsOf (now procs) n) × (lo ≤ hi) × (hi ≤ n) × (length (now silent) ≡ 512) × (length (now said) ≡ 512) × (length (now latest) ≡ 512) × (length (now lowest) ≡ 512) × AllNoted (procsOf (now procs) n) n hi (now silent) (now said) (now latest) (now lowest) ⌝ }
-    ensures { λ r. ⌜ ((pr : Program) → foundIn n r ≡ firstFrom (canMove pr (stateIn (now (procs .entry)) n (now (vars .entry)) m)) lo hi) × (length (now (silent .exit)) ≡ 512) × (length (now (said .exit)) ≡ 512) × (length (now (latest .exit)) ≡ 512) × (length (now (lowest .exit)) ≡ 512) × AllNoted (procsOf (now (procs .entry)) n) n lo (now (silent .exit)) (now (said .exit)) (now (latest .exit)) (now (lowest .exit)) ⌝ }
-{
-    let mut best = n;
-    let mut q = hi;
-    while lo < q {
-        q -= 1;
-        let can = can_move(procs, n, vars, m, silent, said, latest, lowest, q);
-        best = found(can, q, best);
-        hear_row(procs, n, silent, said, latest, lowest, q);
-    }
-    best
-}
-
-// The next process behind the last that can move, else the lowest that can: one pass over the rows, in two parts.
+// The next process behind the last that can move, else the lowest that can: one pass over the rows, in which each is heard by its parent.
 fn pass(
     procs: &[u8],
     n: usize,
@@ -251,11 +214,21 @@ fn pass(
     latest: &mut [u16],
     lowest: &mut [u16],
 ) -> Found
-    requires { ⌜ (n * rowSize ≤ length (now procs)) × (n ≤ 512) × (m * cellSize ≤ length (now vars)) × Falls (procsOf (now procs) n) × (last < n) × (length (now silent) ≡ 512) × (length (now said) ≡ 512) × (length (now latest) ≡ 512) × (length (now lowest) ≡ 512) × AllNoted (procsOf (now procs) n) n n (now silent) (now said) (now latest) (now lowest) ⌝ }
+    requires { ⌜ (n * rowSize ≤ length (now procs)) × (n ≤ 512) × (m * cellSize ≤ length (now vars)) × Falls (procsOf (now procs) n) × (length (now silent) ≡ 512) × (length (now said) ≡ 512) × (length (now latest) ≡ 512) × (length (now lowest) ≡ 512) × AllNoted (procsOf (now procs) n) n n (now silent) (now said) (now latest) (now lowest) ⌝ }
     ensures { λ r. ⌜ ((pr : Program) → r ≡ turnOf (canMove pr (stateIn (now (procs .entry)) n (now (vars .entry)) m)) n last) × (length (now (silent .exit)) ≡ 512) × (length (now (said .exit)) ≡ 512) × (length (now (latest .exit)) ≡ 512) × (length (now (lowest .exit)) ≡ 512) × AllNoted (procsOf (now (procs .entry)) n) n 0 (now (silent .exit)) (now (said .exit)) (now (latest .exit)) (now (lowest .exit)) ⌝ }
 {
-    let behind = sweep(procs, n, vars, m, silent, said, latest, lowest, last + 1, n);
-    let round = sweep(procs, n, vars, m, silent, said, latest, lowest, 0, last + 1);
+    let mut behind = n;
+    let mut round = n;
+    let mut q = n;
+    while 0 < q {
+        q -= 1;
+        let s = silent[q] | said[q];
+        let can = can_move(procs, n, vars, m, q, s);
+        let near = found(can, q, behind);
+        behind = found(last < q, near, behind);
+        round = found(can, q, round);
+        hear_row(procs, n, silent, said, latest, lowest, q);
+    }
     first_below(n, behind, round)
 }
 

@@ -1,4 +1,4 @@
-use Rattle.run.proofs.Turning.{turn-below, turning, went-ended, went-one, went-waits}
+use Rattle.run.proofs.Turning.{turning, went-ended, went-turned}
 use borrow.Author.Needs.{needs}
 use Rattle.run.proofs.go.Statement.{statement}
 use Rattle.run.proofs.go.Tie as tie
@@ -7,21 +7,15 @@ pub go-spec : {M : Type 1} → statement M
 go-spec =
     tie.close
     (tie.spec
-    (λ c κs. search needs)
-    (λ c κs. search needs)
-    (λ c κs. search needs)
-    (λ c. search needs)
-    (λ c. search needs)
-    (λ c. went-ended _ _ (c .before .before .before .before .before .proc-count .ensures .0) (c .before .before .before .ended .ensures) _ _ _ (c .before .before .before .before .before .before .before .before .before .before .before .pre) (c .before .before .if1 .taken) (c .goal-end .ensures))
-    (λ c κs. turning _ _ _ _ _ (c .before .before .before .before .before .before .before .before .before .before .before .before .pre))
+    (λ c κs. let t = turning _ _ _ _ _ (c .before .before .before .before .before .before .pre) in (t .head, t .rows))
     (λ c. search needs)
     (λ c. search needs)
     (λ c. search needs)
     (λ c. search needs)
+    (λ c. went-ended _ _ (c .before .before .goal .ensures) (c .enum-told2 .given .1) _ _ _ (c .before .before .before .before .before .before .before .before .before .pre))
+    (λ c κs. (c .before .before .before .before .before .before .before .before .before .before .before .before .pre))
+    (λ c κs. tt)
     (λ c. search needs)
-    (λ c. went-waits _ _ (c .before .before .before .before .before .before .before .before .before .proc-count .ensures .0) (c .before .before .before .before .before .before .before .ended .ensures) _ _ _ (c .before .before .before .before .before .before .before .before .before .before .before .before .before .before .before .pre) (c .before .before .before .before .before .before .if1 .left) (c .before .before .whose .ensures .who) (c .enum-told .given .1))
-    (λ c κs. ((c .before .before .before .before .before .before .before .before .before .before .before .before .before .before .before .before .before .before .before .pre), turn-below _ (c .before .before .before .before .before .before .whose .ensures .who) (c .before .before .before .before .f .given .1), (c .before .before .before .before .before .before .whose .ensures .told) _ (c .before .before .before .before .f .given .1)))
     (λ c. search needs)
     (λ c. search needs)
-    (λ c. search needs)
-    (λ c. went-one _ _ (c .before .before .before .before .before .before .before .before .before .before .before .before .before .before .before .before .before .before .before .before .proc-count .ensures .0) (c .before .before .before .before .before .before .before .before .before .before .before .before .before .before .before .before .before .before .ended .ensures) _ _ _ (c .before .before .before .before .before .before .before .before .before .before .before .before .before .before .before .before .before .before .before .before .before .before .before .before .before .before .pre) (c .before .before .before .before .before .before .before .before .before .before .before .before .before .before .before .before .before .if1 .left) (c .before .before .before .before .before .before .before .before .before .before .before .before .before .whose .ensures .who) (c .before .before .before .before .before .before .before .before .before .before .before .f .given .1) (c .before .before .before .before .before .before .one .ensures)))
+    (λ c. went-turned _ _ (c .before .before .before .before .before .before .before .before .before .before .before .before .before .goal .ensures) (c .before .before .before .before .before .before .before .before .before .before .before .enum-told .given .1) _ _ _ (c .before .before .before .before .before .before .before .turn-in .ensures) (c .went-by .ensures)))

@@ -1,7 +1,7 @@
 use borrow.Author.Needs.{needs}
-use Rattle.turn_by_value.proofs.Core.{joined}
-use Rattle.turn_by_value.proofs.join_head.Statement.{statement}
-use Rattle.turn_by_value.proofs.join_head.Tie as tie
+use Rattle.turn_forms.proofs.Core.{joined}
+use Rattle.turn_forms.proofs.join_head.Statement.{statement}
+use Rattle.turn_forms.proofs.join_head.Tie as tie
 
 pub join-head-spec : {M : Type 1} → statement M
 join-head-spec =

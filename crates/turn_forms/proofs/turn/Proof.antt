@@ -1,4 +1,4 @@
--- `turn_lent::turn` meets its contract: a walk of its code, by hand. The marker's borrow is opened, its two numbers are read, the lent bytes and the numbers go to `turn_core`, the two numbers that it hands back are stored, and the borrow is closed at the new record.
+-- `turn_forms::turn` meets its contract: a walk of its code, by hand. The marker's borrow is opened, its two numbers are read, the lent bytes and the numbers go to `turn_core`, the two numbers that it hands back are stored, and the borrow is closed at the new record.
 -- The three tables are given up for good to `turn_core` (`gave-slice`). All that the proof knows of `turn_core` is that it meets its contract.
 -- Assumes nothing.
 use mathlib.Core.Path.{_≡_, refl, ap}
@@ -43,23 +43,23 @@ use denote.Triple.Table.{entered, cited}
 use denote.Triple.Walked.{says, Stays, stay-none-slice, stay-ref, gave-slice, walkOf, AllGo, goes-none-slice, goes-ref, goes-gave-slice, Walks, ends-at, walked, walk-meets}
 use denote.Exit.{yes}
 use Rattle.parlog.specs.Limits.{small}
-use Rattle.turn_by_value.specs.Turned.{TurnedSays}
-use Rattle.turn_by_value.specs.declared.Turned.{Turned}
+use Rattle.turn_forms.specs.Turned.{TurnedSays}
+use Rattle.turn_forms.specs.declared.Turned.{Turned}
 use Rattle.parlog.specs.declared.Marker.{Marker}
 use Rattle.parlog.proofs.Marker as T
 use Rattle.parlog.proofs.Marker.Laws as T′
-use Rattle.turn_by_value.proofs.Turned as U
-use Rattle.turn_by_value.proofs.Turned.Laws as U′
+use Rattle.turn_forms.proofs.Turned as U
+use Rattle.turn_forms.proofs.Turned.Laws as U′
 use Rattle.parlog.proofs.Stepped as Ans
 use Rattle.parlog.proofs.Stepped.Laws as Ans′
-use Rattle.turn_by_value.proofs.turn_core as cr
-use Rattle.turn_by_value.proofs.turn_core.Symbol as cr-def
-use Rattle.turn_by_value.proofs.turn_core.Symbol.{name as #turn-by-value·turn-core}
-use Rattle.turn_by_value.proofs.turn_core.Met as cr-thm
-use Rattle.turn_lent.proofs.turn.Key.{name as #turn-lent·turn}
-use Rattle.turn_lent.proofs.turn as turn
-use Rattle.turn_lent.proofs.turn.Statement as stated
-use Rattle.turn_lent.proofs.turn.Code as code
+use Rattle.turn_forms.proofs.turn_core as cr
+use Rattle.turn_forms.proofs.turn_core.Symbol as cr-def
+use Rattle.turn_forms.proofs.turn_core.Symbol.{name as #turn-forms·turn-core}
+use Rattle.turn_forms.proofs.turn_core.Met as cr-thm
+use Rattle.turn_forms.proofs.turn.Key.{name as #turn-forms·turn}
+use Rattle.turn_forms.proofs.turn as turn
+use Rattle.turn_forms.proofs.turn.Statement as stated
+use Rattle.turn_forms.proofs.turn.Code as code
 
 abbrev stayed : Stays (turn.ended .signature .params) (turn.ended .kept)
 stayed = (stay-none-slice (0 ∷ []) tt (plain (λ _. u8)) yes, (gave-slice (1 ∷ []) tt (plain (λ _. u8)), (gave-slice (2 ∷ []) tt (plain (λ _. u8)), (gave-slice (3 ∷ []) tt (plain (λ _. u8)), (stay-ref (4 ∷ []) tt (plain (λ _. T.the-row)), tt)))))
@@ -176,7 +176,7 @@ module _ {M : Type 1} (𝓤 : URA M) (H : Heap 𝓤) (A : Atoms 𝓤) (W : Given
         feqI ! (List Val) (vptr b o ∷ []) (vptr b o ∷ []) refl $ fjoin3 ! $ nothing ! $ move ! (1 ∷ 0 ∷ []) $ fjoin ! $ move ! (1 ∷ 0 ∷ []) $ fjoin ! $ move ! (1 ∷ 0 ∷ []) $ fjoin ! $ move ! (1 ∷ 0 ∷ []) $ fjoin ! $ move ! (1 ∷ 0 ∷ []) $ fjoin ! $
         owned ! Ans.the-row (Is Ans.the-row) (EL.makes Ans.the-type Ans′.the-plain 𝓤 H A) (r .answer) _ is-answer $ move ! (1 ∷ 0 ∷ []) $ done !
 
-  module _ (C : Calls 𝓤 H) (Λ : Loops 𝓤 H) (fm : FmC 𝓤 H (W .laws) C) (known : Triple 𝓤 (C #turn-by-value·turn-core) (Core 𝓤 H A at-mem run)) where
+  module _ (C : Calls 𝓤 H) (Λ : Loops 𝓤 H) (fm : FmC 𝓤 H (W .laws) C) (known : Triple 𝓤 (C #turn-forms·turn-core) (Core 𝓤 H A at-mem run)) where
     walk : Room u8 (length im) → Room u8 (length cs) → Room u8 (length ps) → Room u8 (length vs) → ent 𝓤 (onEntry 𝓤 H A turn.signature (κᵢ, (κ₀, (κ₁, (κ₂, (κ, tt))))) (qᵢ, (q₀, (q₁, (q₂, (q, tt))))) a vals) (WpFn 𝓤 H C Λ code.function (sᵢ ∷ s₀ ∷ s₁ ∷ s₂ ∷ vptr b o ∷ []) Post)
     walk roomᵢ room₀ room₁ room₂ =
         qed W ((‵ (flft κᵢ qᵢ) ⊛ ‵ (flft κ₀ q₀) ⊛ ‵ (flft κ₁ q₁) ⊛ ‵ (flft κ₂ q₂) ⊛ ‵ (flft κ q) ⊛ ‵ ftrue) ∷ ‵ (owns (ShrSlice (named 0) κᵢ u8 ∷ MutSlice (named 1) κ₀ u8 ∷ MutSlice (named 2) κ₁ u8 ∷ MutSlice (named 3) κ₂ u8 ∷ MutRef (named 4) κ T.the-row ∷ []) a vals) ∷ []) ∵ enter ! C Λ code.function (sᵢ ∷ s₀ ∷ s₁ ∷ s₂ ∷ vptr b o ∷ []) _ $
@@ -223,7 +223,7 @@ module _ {M : Type 1} (𝓤 : URA M) (H : Heap 𝓤) (A : Atoms 𝓤) (W : Given
         keep ! (5 ∷ 6 ∷ 7 ∷ 0 ∷ 2 ∷ 3 ∷ 4 ∷ 8 ∷ 10 ∷ 11 ∷ 13 ∷ []) $ by ! (exits r w is (ws .1 .0) (ws .1 .1 .0) (ws .1 .1 .1 .0) e len₀ len₁ len₂))))))))))))))))))))))))))
 
 module _ {M : Type 1} (𝓤 : URA M) (H : Heap 𝓤) (A : Atoms 𝓤) (W : Given 𝓤 H A) (at-mem : Memory → SProp 𝓤) (run : Routine → Fun 𝓤) where
-  turn-walks : (C : Calls 𝓤 H) (Λ : Loops 𝓤 H) → FmC 𝓤 H (W .laws) C → Triple 𝓤 (C #turn-by-value·turn-core) (Core 𝓤 H A at-mem run) → Walks 𝓤 H A turn.ended stayed (WpFn 𝓤 H C Λ code.function) (turn.clauses 𝓤 H A at-mem run)
+  turn-walks : (C : Calls 𝓤 H) (Λ : Loops 𝓤 H) → FmC 𝓤 H (W .laws) C → Triple 𝓤 (C #turn-forms·turn-core) (Core 𝓤 H A at-mem run) → Walks 𝓤 H A turn.ended stayed (WpFn 𝓤 H C Λ code.function) (turn.clauses 𝓤 H A at-mem run)
   turn-walks C Λ fm known = walked 𝓤 H A turn.ended stayed (turn.clauses 𝓤 H A at-mem run) (WpFn 𝓤 H C Λ code.function) (λ κs. (slice-vals, (slice-vals, (slice-vals, (slice-vals, (ptr-vals, tt))))))
       (λ κs. (shr-slice-tells (named 0) (κs .0) u8, (mut-slice-tells (named 1) (κs .1 .0) u8, (mut-slice-tells (named 2) (κs .1 .1 .0) u8, (mut-slice-tells (named 3) (κs .1 .1 .1 .0) u8, (mut-tells (named 4) (κs .1 .1 .1 .1 .0) T.the-row, tt))))))
       (λ κs qs bounds a _ are. via 𝓤 _ (fst∗ 𝓤 _ (emp 𝓤))
@@ -233,7 +233,7 @@ module _ {M : Type 1} (𝓤 : URA M) (H : Heap 𝓤) (A : Atoms 𝓤) (W : Given
   all-go : AllGo 𝓤 H A W 5 (turn.signature .params) (turn.ended .kept) stayed
   all-go = (goes-none-slice 𝓤 H A W 5 (0 ∷ []) tt (plain (λ _. u8)) yes, (goes-gave-slice 𝓤 H A W 5 1 tt (plain (λ _. u8)), (goes-gave-slice 𝓤 H A W 5 2 tt (plain (λ _. u8)), (goes-gave-slice 𝓤 H A W 5 3 tt (plain (λ _. u8)), (goes-ref 𝓤 H A W 5 4 tt (plain (λ _. T.the-row)), tt)))))
 
-turn-meets : {M : Type 1} (𝓤 : URA M) (H : Heap 𝓤) (A : Atoms 𝓤) → Given 𝓤 H A → (at-mem : Memory → SProp 𝓤) (run : Routine → Fun 𝓤) (𝓣 : Tables 𝓤 H) → Triple 𝓤 (𝓣 .C #turn-by-value·turn-core) (Core 𝓤 H A at-mem run)
+turn-meets : {M : Type 1} (𝓤 : URA M) (H : Heap 𝓤) (A : Atoms 𝓤) → Given 𝓤 H A → (at-mem : Memory → SProp 𝓤) (run : Routine → Fun 𝓤) (𝓣 : Tables 𝓤 H) → Triple 𝓤 (𝓣 .C #turn-forms·turn-core) (Core 𝓤 H A at-mem run)
     → Meets 𝓤 H A turn.signature (WpFn 𝓤 H (𝓣 .C) (𝓣 .Λ) code.function) (turn.spec 𝓤 H A at-mem run)
 turn-meets 𝓤 H A W at-mem run 𝓣 known = walk-meets 𝓤 H A turn.ended stayed W (all-go 𝓤 H A W at-mem run) (turn.clauses 𝓤 H A at-mem run) (WpFn 𝓤 H (𝓣 .C) (𝓣 .Λ) code.function) (WpFn-mono 𝓤 H (W .laws) 𝓣 code.function)
     (turn-walks 𝓤 H A W at-mem run (𝓣 .C) (𝓣 .Λ) (fmOf 𝓤 H (W .laws) 𝓣) known)
@@ -242,6 +242,6 @@ pub turn-spec : {M : Type 1} → stated.statement M
 unfolding code.routine tablesOf
 turn-spec 𝓤 H 𝓜 𝓖 𝓡 =
     entered 𝓤 H (tripleOf 𝓤 H (𝓖 .A) turn.signature (turn.spec 𝓤 H (𝓖 .A) (𝓜 .mem) (𝓡 .run)))
-    (tables 𝓤 H 𝓜 𝓡 code.env .C) (tables 𝓤 H 𝓜 𝓡 code.env .Λ) #turn-lent·turn code.function (code.unfolded 𝓤 H 𝓜 𝓡)
+    (tables 𝓤 H 𝓜 𝓡 code.env .C) (tables 𝓤 H 𝓜 𝓡 code.env .Λ) #turn-forms·turn code.function (code.unfolded 𝓤 H 𝓜 𝓡)
     (turn-meets 𝓤 H (𝓖 .A) (givenOf 𝓤 H 𝓜 𝓖) (𝓜 .mem) (𝓡 .run) (tablesOf 𝓤 H 𝓜 (tables 𝓤 H 𝓜 𝓡 code.env))
-    (cited 𝓤 H (Core 𝓤 H (𝓖 .A) (𝓜 .mem) (𝓡 .run)) 𝓜 𝓡 code.env #turn-by-value·turn-core cr-def.routine code.calls-turn-by-value·turn-core (cr-thm.met 𝓤 H 𝓜 𝓖 𝓡)))
+    (cited 𝓤 H (Core 𝓤 H (𝓖 .A) (𝓜 .mem) (𝓡 .run)) 𝓜 𝓡 code.env #turn-forms·turn-core cr-def.routine code.calls-turn-forms·turn-core (cr-thm.met 𝓤 H 𝓜 𝓖 𝓡)))

@@ -1,12 +1,12 @@
 use Rattle.head.proofs.Laws.{paste-one}
-use Rattle.turn_by_value.proofs.Core.{copied}
+use Rattle.turn_forms.proofs.Core.{copied}
 use lib.Seq.{paste, paste-zero}
 use lib.ListN.{length}
 use borrow.Author.Needs.{needs}
 use mathlib.Core.Path.{_≡_, _∙_}
 use Prim.Native.Nat.{_≤_, _-_}
-use Rattle.turn_by_value.proofs.put_counts.Statement.{statement}
-use Rattle.turn_by_value.proofs.put_counts.Tie as tie
+use Rattle.turn_forms.proofs.put_counts.Statement.{statement}
+use Rattle.turn_forms.proofs.put_counts.Tie as tie
 
 abbrev Inv-loop : tie.InvT-loop
 Inv-loop counts₀ head k₀ counts k = (k ≤ 4) × (length head ≡ 10) × (length counts₀ ≡ 4) × (length counts ≡ 4) × (counts ≡ paste counts₀ 0 head k)

@@ -1,9 +1,9 @@
-use Rattle.turn_by_value.proofs.Core.{core-away, core-turned}
+use Rattle.turn_forms.proofs.Core.{core-away, core-turned}
 use Rattle.parlog.specs.Limits.{small}
 use borrow.Author.Needs.{needs}
 use borrow.Author.Tests.{ne-eqb}
-use Rattle.turn_by_value.proofs.turn_core.Statement.{statement}
-use Rattle.turn_by_value.proofs.turn_core.Tie as tie
+use Rattle.turn_forms.proofs.turn_core.Statement.{statement}
+use Rattle.turn_forms.proofs.turn_core.Tie as tie
 
 -- counts of another size
 returns : tie.Need-returns

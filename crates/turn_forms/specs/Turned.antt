@@ -8,7 +8,7 @@ use Rattle.parlog.specs.Tables.{high, Lent, lent, low, u16At}
 use Rattle.parlog.specs.declared.Marker.{Marker}
 use Rattle.parlog.specs.declared.Stepped.{Stepped}
 use Rattle.parlog.specs.Calls.{turnCall}
-use Rattle.turn_by_value.specs.declared.Turned.{Turned}
+use Rattle.turn_forms.specs.declared.Turned.{Turned}
 
 -- the marker as the bytes behind the counts
 unfoldable pub markerBytes : Marker → List ℕ

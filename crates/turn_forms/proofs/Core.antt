@@ -19,11 +19,11 @@ use Rattle.parlog.specs.declared.Marker.{Marker}
 use Rattle.parlog.specs.declared.Refusal.{Refusal}
 use Rattle.parlog.specs.declared.Stepped.{Stepped}
 use Rattle.parlog.specs.declared.Stepped.the-variants.{Unmoved}
-use Rattle.turn_by_value.proofs.Marked.{beside-counts, beside-marker, head-marker, other-size, turn-away}
-use Rattle.turn_by_value.specs.Away.{awayOf}
-use Rattle.turn_by_value.specs.Turned.{lentWith, markerBytes, markerIn, turnedFrom, TurnedSays}
+use Rattle.turn_forms.proofs.Marked.{beside-counts, beside-marker, head-marker, other-size, turn-away}
+use Rattle.turn_forms.specs.Away.{awayOf}
+use Rattle.turn_forms.specs.Turned.{lentWith, markerBytes, markerIn, turnedFrom, TurnedSays}
 use Rattle.run.specs.Running.{TurnSays}
-use Rattle.turn_by_value.specs.declared.Turned.{Turned}
+use Rattle.turn_forms.specs.declared.Turned.{Turned}
 
 -- ---- the head put together and taken apart
 

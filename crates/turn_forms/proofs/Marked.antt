@@ -21,8 +21,8 @@ use Rattle.parlog.specs.declared.Loaded.the-variants.{Accepted, Refused}
 use Rattle.parlog.specs.declared.Marker.{Marker}
 use Rattle.parlog.specs.declared.Refusal.{Refusal}
 use Rattle.parlog.specs.declared.Stepped.the-variants.{Unmoved}
-use Rattle.turn_by_value.specs.Away.{awayOf}
-use Rattle.turn_by_value.specs.Turned.{markerBytes, markerIn}
+use Rattle.turn_forms.specs.Away.{awayOf}
+use Rattle.turn_forms.specs.Turned.{markerBytes, markerIn}
 
 -- ---- bytes and marker
 

@@ -1,5 +1,6 @@
-// A turn with the marker beside the counts.
+// A turn with the marker beside the counts: handed in and back by value, and lent as one record.
 use parlog::Loaded;
+use parlog::Marker;
 use parlog::Refusal;
 use parlog::Stepped;
 ghost use mathlib.Core.Path.{_≡_};
@@ -8,8 +9,8 @@ ghost use lib.ListN.{length, take};
 ghost use Rattle.parlog.specs.Limits.{small};
 ghost use Rattle.parlog.specs.Load.{loadOf};
 ghost use Rattle.parlog.specs.Tables.{headSize, markerLast, markerSteps};
-ghost use Rattle.turn_by_value.specs.Away.{awayOf};
-ghost use Rattle.turn_by_value.specs.Turned.{markerBytes, TurnedSays, turnedFrom};
+ghost use Rattle.turn_forms.specs.Away.{awayOf};
+ghost use Rattle.turn_forms.specs.Turned.{markerBytes, TurnedSays, turnedFrom};
 
 // What a turn hands back: the marker and the answer.
 pub struct Turned {
@@ -100,4 +101,22 @@ pub fn turn_core(
     let answer = run::turn(image, &mut head, procs, vars);
     put_counts(counts, &head);
     hand_back(&head, answer)
+}
+
+// ---- the marker lent
+
+// A turn; the marker is read before it and written after it.
+pub fn turn(
+    image: &[u8],
+    counts: &mut [u8],
+    procs: &mut [u8],
+    vars: &mut [u8],
+    marker: &mut Marker,
+) -> Stepped
+    ensures { λ r. ⌜ TurnedSays small (now (image .entry)) (now (counts .entry)) (now (procs .entry)) (now (vars .entry)) (now (marker .entry)) (turnedFrom (now (marker .exit)) r) (now (counts .exit)) (now (procs .exit)) (now (vars .exit)) ⌝ }
+{
+    let t = turn_core(image, counts, procs, vars, marker.last, marker.steps);
+    marker.last = t.last;
+    marker.steps = t.steps;
+    t.answer
 }

@@ -1,6 +1,6 @@
 use borrow.Author.Needs.{needs}
-use Rattle.turn_by_value.proofs.hand_back.Statement.{statement}
-use Rattle.turn_by_value.proofs.hand_back.Tie as tie
+use Rattle.turn_forms.proofs.hand_back.Statement.{statement}
+use Rattle.turn_forms.proofs.hand_back.Tie as tie
 
 pub hand-back-spec : {M : Type 1} → statement M
 hand-back-spec =

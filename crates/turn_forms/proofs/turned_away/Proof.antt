@@ -1,7 +1,7 @@
-use Rattle.turn_by_value.proofs.Core.{away-accepted, away-refused}
+use Rattle.turn_forms.proofs.Core.{away-accepted, away-refused}
 use borrow.Author.Needs.{needs}
-use Rattle.turn_by_value.proofs.turned_away.Statement.{statement}
-use Rattle.turn_by_value.proofs.turned_away.Tie as tie
+use Rattle.turn_forms.proofs.turned_away.Statement.{statement}
+use Rattle.turn_forms.proofs.turned_away.Tie as tie
 
 pub turned-away-spec : {M : Type 1} → statement M
 turned-away-spec =

@@ -1,7 +1,0 @@
-use Rattle.run.proofs.Runs.{sleeps}
-use borrow.Author.Needs.{needs}
-use Rattle.run.proofs.ended.Statement.{statement}
-use Rattle.run.proofs.ended.Tie as tie
-
-pub ended-spec : {M : Type 1} → statement M
-ended-spec = tie.close (tie.spec (λ c κs. search needs) (λ c. sleeps (c .mode-at .ensures)))
