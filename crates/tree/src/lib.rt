@@ -12,8 +12,8 @@ use parlog::Found;
 use parlog::Process;
 use parlog::codes;
 
-// The most rows that a table may have here, and what a marked one holds.
-pub const MOST_ROWS: usize = 4096;
+// The most rows that a table may have here: there is a mark for each.
+const MOST_ROWS: usize = 4096;
 
 const MARKED: u8 = 1;
 
@@ -136,7 +136,7 @@ fn first_child(procs: &[u8], n: usize, p: usize) -> usize
     q
 }
 
-// The same from the first child of p on: one pass upward, in which each row has its mark before a child of it is reached.
+// All below p falls asleep, from its first child on: one pass upward, in which a row has its mark before its children are reached.
 fn sleep_from(procs: &mut [u8], n: usize, p: usize, first: usize)
     requires { ⌜ (n * rowSize ≤ length (now procs)) × (n ≤ mostRows) × (p < first) × (first ≤ n) × Falls (procsOf (now procs) n) × Childless (procsOf (now procs) n) p first ⌝ }
     ensures { λ _. ⌜ Table (now (procs .entry)) (now (procs .exit)) (sleptBelow (procsOf (now (procs .entry)) n) p) ⌝ }
