@@ -30,7 +30,10 @@ stepped-spec =
     (λ c. stepped-full _ _ _ _ _ (c .before .before .before .before .before .before .before .before .before .before .before .before .before .before .before .before .pre .0) _ (c .before .before .before .before .before .before .before .before .before .before .before .before .before .before .before .before .pre .1) (c .before .before .before .before .before .before .before .before .before .before .proc-count .ensures .0) (c .before .before .before .before .before .before .before .before .var-count .ensures .0) _ (c .before .before .before .before .before .rule-of .ensures .0) (not-false _ (c .before .before .before .if1 .left)) (c .before .before .fits2 .ensures) (not-true _ (c .before .if2 .taken)) (c .refusal2 .ensures))
     (λ c κs. let i = (c .before .before .before .before .before .before .before .before .before .before .before .before .before .before .before .before .pre .0) in omega (arith, i .head))
     (λ c κs. search needs)
-    (λ c κs. let w = may-write _ _ _ _ _ (c .before .before .before .before .before .before .before .before .before .before .before .before .before .before .before .before .before .before .before .before .pre .0) _ _ _ (c .before .before .before .before .before .before .fits2 .ensures) (not-false _ (c .before .before .before .before .before .if2 .left)) (c .before .before .before .before .before .before .before .before .before .rule-of .ensures .3) in (w .0, (c .before .before .before .before .before .before .before .before .before .rule-of .ensures .1), omega (arith, (c .before .before .before .before .before .before .before .before .before .before .before .before .before .before .before .before .before .before .before .before .pre .1), (c .before .before .before .before .before .before .before .before .before .before .before .before .before .before .proc-count .ensures .0)), parents-fall _ _ _ _ _ (c .before .before .before .before .before .before .before .before .before .before .before .before .before .before .before .before .before .before .before .before .pre .0) (c .before .before .before .before .before .before .before .before .before .before .before .before .before .before .proc-count .ensures .0), w .1, (c .before .before .before .before .before .before .before .before .before .rule-of .ensures .2), w .2))
+    (λ c κs. let f = c .before .before .before .before .before in let t = f .before .before .before .before in let n = t .before .before .before .before .before .proc-count .ensures .0 in
+    let s = t .before .before .before .before .before .before .before .before .before .before .before in let i = s .pre .0 in
+    let w = may-write _ _ _ _ _ i _ _ _ (f .before .fits2 .ensures) (not-false _ (f .if2 .left)) (t .rule-of .ensures .3) in
+    (w .0, t .rule-of .ensures .1, omega (arith, s .pre .1, n), parents-fall _ _ _ _ _ i n, w .1, t .rule-of .ensures .2, w .2, omega (arith, i .procs-most, n)))
     (λ c. let w = room-for small _ _ _ (c .before .before .before .before .before .before .before .before .before .before .before .before .before .fits2 .ensures) (not-false _ (c .before .before .before .before .before .before .before .before .before .before .before .before .if2 .left)) in omega (arith, w .0))
     (λ c. let w = room-for small _ _ _ (c .before .before .before .before .before .before .before .before .before .before .before .before .before .before .fits2 .ensures) (not-false _ (c .before .before .before .before .before .before .before .before .before .before .before .before .before .if2 .left)) in omega (arith, w .1))
     (λ c κs. let i = (c .before .before .before .before .before .before .before .before .before .before .before .before .before .before .before .before .before .before .before .before .before .before .before .before .before .before .before .before .pre .0) in let w = room-for small _ _ _ (c .before .before .before .before .before .before .before .before .before .before .before .before .before .before .fits2 .ensures) (not-false _ (c .before .before .before .before .before .before .before .before .before .before .before .before .before .if2 .left)) in (i .head, omega (arith, w .0), omega (arith, w .1), omega (arith, (c .before .before .before .before .before .before .before .before .before .before .before .before .before .before .before .before .before .before .before .before .before .before .before .before .before .before .before .before .pre .1), (c .before .before .before .before .before .before .before .before .before .before .before .before .before .before .before .before .before .before .before .before .before .before .proc-count .ensures))))
