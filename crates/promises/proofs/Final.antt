@@ -18,7 +18,7 @@ use Rattle.parlog.proofs.Fine.{below-child, child-back, child-forth, Fine, fine
 use Rattle.parlog.proofs.Kept.{turn-keeps}
 use Rattle.parlog.proofs.Kin.{heard-bad, heard-good, hears-bad, hears-good, Kin}
 use Rattle.parlog.proofs.Repeated.{runs}
-use Rattle.parlog.proofs.Sane.{Sane}
+use Rattle.parlog.specs.Sane.{Sane}
 use Rattle.parlog.proofs.Shape.{isAwake, shape}
 use Rattle.parlog.proofs.Stable.{can-awake, can-here, reporter-zero, rule-can, supply-grows}
 use Rattle.parlog.proofs.Steps.{steady-kept, step-made, turn-made}

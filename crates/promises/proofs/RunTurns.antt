@@ -18,7 +18,7 @@ use Rattle.parlog.proofs.Effects.{apply-count, apply-vars}
 use Rattle.parlog.proofs.Kept.{turn-keeps}
 use Rattle.parlog.proofs.Repeated.{runs}
 use Rattle.parlog.proofs.RowRules.{row-facts}
-use Rattle.parlog.proofs.Sane.{Sane}
+use Rattle.parlog.specs.Sane.{Sane}
 use Rattle.parlog.proofs.Scans.{every-at}
 use Rattle.parlog.proofs.Steps.{step-made, turn-is, turn-made}
 use Rattle.parlog.specs.Codes.{dormant, failure, isMode, isResult, none, reporting, resultCode, resultOf, success}
