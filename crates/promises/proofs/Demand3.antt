@@ -6,7 +6,7 @@ use mathlib.Core.Bool.{true}
 use mathlib.Core.List.{[], _∷_, List}
 use Prim.Native.Nat.{_<_, ℕ}
 use native.Mathlib.Omega.{arith}
-use Rattle.machine.proofs.Held.{count-procs, tables-state}
+use Rattle.entry.proofs.Held.{count-procs, tables-state}
 use Rattle.parlog.proofs.Able.{wakes-exactly}
 use Rattle.parlog.proofs.Bools.{not-so}
 use Rattle.parlog.proofs.Fair.{served}

@@ -6,8 +6,8 @@ use Prim.Native.Nat.{_≤_, ℕ}
 use lib.ListN.{length}
 use native.Mathlib.Omega.{arith}
 use Rattle.load.proofs.Accepted.{accepted}
-use Rattle.machine.proofs.Entering.{lent-inside}
-use Rattle.machine.proofs.Held.{cells-fit, put-over, rows-fit, same-lent}
+use Rattle.entry.proofs.Entering.{lent-inside}
+use Rattle.entry.proofs.Held.{cells-fit, put-over, rows-fit, same-lent}
 use Rattle.parlog.proofs.Effects.{apply-count, apply-vars}
 use Rattle.parlog.proofs.Kept.{turn-keeps}
 use Rattle.parlog.proofs.Sane.{Sane}

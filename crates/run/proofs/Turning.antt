@@ -6,7 +6,7 @@ use Prim.Native.Nat.{_<_, suc, ℕ}
 use native.Mathlib.Omega.{arith}
 use Rattle.children.specs.Telling.{Tells}
 use Rattle.load.specs.Fields.{refusalOf}
-use Rattle.machine.specs.Entered.{EnterSays, Inside}
+use Rattle.entry.specs.Entered.{EnterSays, Inside}
 use Rattle.parlog.proofs.Repeated.{turn-can}
 use Rattle.parlog.proofs.Steps.{turn-is}
 use Rattle.parlog.specs.Calls.{entered, runCall, runEntry, stepAnswer, turnCall}

@@ -4,7 +4,7 @@ use mathlib.Core.List.{List}
 use Prim.Native.Nat.{_*_, _-_, _<_, _≤_, suc, ℕ}
 use lib.ListN.{length}
 use Rattle.children.specs.Telling.{Tells}
-use Rattle.machine.specs.Entered.{Inside}
+use Rattle.entry.specs.Entered.{Inside}
 use Rattle.parlog.specs.Calls.{runCall, stepAnswer, turnCall}
 use Rattle.parlog.specs.Limits.{Limits}
 use Rattle.parlog.specs.Program.{Program, programOf}
