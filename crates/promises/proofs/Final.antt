@@ -9,7 +9,7 @@ use lib.Dec.{eqb, leb}
 use lib.ListN.{length}
 use borrow.Author.Tests.{eqb-false, eqb-true, le-leb, leb-true}
 use native.Mathlib.Omega.{arith}
-use Rattle.machine.proofs.Held.{tables-state}
+use Rattle.entry.proofs.Held.{tables-state}
 use Rattle.parlog.proofs.Assume.{assume-counts}
 use Rattle.parlog.proofs.Bools.{and-true, never, not-so, or-false, split, true-and}
 use Rattle.parlog.proofs.Coded.{code-mode}

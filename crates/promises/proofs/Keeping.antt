@@ -5,7 +5,7 @@ use mathlib.Core.Bool.{true}
 use mathlib.Core.List.{List}
 use Prim.Native.Nat.{ℕ}
 use native.Mathlib.Omega.{arith}
-use Rattle.machine.proofs.Held.{cells-fit, put-over, rows-fit, same-lent}
+use Rattle.entry.proofs.Held.{cells-fit, put-over, rows-fit, same-lent}
 use Rattle.parlog.proofs.Kept.{run-keeps, step-keeps, supply-keeps}
 use Rattle.parlog.proofs.Repeated.{runs}
 use Rattle.parlog.specs.Sane.{Sane}

@@ -7,8 +7,8 @@ use Prim.Native.Nat.{_+_, _-_, _<_, _≤_, suc, zero, ℕ}
 use lib.Dec.{eqb}
 use native.Mathlib.Omega.{arith}
 use Rattle.head.proofs.Laws.{head-is}
-use Rattle.machine.proofs.Held.{count-procs, count-vars, put-over, same-lent}
-use Rattle.machine.specs.Entered.{Inside}
+use Rattle.entry.proofs.Held.{count-procs, count-vars, put-over, same-lent}
+use Rattle.entry.specs.Entered.{Inside}
 use Rattle.parlog.specs.Codes.{isLive, resultOf}
 use Rattle.parlog.specs.Limits.{Limits}
 use Rattle.parlog.specs.Program.{Program, programOf}

@@ -8,7 +8,7 @@ use borrow.Author.Tests.{eq-eqb, ne-eqb}
 use native.Mathlib.Omega.{arith}
 use Rattle.children.specs.Telling.{Tells}
 use Rattle.load.specs.Fields.{refusalOf}
-use Rattle.machine.specs.Entered.{EnterSays, Inside}
+use Rattle.entry.specs.Entered.{EnterSays, Inside}
 use Rattle.move_plan.specs.Plans.{stateIn}
 use Rattle.parlog.proofs.Repeated.{turn-can}
 use Rattle.parlog.proofs.Steps.{it-has-no-room, it-steps, Tried, tried, turn-is}

@@ -6,7 +6,7 @@ use Prim.Native.Nat.{_*_, _-_, _<_, _≤_, suc, ℕ}
 use lib.Dec.{eqb}
 use lib.ListN.{length}
 use Rattle.children.specs.Telling.{Tells}
-use Rattle.machine.specs.Entered.{Inside}
+use Rattle.entry.specs.Entered.{Inside}
 use Rattle.parlog.specs.Calls.{runCall, stepAnswer, turnCall}
 use Rattle.parlog.specs.Codes.{isLive, resultOf}
 use Rattle.parlog.specs.Limits.{Limits}

@@ -9,7 +9,7 @@ use turn_search::Turn;
 ghost use mathlib.Core.Path.{_≡_};
 ghost use Prim.Native.Nat.{_*_, _≤_};
 ghost use lib.ListN.{length};
-ghost use Rattle.machine.specs.Entered.{Inside};
+ghost use Rattle.entry.specs.Entered.{Inside};
 ghost use Rattle.parlog.specs.Limits.{small};
 ghost use Rattle.parlog.specs.Tables.{headSize, lent, procCount, rowSize};
 ghost use Rattle.run.specs.Running.{goalIn, RanSays, RunSays, StopSays, Turning, TurnedIn, TurnSays, wentBy, WentSays, WhoseSays};
@@ -48,7 +48,7 @@ fn turn_in(
     let t = whose(head, procs, vars);
     let f = t.who;
     let Found::At(p) = f else {
-        return Stepped::Unmoved(machine::refusal(10));
+        return Stepped::Unmoved(entry::refusal(10));
     };
     step::stepped(image, rels, clauses, head, procs, vars, p, t.told)
 }
@@ -57,7 +57,7 @@ fn turn_in(
 pub fn turn(image: &[u8], head: &mut [u8], procs: &mut [u8], vars: &mut [u8]) -> Stepped
     ensures { λ r. ⌜ TurnSays small (now (image .entry)) (lent (now (head .entry)) (now (procs .entry)) (now (vars .entry))) r (now (head .exit)) (now (procs .exit)) (now (vars .exit)) ⌝ }
 {
-    let e = machine::enter(image, head, procs, vars);
+    let e = entry::enter(image, head, procs, vars);
     let Loaded::Accepted(rels, clauses) = e else {
         let r = load::refusal(e);
         return Stepped::Unmoved(r);
@@ -168,7 +168,7 @@ fn going(
 pub fn run(image: &[u8], head: &mut [u8], procs: &mut [u8], vars: &mut [u8], limit: u16) -> Ran
     ensures { λ r. ⌜ RunSays small (now (image .entry)) (lent (now (head .entry)) (now (procs .entry)) (now (vars .entry))) limit r (now (head .exit)) (now (procs .exit)) (now (vars .exit)) ⌝ }
 {
-    let e = machine::enter(image, head, procs, vars);
+    let e = entry::enter(image, head, procs, vars);
     let Loaded::Accepted(rels, clauses) = e else {
         let r = load::refusal(e);
         return Ran::Unrun(r);

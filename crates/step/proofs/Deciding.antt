@@ -13,7 +13,7 @@ use Rattle.children.specs.declared.Told.{Told}
 use Rattle.load.proofs.Accepted.{accepted}
 use Rattle.load.proofs.Heads.{accepted-heads}
 use Rattle.load.proofs.Sanity.{accepted-sane}
-use Rattle.machine.specs.Entered.{Inside}
+use Rattle.entry.specs.Entered.{Inside}
 use Rattle.moves.proofs.Legal.{legal, right-sized}
 use Rattle.moves.specs.Legal.{Legal}
 use Rattle.parlog.proofs.Bools.{and-true}

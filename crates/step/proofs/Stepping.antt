@@ -8,7 +8,7 @@ use lib.ListN.{length}
 use borrow.Author.Tests.{le-ltb}
 use native.Mathlib.Omega.{arith}
 use Rattle.load.specs.Fields.{refusalOf}
-use Rattle.machine.specs.Entered.{EnterSays, Inside}
+use Rattle.entry.specs.Entered.{EnterSays, Inside}
 use Rattle.parlog.specs.Calls.{stepAnswer, stepCall}
 use Rattle.parlog.specs.Delta.{apply}
 use Rattle.parlog.specs.Limits.{Limits}

@@ -2,7 +2,7 @@
 use mathlib.Core.Path.{_≡_}
 use mathlib.Core.List.{List}
 use Prim.Native.Nat.{_≤_, ℕ}
-use Rattle.machine.specs.Entered.{Inside}
+use Rattle.entry.specs.Entered.{Inside}
 use Rattle.parlog.specs.Calls.{stepAnswer, stepCall}
 use Rattle.parlog.specs.Limits.{Limits}
 use Rattle.parlog.specs.Program.{programOf}

@@ -6,7 +6,7 @@ ghost use mathlib.Core.Path.{_≡_};
 ghost use Prim.Native.Nat.{_*_, _<_, _≤_};
 ghost use lib.ListN.{length};
 ghost use Rattle.children.specs.Telling.{Tells};
-ghost use Rattle.machine.specs.Entered.{Inside};
+ghost use Rattle.entry.specs.Entered.{Inside};
 ghost use Rattle.parlog.specs.Limits.{small};
 ghost use Rattle.parlog.specs.Run.{counted};
 ghost use Rattle.parlog.specs.Tables.{at, lent, procCount, procsOf, rowSize};
@@ -45,10 +45,10 @@ pub fn stepped(
     let m = head::var_count(head);
     let plan = moves::rule_of(image, rels, clauses, procs, n, vars, m, p, told);
     if !plan.acts {
-        return Stepped::Unmoved(machine::refusal(10));
+        return Stepped::Unmoved(entry::refusal(10));
     }
     if !move_plan::fits(PROCS, VARS, n, m, plan) {
-        return Stepped::Unmoved(machine::refusal(11));
+        return Stepped::Unmoved(entry::refusal(11));
     }
     let made = head::marker_steps(head);
     let steps = count(made);
@@ -79,7 +79,7 @@ pub fn step(
 ) -> Stepped
     ensures { λ r. ⌜ StepSays small (now (image .entry)) (lent (now (head .entry)) (now (procs .entry)) (now (vars .entry))) process r (now (head .exit)) (now (procs .exit)) (now (vars .exit)) ⌝ }
 {
-    let e = machine::enter(image, head, procs, vars);
+    let e = entry::enter(image, head, procs, vars);
     let Loaded::Accepted(rels, clauses) = e else {
         let r = load::refusal(e);
         return Stepped::Unmoved(r);
@@ -87,7 +87,7 @@ pub fn step(
     let p = process as usize;
     let n = head::proc_count(head);
     if n <= p {
-        return Stepped::Unmoved(machine::refusal(9));
+        return Stepped::Unmoved(entry::refusal(9));
     }
     let told = ask(procs, n, p);
     stepped(image, rels, clauses, head, procs, vars, p, told)

@@ -2,7 +2,7 @@ use mathlib.Core.Path.{sym}
 use native.Mathlib.Omega.{arith}
 use Rattle.step.proofs.Deciding.{told-of}
 use Rattle.step.proofs.Stepping.{step-done, step-nobody, step-refused}
-use Rattle.machine.proofs.Entering.{inside-of}
+use Rattle.entry.proofs.Entering.{inside-of}
 use borrow.Author.Needs.{needs}
 use Rattle.step.proofs.step.Statement.{statement}
 use Rattle.step.proofs.step.Tie as tie
