@@ -22,7 +22,7 @@ stepped-spec =
     (λ c. search needs)
     (λ c. search needs)
     (λ c. stepped-still _ _ _ _ _ (c .before .before .before .before .before .before .before .before .before .before .before .before .before .before .pre .0) _ (c .before .before .before .before .before .before .before .before .before .before .before .before .before .before .pre .1) (c .before .before .before .before .before .before .before .before .proc-count .ensures .0) (c .before .before .before .before .before .before .var-count .ensures .0) _ (c .before .before .before .rule-of .ensures .0) (not-true _ (c .before .if1 .taken)) (c .refusal .ensures))
-    (λ c κs. fits-asks _ _ _ _ _ (c .before .before .before .before .before .before .before .before .before .before .before .before .before .pre .0) (c .before .before .before .before .before .before .before .proc-count .ensures .0) (c .before .before .before .before .before .var-count .ensures .0))
+    (λ c κs. let w = fits-asks _ _ _ _ _ (c .before .before .before .before .before .before .before .before .before .before .before .before .before .pre .0) (c .before .before .before .before .before .before .before .proc-count .ensures .0) (c .before .before .before .before .before .var-count .ensures .0) in (omega (arith, w .0), omega (arith, w .1)))
     (λ c κs. search needs)
     (λ c. search needs)
     (λ c. search needs)
