@@ -2,7 +2,7 @@
 use mathlib.Core.Path.{_∙_, _≡_, ap, refl, sym}
 use mathlib.Core.Logic.{⊎-elim}
 use mathlib.Core.List.{[], _∷_, List}
-use Prim.Native.Nat.{_*_, _+_, _<_, _≤_, suc, ℕ}
+use Prim.Native.Nat.{_%_, _*_, _+_, _/_, _<_, _≤_, suc, ℕ}
 use lib.Dec.{lit<}
 use lib.ListN.{getD, getD-replicate, length, length-replicate, set, take}
 use lib.Seq.{ext-getD, paste, paste-suc, take-all}
@@ -132,3 +132,9 @@ wiped-done l b n k g h =
     let e : k ≡ n = omega arith in
     let t : take n (zeros n) ≡ zeros n = take-all n (zeros n) (rw zeros-length (omega arith)) in
     rw (e, t)
+
+-- a row whose parts are those of x
+pub bytes-of : (x : Process) {p q b d f g i j k l m n r s : ℕ} → p ≡ (x .parent) % 256 → q ≡ (x .parent) / 256 → b ≡ (x .spot .base) % 256 → d ≡ (x .spot .base) / 256 → f ≡ (x .spot .first) % 256 → g ≡ (x .spot .first) / 256 → i ≡ (getD (x .notes) 0 0) % 256 → j ≡ (getD (x .notes) 0 0) / 256 → k ≡ (getD (x .notes) 1 0) % 256 → l ≡ (getD (x .notes) 1 0) / 256 → m ≡ (getD (x .notes) 2 0) % 256 → n ≡ (getD (x .notes) 2 0) / 256 → r ≡ (getD (x .notes) 3 0) % 256 → s ≡ (getD (x .notes) 3 0) / 256
+    → x .tag ∷ x .mode ∷ x .result ∷ x .count ∷ p ∷ q ∷ x .spot .kind ∷ x .spot .clause ∷ b ∷ d ∷ x .spot .stage ∷ x .spot .literal ∷ x .spot .block ∷ x .spot .found ∷ f ∷ g ∷ i ∷ j ∷ k ∷ l ∷ m ∷ n ∷ r ∷ s ∷ [] ≡ processBytes x
+unfolding processBytes
+bytes-of x ep eq eb ed ef eg ei ej ek el em en er es = rw (ep, eq, eb, ed, ef, eg, ei, ej, ek, el, em, en, er, es)

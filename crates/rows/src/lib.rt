@@ -4,7 +4,7 @@ ghost use mathlib.Core.List.{[], _∷_, _++_};
 ghost use Prim.Native.Nat.{_+_, _*_, _≤_, _<_};
 ghost use lib.ListN.{length, set};
 ghost use Rattle.parlog.specs.Tables.{at, idle, notesAt, processAt, processBytes, procsOf, rowSize, spotAt, u16At};
-ghost use Rattle.rows.specs.Rows.{Four, putProcess, putRow, Table, wiped};
+ghost use Rattle.rows.specs.Rows.{Four, putRow, Table, wiped};
 use parlog::Process;
 use parlog::Spot;
 use parlog::codes;
@@ -101,7 +101,6 @@ fn blank() -> Process
 fn encode(x: Process) -> [u8; codes::ROW_SIZE]
     ensures { λ r. ⌜ (r ≡ processBytes x) × Four x ⌝ }
 {
-    let spot = x.spot;
     let notes = x.notes;
     [
         x.tag,
@@ -110,16 +109,16 @@ fn encode(x: Process) -> [u8; codes::ROW_SIZE]
         x.count,
         basics::low(x.parent),
         basics::high(x.parent),
-        spot.kind,
-        spot.clause,
-        basics::low(spot.base),
-        basics::high(spot.base),
-        spot.stage,
-        spot.literal,
-        spot.block,
-        spot.found,
-        basics::low(spot.first),
-        basics::high(spot.first),
+        x.spot.kind,
+        x.spot.clause,
+        basics::low(x.spot.base),
+        basics::high(x.spot.base),
+        x.spot.stage,
+        x.spot.literal,
+        x.spot.block,
+        x.spot.found,
+        basics::low(x.spot.first),
+        basics::high(x.spot.first),
         basics::low(notes[0]),
         basics::high(notes[0]),
         basics::low(notes[1]),
@@ -143,14 +142,6 @@ fn put_row(procs: &mut [u8], i: usize, row: [u8; codes::ROW_SIZE])
     }
 }
 
-fn put_process(procs: &mut [u8], i: usize, x: Process)
-    requires { ⌜ i * rowSize + rowSize ≤ length (now procs) ⌝ }
-    ensures { λ _. ⌜ (now (procs .exit) ≡ putProcess (now (procs .entry)) i x) × Four x ⌝ }
-{
-    let row = encode(x);
-    put_row(procs, i, row);
-}
-
 // Process i of the first n; past them, the row of zeros.
 pub fn get(procs: &[u8], n: usize, i: usize) -> Process
     requires { ⌜ n * rowSize ≤ length (now procs) ⌝ }
@@ -167,7 +158,8 @@ pub fn put(procs: &mut [u8], n: usize, i: usize, x: Process)
     requires { ⌜ (n * rowSize ≤ length (now procs)) × (i < n) ⌝ }
     ensures { λ _. ⌜ Table (now (procs .entry)) (now (procs .exit)) (set (procsOf (now (procs .entry)) n) i x) ⌝ }
 {
-    put_process(procs, i, x);
+    let row = encode(x);
+    put_row(procs, i, row);
 }
 
 // One process more after the first n.
@@ -175,7 +167,8 @@ pub fn append(procs: &mut [u8], n: usize, x: Process)
     requires { ⌜ n * rowSize + rowSize ≤ length (now procs) ⌝ }
     ensures { λ _. ⌜ Table (now (procs .entry)) (now (procs .exit)) (procsOf (now (procs .entry)) n ++ (x ∷ [])) ⌝ }
 {
-    put_process(procs, n, x);
+    let row = encode(x);
+    put_row(procs, n, row);
 }
 
 // The fields that scans read, of process i of the first n; past them, 0.
