@@ -1,7 +1,7 @@
 /*
  * A run and a supply of the machine in plain C, written to be fast: rows are read and written where they stand, the image is
  * tested and indexed once a call, the table rules are tested once a call, a turn is one pass over the rows from the last down,
- * in which each is heard by its parent and those that can move are found, and a report climbs parents to find what is below it.
+ * in which each is heard by its parent and those that can move are found, and a report marks what is below it in one pass upward.
  */
 #include "machine.h"
 #include "checker.h"
@@ -48,7 +48,7 @@ struct run {
     struct goal goal;
     struct relation relation[RISSOBARM_RELATION_LIMIT];
     struct clause clause[RISSOBARM_CLAUSE_LIMIT];
-    uint16_t parent[RISSOBARM_PROCESS_LIMIT]; /* a copy of those in the rows, to climb by */
+    uint16_t parent[RISSOBARM_PROCESS_LIMIT]; /* a copy of those in the rows */
     struct note note[RISSOBARM_PROCESS_LIMIT];
     uint16_t latest[RISSOBARM_PROCESS_LIMIT]; /* the latest child, where it reports */
     uint16_t lowest[RISSOBARM_PROCESS_LIMIT]; /* the lowest child that reports success, where one does */
@@ -571,24 +571,21 @@ static void copy_found(uint8_t *to, const uint8_t *from)
     memcpy(to + RISSOBARM_ROW_FOUND, from + RISSOBARM_ROW_FOUND, RISSOBARM_ROW_NOTES - RISSOBARM_ROW_FOUND);
 }
 
-/* All that is below becomes dormant: the parents of each row behind are climbed, to the process or past it. */
+/* All that is below becomes dormant. Parents have lower numbers: a row behind has its parent's mark, and the process is marked. */
 static int report(struct run *r, unsigned process, unsigned result)
 {
-    uint8_t *me = row(r, process);
-    size_t k, above;
+    uint8_t *me = row(r, process), mark[RISSOBARM_PROCESS_LIMIT];
+    size_t k;
 
     me[RISSOBARM_ROW_MODE] = RISSOBARM_MODE_REPORTING;
     me[RISSOBARM_ROW_RESULT] = (uint8_t)result;
     if (makes[me[RISSOBARM_ROW_TAG]] == 0)
         return 1;
+    memset(mark, 0, process);
+    mark[process] = 1;
     for (k = process + 1; k < r->count; k++) {
-        if (row(r, k)[RISSOBARM_ROW_MODE] == RISSOBARM_MODE_DORMANT)
-            continue;
-        above = k;
-        do
-            above = r->parent[above];
-        while (above > process);
-        if (above == process)
+        mark[k] = mark[r->parent[k]];
+        if (mark[k])
             row(r, k)[RISSOBARM_ROW_MODE] = RISSOBARM_MODE_DORMANT;
     }
     return 1;

@@ -46,3 +46,23 @@ void make_calls(struct image *image, unsigned part)
     put_record(image, RISSOBARM_RECORD_CLAUSE, clause, sizeof clause);
     put_record(image, RISSOBARM_RECORD_GOAL, goal, sizeof goal);
 }
+
+void make_chain(const struct image *image, struct tables *chain, unsigned rows)
+{
+    unsigned k;
+
+    rissobarm_start(image->bytes, image->length, TABLES(chain));
+    chain->head[RISSOBARM_HEAD_PROCS] = (uint8_t)rows;
+    chain->head[RISSOBARM_HEAD_PROCS + 1] = (uint8_t)(rows >> 8);
+    for (k = 0; k < rows; k++) {
+        uint8_t *row = chain->procs + RISSOBARM_PROCESS_ROW * k;
+        unsigned parent = k > 0 ? k - 1 : 0;
+
+        row[RISSOBARM_ROW_TAG] = RISSOBARM_TAG_OR_PAR;
+        row[RISSOBARM_ROW_MODE] = k == 2 ? RISSOBARM_MODE_REPORTING : RISSOBARM_MODE_WAITING;
+        row[RISSOBARM_ROW_RESULT] = k == 2 ? RISSOBARM_RESULT_SUCCESS : RISSOBARM_RESULT_NONE;
+        row[RISSOBARM_ROW_PARENT] = (uint8_t)parent;
+        row[RISSOBARM_ROW_PARENT + 1] = (uint8_t)(parent >> 8);
+        row[RISSOBARM_ROW_KIND] = k > 0 ? RISSOBARM_GOAL_BODY : RISSOBARM_GOAL_IMAGE;
+    }
+}

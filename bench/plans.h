@@ -3,6 +3,7 @@
 #define PLANS_H
 
 #include "images.h"
+#include "tables.h"
 
 /* Most steps of a call in which a plan is played, and the part of the largest image that leaves the plan of calls alone. */
 enum { LIMIT = 60000, ALONE = 64 };
@@ -15,5 +16,11 @@ int read_plan(struct image *image, const char *path);
  * the largest image, so that what a process names stands as far back as it can; p stands alone for the part ALONE.
  */
 void make_calls(struct image *image, unsigned part);
+
+/*
+ * Tables of so many rows, at least 3, for the plan of calls alone: each process is the only child of the one before, as the call in
+ * its body. Process 2 reports success, so that 1 has the turn and reports too, with all from 2 on below it; the others wait.
+ */
+void make_chain(const struct image *image, struct tables *chain, unsigned rows);
 
 #endif

@@ -81,6 +81,14 @@ def grid_table(found, what, title):
                       for rows in sorted({key[2] for key in keys})])
 
 
+def report_table(found):
+    """A report by rows in use, all but two of them below it."""
+    yield from table("A report with all rows but two below it, each below the one before; times as multiples of those at 128 rows",
+                     ["Rows", "Ratio", "Archive", "Plain C"],
+                     [[str(key[2]), spread(lines), "%.1f" % middle(lines, "archive"), "%.1f" % middle(lines, "plain")]
+                      for key, lines in chosen(found, "report")])
+
+
 def growth_table(found):
     """How a step and a call grow with the rows, on the shortest and the longest image."""
     keys = [key for key, _ in chosen(found, "step")]
@@ -102,15 +110,16 @@ def tables(found):
     yield from grid_table(found, "call without a step", "A call without a step, by rows in use and image size")
     yield from grid_table(found, "supply", "A supply, by rows in use and image size")
     yield from growth_table(found)
+    yield from report_table(found)
 
 
 def summary(found):
     """For each thing measured the least and the greatest median, the case of the greatest, and how many miss the target."""
     rows = []
-    for what, target in (("load", 1.5), ("run", 2.0), ("step", 2.0), ("call without a step", 2.0), ("supply", None)):
+    for what, target in (("load", 1.5), ("run", 2.0), ("step", 2.0), ("report", 2.0), ("call without a step", 2.0), ("supply", None)):
         cases = sorted((middle(lines), key) for key, lines in chosen(found, what))
         ratio, (_, which, used, size) = cases[-1]
-        case = "%s, %s bytes" % ("%d rows" % used if which == "calls" and what != "run" else which, number(size))
+        case = "%s, %s bytes" % ("%d rows" % used if used and what != "run" else which, number(size))
         missed = sum(ratio > target for ratio, _ in cases) if target else None
         rows.append([what, "%.1f" % target if target else "none", "%.2f" % cases[0][0], "%.2f (%s)" % (ratio, case),
                      "%d of %d" % (missed, len(cases)) if target else "-"])

@@ -213,6 +213,43 @@ static unsigned play(void)
     return end;
 }
 
+/* Whether every process from 2 on sleeps. */
+static int all_asleep(void)
+{
+    unsigned k;
+
+    for (k = 2; k < processes(&ours); k++)
+        if (ours.procs[RISSOBARM_PROCESS_ROW * k + RISSOBARM_ROW_MODE] != RISSOBARM_MODE_DORMANT)
+            return 0;
+    return 1;
+}
+
+/* A report at the top of a chain, in which one row in `some` sleeps already; 0 where the whole chain sleeps then. */
+static int chain_bad(struct random *random, unsigned rows, unsigned some)
+{
+    unsigned k;
+
+    make_chain(&image, &ours, rows);
+    for (k = 3; k < rows; k++)
+        if (random_once(random, some))
+            ours.procs[RISSOBARM_PROCESS_ROW * k + RISSOBARM_ROW_MODE] = RISSOBARM_MODE_DORMANT;
+    return rissobarm_steps(both_run(1)) != 1 || !all_asleep();
+}
+
+/* Chains of every length, with more and more rows that sleep already. */
+static int chains_bad(void)
+{
+    struct random random = { 512 };
+    unsigned before = differences, bad = 0, rows, some;
+
+    make_calls(&image, ALONE);
+    for (rows = 3; rows <= RISSOBARM_PROCESS_LIMIT; rows++)
+        for (some = 32; some > 0; some /= 2)
+            bad += chain_bad(&random, rows, some);
+    printf("chains: %u not all asleep, %u differences\n", bad, differences - before);
+    return bad != 0 || differences != before;
+}
+
 /* The plan at hand, under a name; 0 where both sides do the same and it ends as it should. */
 static int plan_bad(const char *name, unsigned expected)
 {
@@ -264,7 +301,7 @@ int main(int count, char **words)
     unsigned differ = loads_differ();
 
     differ += runs_differ();
-    if (plans_bad(count > 1 ? words[1] : "build/bench") || differ != 0) {
+    if (plans_bad(count > 1 ? words[1] : "build/bench") | chains_bad() || differ != 0) {
         fprintf(stderr, "same: archive and plain C are not the same, or a plan does not end as it should\n");
         return 1;
     }

@@ -99,7 +99,7 @@ static double plain_call(unsigned times)
     return (now() - start) / times;
 }
 
-/* ---- a step: a call of some steps less one of none, both from the same tables ---- */
+/* ---- a step: a call of some steps less one of none, both from the same tables; a report is one step ---- */
 
 static double once(runner *run, unsigned limit)
 {
@@ -111,24 +111,34 @@ static double once(runner *run, unsigned limit)
     return now() - start;
 }
 
-static double steps(runner *run, unsigned times)
+static double steps(runner *run, unsigned stride, unsigned times)
 {
     double spent = 0;
     unsigned k;
 
     for (k = 0; k < times; k++)
-        spent += once(run, STRIDE) - once(run, 0);
-    return spent / times / STRIDE;
+        spent += once(run, stride) - once(run, 0);
+    return spent / times / stride;
 }
 
 static double archive_step(unsigned times)
 {
-    return steps(rissobarm_run, times);
+    return steps(rissobarm_run, STRIDE, times);
 }
 
 static double plain_step(unsigned times)
 {
-    return steps(machine_run, times);
+    return steps(machine_run, STRIDE, times);
+}
+
+static double archive_report(unsigned times)
+{
+    return steps(rissobarm_run, 1, times);
+}
+
+static double plain_report(unsigned times)
+{
+    return steps(machine_run, 1, times);
 }
 
 /* ---- a supply: image and tables tested, one variable bound, and unbound again for the next ---- */
@@ -200,6 +210,26 @@ static int tell_calls(unsigned part)
     return 1;
 }
 
+/* Reports with all rows but two below, each below the one before. */
+static int tell_chains(void)
+{
+    struct ratio first, here;
+    unsigned rows;
+
+    make_calls(&image, ALONE);
+    for (rows = 128; rows <= RISSOBARM_PROCESS_LIMIT; rows *= 2) {
+        make_chain(&image, &from, rows);
+        ours = from;
+        if (rissobarm_steps(rissobarm_run(IMAGE, TABLES(&ours), 1)) != 1)
+            return 0;
+        here = in_turns(archive_report, plain_report);
+        if (rows == 128)
+            first = here;
+        tell("report", "chain", rows, image.length, &here, &first);
+    }
+    return 1;
+}
+
 /* The plans by their images' files. */
 int main(int count, char **words)
 {
@@ -210,5 +240,5 @@ int main(int count, char **words)
             return 1;
     make_calls(&image, 1);
     tell_plan("calls in a large image", LIMIT);
-    return !(tell_calls(ALONE) && tell_calls(16) && tell_calls(4) && tell_calls(1));
+    return !(tell_chains() && tell_calls(ALONE) && tell_calls(16) && tell_calls(4) && tell_calls(1));
 }

@@ -51,11 +51,11 @@ enum {
 };
 
 /*
- * Bytes of stack that are enough for any call. Turn and run take the most: under 3,700 bytes of their own, by the machine code
+ * Bytes of stack that are enough for any call. Turn and run take the most: under 8,000 bytes of their own, by the machine code
  * and as tests/header/stack.c measures it, and some 3,200 more where the C library's memset or memcpy is bound in that very
  * call (measured with AVX-512; not so in the shared library, which binds them as it is loaded).
  */
-enum { RISSOBARM_STACK = 8192 };
+enum { RISSOBARM_STACK = 16384 };
 
 /* The three rows of a run; a row that is lent with another length is refused 8. Only the watch takes any length. */
 enum {

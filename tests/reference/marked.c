@@ -68,6 +68,19 @@ static const uint8_t s_five[] = {
     0x0B, 0, 3, 0, 1, 1, 1, 0, 1, 0, 0x80,
 };
 
+/* fact p, goal p, p */
+static const uint8_t p_pair[] = { P_RELATION, P_FACT, 0x0B, 0, 3, 0, 0, 1, 2, 0, 0, 0, 0 };
+
+/* mode p, mode q(?), p <- q(X) : , fact p, fact q(0), goal p */
+static const uint8_t p_guarded[] = {
+    P_RELATION,
+    0x06, 0, 1, 0, 1, 0,
+    0x0F, 0, 2, 0, 0, 0, 0, 1, 1, 1, 1, 1, 0, 0x80, 0,
+    P_FACT,
+    0x0C, 0, 2, 0, 1, 1, 0, 0, 0, 0, 0, 0,
+    P_GOAL,
+};
+
 /* Taking answers and tables apart. */
 
 static unsigned refusal_of(uint64_t answer)
@@ -107,6 +120,22 @@ static bool notes(unsigned process, unsigned count, unsigned first, unsigned sec
 
     return row[1] == 5 && row[3] == count && number_at(row + 16) == first &&
            (count < 2 || number_at(row + 18) == second);
+}
+
+static unsigned mode(unsigned process)
+{
+    return run.procs[process * REFERENCE_PROCESS_ROW + 1];
+}
+
+/* Whether exactly the processes of this set sleep, a bit each from process 0 on. */
+static bool sleeping(unsigned set)
+{
+    unsigned k;
+
+    for (k = 0; k < processes(); k++)
+        if ((mode(k) == 0) != (set >> k & 1))
+            return false;
+    return true;
 }
 
 static const char *end_name(unsigned end)
@@ -310,6 +339,53 @@ static void refusal_case(void)
     say_run("refusals change nothing", good);
 }
 
+/* Tables in which the parents of 1 to 6 are 0 0 1 1 3 2 and process 1 has something to hear, with 3 in this mode. */
+static void begin_family(unsigned mode_of_3)
+{
+    const uint8_t rows[][REFERENCE_PROCESS_ROW] = {
+        { 0, 3 },                                                /* and-par */
+        { 2, 3 },                                                /* or-par for the first p */
+        { 2, 3, [11] = 1 },                                      /* or-par for the second */
+        { 3, (uint8_t)mode_of_3, [4] = 1 },                      /* seq-search */
+        { 1, 4, 1, [4] = 1, [6] = 2 },                           /* and-seq for the body: reports success */
+        { 4, 3, [4] = 3 },                                       /* or-search */
+        { 3, 2, [4] = 2, [11] = 1 },                             /* seq-search of the other */
+    };
+
+    begin(WITH(p_pair));
+    memcpy(run.procs, rows, sizeof rows);
+    run.head[0] = 7;
+}
+
+/* A report puts to sleep what is below at any depth, whether what stands between sleeps or not. */
+static void family_case(void)
+{
+    const uint64_t rule_13 = 13 << 8 | (uint64_t)1 << 32;
+    bool good = true;
+    unsigned mode_of_3;
+
+    for (mode_of_3 = 0; mode_of_3 < 4; mode_of_3 += 3) {
+        begin_family(mode_of_3);
+        good = good && reference_step(IMAGE(&run), TABLES(&run), 1) == rule_13 && sleeping(1u << 3 | 1u << 4 | 1u << 5);
+        good = good && mode(0) == 3 && mode(1) == 4 && mode(2) == 3 && mode(6) == 2;
+    }
+    say("report in a lent family", good, "of 1 to 6, those below 1 sleep: 3, 4, 5");
+}
+
+/* A commit puts the other clause to sleep with all that its guard has made. */
+static void commit_case(void)
+{
+    const unsigned before = 1u << 7 | 1u << 8, below = 0x0Fu << 3 | 0x3Fu << 9; /* 7 and 8; 3 to 6 and 9 to 14 */
+    const uint64_t rule_21 = 21 << 8 | (uint64_t)2 << 32;
+    bool good;
+
+    begin(WITH(p_guarded));
+    good = bits32(go(19)) == 19 && sleeping(0) && bits32(go(1)) == 1 && sleeping(before);
+    good = good && bits32(go(3)) == 3 && sleeping(before) && turn() == rule_21 && sleeping(before | below);
+    good = good && total_steps() == 24 && number_at(run.head + 4) == 2;
+    say_run("commit beside a guard", good && ends(29, SUCCESS) && processes() == 16);
+}
+
 static void watch_case(void)
 {
     bool good;
@@ -332,6 +408,8 @@ int main(void)
     room_case();
     budget_case();
     refusal_case();
+    family_case();
+    commit_case();
     watch_case();
     printf("marked: %u as told, %u not\n", passed, failed);
     return failed == 0 ? 0 : 1;

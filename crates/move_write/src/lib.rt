@@ -6,7 +6,7 @@ ghost use Rattle.parlog.specs.Delta.{apply};
 ghost use Rattle.parlog.specs.Tables.{cellSize, procsOf, rowSize, varsIn};
 ghost use Rattle.parlog.specs.Unify.{changed};
 ghost use Rattle.rows.specs.Rows.{Table};
-ghost use Rattle.tree.specs.Family.{Falls};
+ghost use Rattle.tree.specs.Family.{Falls, mostRows};
 ghost use Rattle.vars.specs.Cells.{Cells};
 ghost use Rattle.move_plan.specs.Plans.{deltaOf, newMost, stateIn, Within};
 ghost use Rattle.move_write.specs.Writing.{cutBelow, napped, procsAfter, sleptAt, varsAfter};
@@ -17,7 +17,7 @@ use parlog::codes;
 
 // Where `cut` says so, all below p fall asleep.
 fn cut_below(procs: &mut [u8], n: usize, p: usize, cut: bool)
-    requires { ⌜ (n * rowSize ≤ length (now procs)) × (p < n) × Falls (procsOf (now procs) n) ⌝ }
+    requires { ⌜ (n * rowSize ≤ length (now procs)) × (p < n) × Falls (procsOf (now procs) n) × (n ≤ mostRows) ⌝ }
     ensures { λ _. ⌜ Table (now (procs .entry)) (now (procs .exit)) (cutBelow cut (procsOf (now (procs .entry)) n) p) ⌝ }
 {
     if cut {
@@ -76,7 +76,7 @@ fn bind_all(vars: &mut [u8], m: usize, list: [Change; codes::MOST_ARITY], k: usi
 }
 
 fn write_procs(procs: &mut [u8], n: usize, p: usize, plan: Plan)
-    requires { ⌜ ((n + plan .count) * rowSize ≤ length (now procs)) × (plan .count ≤ newMost) × (p < n) × Falls (procsOf (now procs) n) ⌝ }
+    requires { ⌜ ((n + plan .count) * rowSize ≤ length (now procs)) × (plan .count ≤ newMost) × (p < n) × Falls (procsOf (now procs) n) × (n ≤ mostRows) ⌝ }
     ensures { λ _. ⌜ Table (now (procs .entry)) (now (procs .exit)) (procsAfter (procsOf (now (procs .entry)) n) p (deltaOf plan)) ⌝ }
 {
     let nap = plan.nap;
@@ -98,7 +98,7 @@ fn write_vars(vars: &mut [u8], m: usize, plan: Plan)
 
 // Carries a plan out.
 pub fn write(procs: &mut [u8], n: usize, vars: &mut [u8], m: usize, p: usize, plan: Plan)
-    requires { ⌜ ((n + plan .count) * rowSize ≤ length (now procs)) × (plan .count ≤ newMost) × (p < n) × Falls (procsOf (now procs) n) × ((m + plan .fresh) * cellSize ≤ length (now vars)) × (plan .changes .count ≤ 4) × Within (m + plan .fresh) (plan .changes .count) (plan .changes .list) ⌝ }
+    requires { ⌜ ((n + plan .count) * rowSize ≤ length (now procs)) × (plan .count ≤ newMost) × (p < n) × Falls (procsOf (now procs) n) × ((m + plan .fresh) * cellSize ≤ length (now vars)) × (plan .changes .count ≤ 4) × Within (m + plan .fresh) (plan .changes .count) (plan .changes .list) × (n ≤ mostRows) ⌝ }
     ensures { λ _. ⌜ Table (now (procs .entry)) (now (procs .exit)) (apply (stateIn (now (procs .entry)) n (now (vars .entry)) m) p (deltaOf plan) .procs) × Cells m (now (vars .entry)) (now (vars .exit)) (apply (stateIn (now (procs .entry)) n (now (vars .entry)) m) p (deltaOf plan) .vars) ⌝ }
 {
     write_procs(procs, n, p, plan);

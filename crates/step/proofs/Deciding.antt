@@ -31,7 +31,7 @@ use Rattle.parlog.specs.Tables.{at, cellSize, headSize, Lent, procCount, procsO
 use Rattle.parlog.specs.declared.Process.{Process}
 use Rattle.rows.proofs.Tables.{procs-length}
 use Rattle.step.specs.Stepping.{stepIn}
-use Rattle.tree.specs.Family.{Falls}
+use Rattle.tree.specs.Family.{Falls, mostRows}
 use Rattle.vars.proofs.Tables.{vars-length}
 
 -- ---- what a mover may count on
@@ -92,13 +92,18 @@ module _ (lim : Limits) (s : List ℕ) (r c : ℕ) (l : Lent) (i : Inside lim s 
   fits-asks en em = (rw en (i .procs-most), rw em (i .vars-most))
 
   module _ (p : ℕ) (h : p < procCount (l .head)) (n m : ℕ) (en : n ≡ procCount (l .head)) (pl : Plan) {b : Bool} (eb : b ≡ fitsIn (lim .procs) (lim .vars) n m pl) (q : b ≡ true) where
-    pub write-asks : pl .count ≤ newMost → pl .changes .count ≤ 4 → Within m (pl .changes .count) (pl .changes .list)
+    pub write-asks : lim .procs ≤ mostRows → pl .count ≤ newMost → pl .changes .count ≤ 4 → Within m (pl .changes .count) (pl .changes .list)
         → ((n + pl .count) * rowSize ≤ length (l .procs)) × (pl .count ≤ newMost) × (p < n) × Falls (procsOf (l .procs) n) × ((m + pl .fresh) * cellSize ≤ length (l .vars)) × (pl .changes .count ≤ 4)
-        × Within (m + pl .fresh) (pl .changes .count) (pl .changes .list)
-    write-asks few changes w = let x = may-write n m pl eb q w in (x .0, few, rw en h, parents-fall en, x .1, changes, x .2)
+        × Within (m + pl .fresh) (pl .changes .count) (pl .changes .list) × (n ≤ mostRows)
+    write-asks most few changes w = let x = may-write n m pl eb q w in (x .0, few, rw en h, parents-fall en, x .1, changes, x .2, omega (arith, en, i .procs-most, most))
 
     pub head-asks : Usable lim → n ≤ 65535 → (length (l .head) ≡ headSize) × (n + pl .count ≤ 65535) × (m + pl .fresh ≤ 65535) × (p ≤ 65535)
     head-asks ok hn = let f = room-for lim n m pl eb q in (i .head, omega (arith, f .0, ok .procs-counted), omega (arith, f .1, ok .vars-counted), omega (arith, h, en, hn))
+
+-- a run has no more rows than marks are kept for
+pub small-rows : small .procs ≤ mostRows
+unfolding small
+small-rows = omega arith
 
 -- the variables of a run can be counted
 pub small-few : small .vars ≤ 60000

@@ -1,5 +1,5 @@
--- The climb by parents: one law for each way through the code.
-use mathlib.Core.Path.{_∙_, _≡_, refl, sym}
+-- The tree of parents: one law for each way through the code that reads it.
+use mathlib.Core.Path.{_∙_, _≡_, refl}
 use mathlib.Core.Logic.{_≢_}
 use mathlib.Core.Bool.{_||_, cond, false}
 use mathlib.Core.List.{[], List}
@@ -9,7 +9,7 @@ use lib.ListN.{length}
 use borrow.Author.Tests.{eq-eqb, eqb-false, eqb-true, ltb-false, ltb-true, ne-eqb}
 use native.Mathlib.Omega.{arith}
 use Rattle.parlog.proofs.Along.{less-one}
-use Rattle.parlog.proofs.Bools.{not-so, or-none, split}
+use Rattle.parlog.proofs.Bools.{not-so, split}
 use Rattle.parlog.proofs.Fine.{below-child, child-lower}
 use Rattle.parlog.proofs.Kin.{below-at, below-test, Kin}
 use Rattle.parlog.specs.Codes.{isTag, try-clause}
@@ -106,24 +106,3 @@ module _ (l : List ℕ) (n p : ℕ) where
       (λ e. let k : q ≤ i = ltb-false i q e in
       let s : i ≡ q = omega arith in
       ne (ev ∙ (rw s at z)))
-
--- ---- the climb
-
--- what is known while it stands at a
-abbrev pub Climbs : List ℕ → ℕ → ℕ → ℕ → ℕ → Type 0
-Climbs l n p i a = (a < n) × (below (procsOf l n) p i ≡ (eqb a p || below (procsOf l n) p a))
-
-module _ (l : List ℕ) (n p i : ℕ) (falls : Falls (procsOf l n)) where
-  pub climb-starts : i < n → p < i → Climbs l n p i i
-  climb-starts h u = (h, let ne : i ≢ p = λ z. omega (arith, z) in rw (ne-eqb i p ne))
-
-  pub climb-goes : (a : ℕ) → Climbs l n p i a → p < a → {up : ℕ} → up ≡ at (procsOf l n) a .parent → Climbs l n p i up × (up < a)
-  climb-goes a (h, e) u {up} eu =
-      let k = procs-length l n in
-      let ne : a ≢ p = λ z. omega (arith, z) in
-      let v : at (procsOf l n) a .parent < a = falls a (omega arith) (λ z. omega (arith, z)) in
-      let z = rw (ne-eqb a p ne) at e in
-      ((omega arith, rw eu (z ∙ below-up (procsOf l n) falls p a (omega arith) u)), omega arith)
-
-  pub climb-ends : (a : ℕ) → Climbs l n p i a → a ≤ p → eqb a p ≡ below (procsOf l n) p i
-  climb-ends a (h, e) u = let k = procs-length l n in sym (e ∙ rw (below-low (procsOf l n) falls p a (omega arith) u) (or-none (eqb a p)))

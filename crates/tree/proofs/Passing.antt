@@ -21,7 +21,7 @@ use Rattle.parlog.specs.declared.Process.{Process}
 use Rattle.rows.proofs.Tables.{procs-length, procs-past, table-rows, table-same, table-then}
 use Rattle.rows.specs.Rows.{Table}
 use Rattle.tree.proofs.Family.{below-none}
-use Rattle.tree.specs.Family.{Childless, Falls, slept, sleptBelow}
+use Rattle.tree.specs.Family.{Childless, Falls, Marks, slept, sleptBelow}
 
 -- what sleeps already stays as it is
 asleep-still : (b : Bool) (x : Process) → x .mode ≡ 0 → asleep b x ≡ x
@@ -112,15 +112,24 @@ module _ (l m : List ℕ) (n p q : ℕ) (lt : q < n) (t : Table l m (build (pass
   pub falls-still : Falls (procsOf l n) → Falls (procsOf m n)
   falls-still falls i h ne = rw (parents i) (falls i (omega (arith, h, procs-length m n, procs-length l n)) ne)
 
-  same-below : below (procsOf m n) p q ≡ below (procsOf l n) p q
-  same-below = below-cong (procsOf l n) (procsOf m n) p q (procs-length m n ∙ sym (procs-length l n)) parents
+  same-below : (a : ℕ) → below (procsOf m n) p a ≡ below (procsOf l n) p a
+  same-below a = below-cong (procsOf l n) (procsOf m n) p a (procs-length m n ∙ sym (procs-length l n)) parents
+
+  -- so the marks say the same of both tables
+  pub marks-now : (ms : List ℕ) → Marks (procsOf l n) p q ms → Marks (procsOf m n) p q ms
+  unfolding Marks
+  marks-now ms marks k = rw (same-below k) (marks k)
+
+  pub marks-then : (ms : List ℕ) → Marks (procsOf m n) p (q + 1) ms → Marks (procsOf l n) p (q + 1) ms
+  unfolding Marks
+  marks-then ms marks k = rw (← same-below k) (marks k)
 
   same-row : at (procsOf m n) q ≡ at (procsOf l n) q
   same-row = rw (now, build-at (passed (procsOf l n) p q) n q idle lt) (passed-yet (procsOf l n) p q q (omega arith))
 
   same-slept : slept (procsOf m n) p q ≡ slept (procsOf l n) p q
   unfolding slept
-  same-slept = rw (same-below, same-row)
+  same-slept = rw (same-below q, same-row)
 
   pub pass-next : {k : List ℕ} → Table m k (set (procsOf m n) q (slept (procsOf m n) p q)) → Table l k (build (passed (procsOf l n) p (q + 1)) n)
   pass-next {k} w =

@@ -1,16 +1,21 @@
-// The climb by parents: what is below a process, its nearest try-clause above, and putting all below to sleep.
+// The tree of parents: the nearest try-clause above a process, and putting all below it to sleep.
 ghost use mathlib.Core.Path.{_≡_};
-ghost use Prim.Native.Nat.{_*_, _≤_, _<_};
+ghost use Prim.Native.Nat.{_+_, _*_, _≤_, _<_};
 ghost use lib.ListN.{length, set};
 ghost use Rattle.parlog.specs.Codes.{dormant};
 ghost use Rattle.parlog.specs.Delta.{withMode};
 ghost use Rattle.parlog.specs.Tables.{at, procsOf, rowSize};
 ghost use Rattle.parlog.specs.Tree.{below, enclosing, firstOf};
 ghost use Rattle.rows.specs.Rows.{Table};
-ghost use Rattle.tree.specs.Family.{Childless, Falls, slept, sleptBelow};
+ghost use Rattle.tree.specs.Family.{Childless, Falls, Marks, mostRows, slept, sleptBelow};
 use parlog::Found;
 use parlog::Process;
 use parlog::codes;
+
+// The most rows that a table may have here: there is a mark for each.
+const MOST_ROWS: usize = 4096;
+
+const MARKED: u8 = 1;
 
 // The parent of process i.
 fn parent(procs: &[u8], n: usize, i: usize) -> usize
@@ -26,18 +31,6 @@ fn above(procs: &[u8], n: usize, a: usize) -> usize
     ensures { λ r. ⌜ r ≡ at (procsOf (now (procs .entry)) n) a .parent ⌝ }
 {
     basics::wide_u16(rows::get_u16(procs, a * codes::ROW_SIZE + codes::ROW_PARENT))
-}
-
-// Process i is below p. Parents have lower numbers, so the climb ends once it has come to p or past it.
-pub fn below(procs: &[u8], n: usize, p: usize, i: usize) -> bool
-    requires { ⌜ (n * rowSize ≤ length (now procs)) × (i < n) × (p < i) × Falls (procsOf (now procs) n) ⌝ }
-    ensures { λ r. ⌜ r ≡ below (procsOf (now (procs .entry)) n) p i ⌝ }
-{
-    let mut a = i;
-    while p < a {
-        a = above(procs, n, a);
-    }
-    a == p
 }
 
 // The nearest try-clause above p.
@@ -97,15 +90,30 @@ fn mode(procs: &[u8], n: usize, q: usize) -> u8
     procs[q * codes::ROW_SIZE + codes::ROW_MODE]
 }
 
-// Process q falls asleep if it is below p; a row that sleeps already is not written.
-fn sleep_one(procs: &mut [u8], n: usize, p: usize, q: usize)
-    requires { ⌜ (n * rowSize ≤ length (now procs)) × (q < n) × (p < q) × Falls (procsOf (now procs) n) ⌝ }
-    ensures { λ _. ⌜ Table (now (procs .entry)) (now (procs .exit)) (set (procsOf (now (procs .entry)) n) q (slept (procsOf (now (procs .entry)) n) p q)) ⌝ }
+// Process q is below p: its parent is p, or is marked.
+fn is_below(procs: &[u8], n: usize, marks: &[u8], p: usize, q: usize) -> bool
+    requires { ⌜ (n * rowSize ≤ length (now procs)) × (q < n) × (p < q) × Falls (procsOf (now procs) n) × (n ≤ length (now marks)) × Marks (procsOf (now procs) n) p q (now marks) ⌝ }
+    ensures { λ r. ⌜ r ≡ below (procsOf (now (procs .entry)) n) p q ⌝ }
 {
-    if mode(procs, n, q) == codes::DORMANT {
+    let up = above(procs, n, q);
+    if up == p {
+        return true;
+    }
+    marks[up] != 0
+}
+
+// Process q is marked and falls asleep if it is below p; a row that sleeps already is marked too, but not written.
+fn sleep_one(procs: &mut [u8], n: usize, marks: &mut [u8], p: usize, q: usize)
+    requires { ⌜ (n * rowSize ≤ length (now procs)) × (q < n) × (p < q) × Falls (procsOf (now procs) n) × (n ≤ length (now marks)) × Marks (procsOf (now procs) n) p q (now marks) ⌝ }
+    ensures { λ _. ⌜ Table (now (procs .entry)) (now (procs .exit)) (set (procsOf (now (procs .entry)) n) q (slept (procsOf (now (procs .entry)) n) p q)) ⌝ }
+    ensures { λ _. ⌜ Marks (procsOf (now (procs .entry)) n) p (q + 1) (now (marks .exit)) ⌝ }
+{
+    if !is_below(procs, n, marks, p, q) {
         return;
     }
-    if !below(procs, n, p, q) {
+    let m = mode(procs, n, q);
+    marks[q] = MARKED;
+    if m == codes::DORMANT {
         return;
     }
     let x = rows::get(procs, n, q);
@@ -128,14 +136,26 @@ fn first_child(procs: &[u8], n: usize, p: usize) -> usize
     q
 }
 
-// Every process below p, at any depth, becomes dormant; nothing before the first child of p is below it.
-pub fn sleep_below(procs: &mut [u8], n: usize, p: usize)
-    requires { ⌜ (n * rowSize ≤ length (now procs)) × (p < n) × Falls (procsOf (now procs) n) ⌝ }
+// All below p falls asleep, from its first child on: one pass upward, in which a row has its mark before its children are reached.
+fn sleep_from(procs: &mut [u8], n: usize, p: usize, first: usize)
+    requires { ⌜ (n * rowSize ≤ length (now procs)) × (n ≤ mostRows) × (p < first) × (first ≤ n) × Falls (procsOf (now procs) n) × Childless (procsOf (now procs) n) p first ⌝ }
     ensures { λ _. ⌜ Table (now (procs .entry)) (now (procs .exit)) (sleptBelow (procsOf (now (procs .entry)) n) p) ⌝ }
 {
-    let mut q = first_child(procs, n, p);
+    let mut marks = [0u8; MOST_ROWS];
+    let mut q = first;
     while q < n {
-        sleep_one(procs, n, p, q);
+        sleep_one(procs, n, &mut marks, p, q);
         q += 1;
+    }
+}
+
+// Every process below p, at any depth, becomes dormant; nothing before the first child of p is below it.
+pub fn sleep_below(procs: &mut [u8], n: usize, p: usize)
+    requires { ⌜ (n * rowSize ≤ length (now procs)) × (p < n) × Falls (procsOf (now procs) n) × (n ≤ mostRows) ⌝ }
+    ensures { λ _. ⌜ Table (now (procs .entry)) (now (procs .exit)) (sleptBelow (procsOf (now (procs .entry)) n) p) ⌝ }
+{
+    let first = first_child(procs, n, p);
+    if first < n {
+        sleep_from(procs, n, p, first);
     }
 }

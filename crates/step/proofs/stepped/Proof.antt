@@ -2,7 +2,7 @@ use mathlib.Core.Path.{refl}
 use borrow.Author.Tests.{not-false, not-true}
 use native.Mathlib.Omega.{arith}
 use Rattle.step.proofs.Stepping.{stepped-full, stepped-moved, stepped-still}
-use Rattle.step.proofs.Deciding.{fits-asks, head-asks, room-for, rule-asks, small-few, write-asks}
+use Rattle.step.proofs.Deciding.{fits-asks, head-asks, room-for, rule-asks, small-few, write-asks, small-rows}
 use Rattle.parlog.proofs.Limits.{small-usable}
 use Rattle.parlog.specs.Limits.{small}
 use borrow.Author.Needs.{needs}
@@ -30,7 +30,7 @@ stepped-spec =
     (λ c. stepped-full _ _ _ _ _ (c .before .before .before .before .before .before .before .before .before .before .before .before .before .before .before .before .pre .0) _ (c .before .before .before .before .before .before .before .before .before .before .before .before .before .before .before .before .pre .1) (c .before .before .before .before .before .before .before .before .before .before .proc-count .ensures .0) (c .before .before .before .before .before .before .before .before .var-count .ensures .0) _ (c .before .before .before .before .before .rule-of .ensures .0) (not-false _ (c .before .before .before .if1 .left)) (c .before .before .fits2 .ensures) (not-true _ (c .before .if2 .taken)) (c .refusal2 .ensures))
     (λ c κs. let i = (c .before .before .before .before .before .before .before .before .before .before .before .before .before .before .before .before .pre .0) in omega (arith, i .head))
     (λ c κs. search needs)
-    (λ c κs. write-asks _ _ _ _ _ (c .before .before .before .before .before .before .before .before .before .before .before .before .before .before .before .before .before .before .before .before .pre .0) _ (c .before .before .before .before .before .before .before .before .before .before .before .before .before .before .before .before .before .before .before .before .pre .1) _ _ (c .before .before .before .before .before .before .before .before .before .before .before .before .before .before .proc-count .ensures .0) _ (c .before .before .before .before .before .before .fits2 .ensures) (not-false _ (c .before .before .before .before .before .if2 .left)) (c .before .before .before .before .before .before .before .before .before .rule-of .ensures .1) (c .before .before .before .before .before .before .before .before .before .rule-of .ensures .2) (c .before .before .before .before .before .before .before .before .before .rule-of .ensures .3))
+    (λ c κs. write-asks _ _ _ _ _ (c .before .before .before .before .before .before .before .before .before .before .before .before .before .before .before .before .before .before .before .before .pre .0) _ (c .before .before .before .before .before .before .before .before .before .before .before .before .before .before .before .before .before .before .before .before .pre .1) _ _ (c .before .before .before .before .before .before .before .before .before .before .before .before .before .before .proc-count .ensures .0) _ (c .before .before .before .before .before .before .fits2 .ensures) (not-false _ (c .before .before .before .before .before .if2 .left)) small-rows (c .before .before .before .before .before .before .before .before .before .rule-of .ensures .1) (c .before .before .before .before .before .before .before .before .before .rule-of .ensures .2) (c .before .before .before .before .before .before .before .before .before .rule-of .ensures .3))
     (λ c. let w = room-for small _ _ _ (c .before .before .before .before .before .before .before .before .before .before .before .before .before .fits2 .ensures) (not-false _ (c .before .before .before .before .before .before .before .before .before .before .before .before .if2 .left)) in omega (arith, w .0))
     (λ c. let w = room-for small _ _ _ (c .before .before .before .before .before .before .before .before .before .before .before .before .before .before .fits2 .ensures) (not-false _ (c .before .before .before .before .before .before .before .before .before .before .before .before .before .if2 .left)) in omega (arith, w .1))
     (λ c κs. head-asks _ _ _ _ _ (c .before .before .before .before .before .before .before .before .before .before .before .before .before .before .before .before .before .before .before .before .before .before .before .before .before .before .before .before .pre .0) _ (c .before .before .before .before .before .before .before .before .before .before .before .before .before .before .before .before .before .before .before .before .before .before .before .before .before .before .before .before .pre .1) _ _ (c .before .before .before .before .before .before .before .before .before .before .before .before .before .before .before .before .before .before .before .before .before .before .proc-count .ensures .0) _ (c .before .before .before .before .before .before .before .before .before .before .before .before .before .before .fits2 .ensures) (not-false _ (c .before .before .before .before .before .before .before .before .before .before .before .before .before .if2 .left)) small-usable (c .before .before .before .before .before .before .before .before .before .before .before .before .before .before .before .before .before .before .before .before .before .before .proc-count .ensures .1))

@@ -1,6 +1,8 @@
-use Rattle.tree.proofs.Passing.{sleep-not, sleep-now, sleep-still}
 use borrow.Author.Tests.{not-false, not-true}
 use borrow.Author.Needs.{needs}
+use native.Mathlib.Omega.{arith}
+use Rattle.tree.proofs.Marking.{marks-more, marks-skip}
+use Rattle.tree.proofs.Passing.{sleep-not, sleep-now, sleep-still}
 use Rattle.tree.proofs.sleep_one.Statement.{statement}
 use Rattle.tree.proofs.sleep_one.Tie as tie
 
@@ -10,13 +12,20 @@ sleep-one-spec =
     (tie.spec
     (λ c κs. search needs)
     (λ c. search needs)
-    (λ c. sleep-still _ _ _ _ (c .before .mode .ensures) (c .if1 .taken))
+    (λ c. search needs)
+    (λ c. let s = c .before .before .before .before .before .before in let e = c .before .is-below .ensures in let h = not-true _ (c .if1 .taken) in
+    (sleep-not _ _ _ _ e h, marks-skip _ _ _ _ (s .pre .5) e h))
     (λ c κs. search needs)
     (λ c. search needs)
-    (λ c. sleep-not _ _ _ _ (c .before .below .ensures) (not-true _ (c .if2 .taken)))
+    (λ c. search needs)
+    (λ c. search needs)
+    (λ c. let t = c .before .before .before in let s = t .before .before .before .before .before .before in
+    (sleep-still _ _ _ _ (c .before .mode .ensures) (c .if2 .taken), marks-more _ _ _ _ (s .pre .5) (t .before .is-below .ensures) (not-false _ (t .if1 .left)) _ (λ z. omega (arith, z)) (omega arith)))
     (λ c κs. search needs)
     (λ c κs. search needs)
     (λ c κs. search needs)
     (λ c. search needs)
-    (λ c. let s = c .before .before .before .before in
-    sleep-now _ _ _ _ (s .before .before .before .before .below .ensures) (not-false _ (s .before .before .before .if2 .left)) (s .before .get .ensures) (s .dormant .ensures) (c .before .before .put .ensures)))
+    (λ c. search needs)
+    (λ c. let g = c .before .before .before .before in let t = g .before .before .before .before .before .before in let s = t .before .before .before .before .before .before in
+    let e = t .before .is-below .ensures in let h = not-false _ (t .if1 .left) in
+    (sleep-now _ _ _ _ e h (g .before .get .ensures) (g .dormant .ensures) (c .before .before .put .ensures), marks-more _ _ _ _ (s .pre .5) e h _ (λ z. omega (arith, z)) (omega arith))))
