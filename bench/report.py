@@ -72,6 +72,15 @@ def run_table(found):
                      [[key[1], number(key[3]), str(key[2]), spread(lines)] for key, lines in chosen(found, "run")])
 
 
+def woken_table(found):
+    """What a woken call takes in nanoseconds, where it was measured."""
+    rows = [[key[1], *("{:,.0f}".format(middle(lines, side)) for side in ("archive", "plain")), spread(lines)]
+            for key, lines in chosen(found, "woken call")]
+    if rows:
+        yield from table("A woken call of the plan of records, in nanoseconds, its share of supplies and run calls counted in",
+                         ["Counted", "Archive", "Plain C", "Ratio"], rows)
+
+
 def grid_table(found, what, title):
     """Ratios by rows in use, with a column for each image size."""
     keys = [key for key, _ in chosen(found, what)]
@@ -106,6 +115,7 @@ def tables(found):
     yield ""
     yield from load_tables(found)
     yield from run_table(found)
+    yield from woken_table(found)
     yield from grid_table(found, "step", "A step, by rows in use and image size")
     yield from grid_table(found, "call without a step", "A call without a step, by rows in use and image size")
     yield from grid_table(found, "supply", "A supply, by rows in use and image size")

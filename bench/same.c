@@ -13,6 +13,7 @@
 enum { IMAGES = 120000, SMALL_PLANS = 20000, WHOLE_IMAGES = 4000 };
 
 static struct image image;
+static struct arrivals arrivals;
 static struct tables ours, theirs; /* of the archive, of the plain C */
 static unsigned runs, supplies, refused, differences;
 
@@ -201,18 +202,6 @@ static unsigned runs_differ(void)
     return differences;
 }
 
-/* Both play the plan at hand as it is measured: each time it waits the next goal variable is supplied as 1. */
-static unsigned play(void)
-{
-    unsigned end, calls = 0;
-
-    differences += rissobarm_refusal(rissobarm_start(IMAGE, TABLES(&ours))) != RISSOBARM_ACCEPTED;
-    do
-        end = rissobarm_end(both_run(LIMIT));
-    while (end == RISSOBARM_END_WAITING && rissobarm_refusal(both_supply(calls++, 1)) == RISSOBARM_ACCEPTED);
-    return end;
-}
-
 /* Whether every process from 2 on sleeps. */
 static int all_asleep(void)
 {
@@ -250,7 +239,7 @@ static int chains_bad(void)
     return bad != 0 || differences != before;
 }
 
-/* The plan at hand, under a name; 0 where both sides do the same and it ends as it should. */
+/* Both play the plan at hand as it is measured, under a name; 0 where they do the same and it ends as it should. */
 static int plan_bad(const char *name, unsigned expected)
 {
     static const char *const ends[RISSOBARM_END_COUNT + 1] = {
@@ -261,9 +250,12 @@ static int plan_bad(const char *name, unsigned expected)
         [RISSOBARM_END_ROOM] = "no room",
         [RISSOBARM_END_BUDGET] = "the budget used up",
     };
-    unsigned before = differences, end = play();
+    unsigned before = differences, calls = runs, end;
 
-    printf("%s: ends in %s, %u rows, %u differences\n", name, ends[end], processes(&ours), differences - before);
+    differences += rissobarm_refusal(rissobarm_start(IMAGE, TABLES(&ours))) != RISSOBARM_ACCEPTED;
+    end = play(&arrivals, both_run, both_supply);
+    printf("%s: ends in %s, %u run calls, %u rows, %u differences\n", name, ends[end], runs - calls, processes(&ours),
+           differences - before);
     if (end != expected)
         printf("%s: should end in %s\n", name, ends[expected]);
     return end != expected || differences != before;
@@ -276,15 +268,18 @@ static int plans_bad(const char *folder)
         const char *name;
         unsigned end;
     } plans[] = {
-        { "calls", RISSOBARM_END_ROOM }, { "wide", RISSOBARM_END_SUCCESS }, { "guards", RISSOBARM_END_SUCCESS }
+        { "calls", RISSOBARM_END_ROOM },
+        { "wide", RISSOBARM_END_SUCCESS },
+        { "guards", RISSOBARM_END_SUCCESS },
+        { "records", RISSOBARM_END_SUCCESS }
     };
     char path[4096];
     unsigned k;
     int bad = 0;
 
-    for (k = 0; k < 3; k++) {
+    for (k = 0; k < sizeof plans / sizeof plans[0]; k++) {
         snprintf(path, sizeof path, "%s/%s.image", folder, plans[k].name);
-        if (read_plan(&image, path)) {
+        if (read_plan(&image, &arrivals, path)) {
             bad |= plan_bad(plans[k].name, plans[k].end);
         } else {
             printf("%s: no image, or a refused one\n", path);
@@ -292,6 +287,7 @@ static int plans_bad(const char *folder)
         }
     }
     make_calls(&image, 1);
+    make_arrivals(&arrivals);
     return bad | plan_bad("calls in a large image", RISSOBARM_END_ROOM);
 }
 

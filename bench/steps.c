@@ -13,36 +13,40 @@ typedef uint64_t runner(const uint8_t *image, size_t image_len, uint8_t *head, s
                         size_t procs_len, uint8_t *vars, size_t vars_len, uint16_t limit);
 
 static struct image image;
+static struct arrivals arrivals;
 static struct tables from, ours; /* what each call starts from, what it is lent */
 static volatile uint64_t sink;
 
 /* ---- whole plans ---- */
 
-/* Runs to the end; each time it waits the next goal variable is supplied as 1, outside the clock. */
-static double play(runner *run)
+static runner *runs; /* the side that plays */
+static double spent;
+
+/* The run calls of a side are timed, what is supplied between them is not. */
+static uint64_t timed_run(unsigned limit)
 {
-    double spent = 0;
-    unsigned calls = 0;
-    uint64_t answer;
+    double start = now();
+    uint64_t answer = runs(IMAGE, TABLES(&ours), (uint16_t)limit);
 
-    sink = rissobarm_start(IMAGE, TABLES(&ours));
-    do {
-        double start = now();
+    spent += now() - start;
+    return answer;
+}
 
-        answer = run(IMAGE, TABLES(&ours), LIMIT);
-        spent += now() - start;
-    } while (rissobarm_end(answer) == RISSOBARM_END_WAITING &&
-             rissobarm_refusal(rissobarm_supply(IMAGE, TABLES(&ours), calls++, 1)) == RISSOBARM_ACCEPTED);
-    return spent;
+static uint64_t supply(uint32_t variable, uint32_t value)
+{
+    return rissobarm_supply(IMAGE, TABLES(&ours), variable, value);
 }
 
 static double plays(runner *run, unsigned times)
 {
-    double spent = 0;
     unsigned k;
 
-    for (k = 0; k < times; k++)
-        spent += play(run);
+    runs = run;
+    spent = 0;
+    for (k = 0; k < times; k++) {
+        sink = rissobarm_start(IMAGE, TABLES(&ours));
+        sink = play(&arrivals, timed_run, supply);
+    }
     return spent / times;
 }
 
@@ -71,7 +75,7 @@ static int tell_file(const char *path)
 {
     const char *name = strrchr(path, '/') == NULL ? path : strrchr(path, '/') + 1;
 
-    if (!read_plan(&image, path))
+    if (!read_plan(&image, &arrivals, path))
         return 0;
     tell_plan(name, (int)strcspn(name, "."));
     return 1;
@@ -239,6 +243,7 @@ int main(int count, char **words)
         if (!tell_file(words[k]))
             return 1;
     make_calls(&image, 1);
+    make_arrivals(&arrivals);
     tell_plan("calls in a large image", LIMIT);
     return !(tell_chains() && tell_calls(ALONE) && tell_calls(16) && tell_calls(4) && tell_calls(1));
 }
