@@ -149,7 +149,7 @@ def set_into(page, found):
 
 # ---- plot
 
-WIDE, HIGH, TOP, LOW, HIGHEST = 230, 210, 82, 0.5, 64
+WIDE, HIGH, TOP, LOW, HIGHEST = 230, 210, 82, 0.5, 256
 
 STYLE = """
   text { font: 12px sans-serif; fill: #1f2328 } .name { font-weight: bold; font-size: 13px }
@@ -184,7 +184,7 @@ def height(ratio):
 def axes(left, name, along, place, ticks, goal):
     """The frame of one plot: ratios upward, what it is measured by along, and the ratio that is aimed at."""
     yield text(left, 20, name, 'class="name"')
-    for ratio in (0.5, 1, 2, 4, 8, 16, 32, 64):
+    for ratio in (LOW * 2 ** k for k in range(round(math.log2(HIGHEST / LOW)) + 1)):
         yield stroke("grid", left, height(ratio), left + WIDE, height(ratio))
         yield text(left - 7, height(ratio) + 4, "%g" % ratio, 'text-anchor="end"')
     for tick in ticks:

@@ -7,7 +7,8 @@
 #include <stdio.h>
 #include <string.h>
 
-enum { STRIDE = 64 };
+/* Steps of a call that is timed, and calls between two looks at the clock. */
+enum { STRIDE = 64, BLOCK = 16 };
 
 typedef uint64_t runner(const uint8_t *image, size_t image_len, uint8_t *head, size_t head_len, uint8_t *procs,
                         size_t procs_len, uint8_t *vars, size_t vars_len, uint16_t limit);
@@ -105,24 +106,28 @@ static double plain_call(unsigned times)
 
 /* ---- a step: a call of some steps less one of none, both from the same tables; a report is one step ---- */
 
-static double once(runner *run, unsigned limit)
+/* A block of calls. */
+static double block(runner *run, unsigned limit)
 {
-    double start;
+    double start = now();
+    unsigned k;
 
-    ours = from;
-    start = now();
-    sink = run(IMAGE, TABLES(&ours), (uint16_t)limit);
+    for (k = 0; k < BLOCK; k++) {
+        ours = from;
+        sink = run(IMAGE, TABLES(&ours), (uint16_t)limit);
+    }
     return now() - start;
 }
 
+/* Blocks with steps and blocks without take turns, so that a change of the processor's pace meets both. */
 static double steps(runner *run, unsigned stride, unsigned times)
 {
-    double spent = 0;
-    unsigned k;
+    unsigned blocks = times / BLOCK + 1, k;
 
-    for (k = 0; k < times; k++)
-        spent += once(run, stride) - once(run, 0);
-    return spent / times / stride;
+    spent = 0;
+    for (k = 0; k < blocks; k++)
+        spent += block(run, stride) - block(run, 0);
+    return spent / blocks / BLOCK / stride;
 }
 
 static double archive_step(unsigned times)
