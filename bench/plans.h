@@ -6,20 +6,20 @@
 #include "tables.h"
 
 /*
- * Most steps of a call in which a plan is played, and of one in which a plan of records goes on while values still arrive; the part
- * of the largest image that leaves the plan of calls alone.
+ * Most steps of a call in which a plan is played, and of one in which a plan of records goes on while values still arrive; the
+ * part of the largest image that leaves the plan of calls alone.
  */
 enum { LIMIT = 60000, SLICE = 20, ALONE = 64 };
 
-/* Values from outside in the order in which they come, each for a variable of the goal, and the most steps of a call once they come. */
+/* Values from outside as they come, each for a variable of the goal, and the most steps of a call once they do. */
 struct arrivals {
     unsigned count, slice;
     uint32_t variable[RISSOBARM_OWN_LIMIT], value[RISSOBARM_OWN_LIMIT];
 };
 
 /*
- * Reads the image of a plan from its file, FOLDER/NAME.image, and what arrives from FOLDER/NAME.arrivals, a variable and a value on
- * each line; without such a file each variable of a goal arrives as 1. 0 where there is no image that is accepted.
+ * Reads the image of a plan from its file, FOLDER/NAME.image, and what arrives from FOLDER/NAME.arrivals, a variable and a value
+ * on each line; without such a file each variable of a goal arrives as 1. 0 where there is no image that is accepted.
  */
 int read_plan(struct image *image, struct arrivals *arrivals, const char *path);
 
