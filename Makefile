@@ -30,7 +30,7 @@ install: archive ## installs the archive, its header and rissobarm.pc below PREF
 uninstall: ## takes these three files out again
 	rm -f '$(into)/lib/librissobarm.a' '$(into)/include/rissobarm.h' '$(into)/lib/pkgconfig/rissobarm.pc'
 
-bench: ## measures the archive beside plain C, RUNS times (5); on x86-64 alone
+bench: ## measures the archive beside plain and quick C, RUNS times (5); on x86-64 alone
 	@bench/run $(RUNS)
 
 soak: ## drives archive and reference side by side for MINUTES (20), from SEED where one is given

@@ -1,5 +1,4 @@
-/* The archive's run and supply beside the plain C ones, as ratios: whole plans, then calls by rows in use and by image size. */
-#include "machine.h"
+/* The archive's run and supply beside those in C, as ratios: whole plans, then calls by rows in use and by image size. */
 #include "plans.h"
 #include "tables.h"
 #include "times.h"
@@ -10,9 +9,6 @@
 /* Steps of a call that is timed, and calls between two looks at the clock. */
 enum { STRIDE = 64, BLOCK = 16 };
 
-typedef uint64_t runner(const uint8_t *image, size_t image_len, uint8_t *head, size_t head_len, uint8_t *procs,
-                        size_t procs_len, uint8_t *vars, size_t vars_len, uint16_t limit);
-
 static struct image image;
 static struct arrivals arrivals;
 static struct tables from, ours; /* what each call starts from, what it is lent */
@@ -20,14 +16,14 @@ static volatile uint64_t sink;
 
 /* ---- whole plans ---- */
 
-static runner *runs; /* the side that plays */
+static unsigned player; /* the side that plays */
 static double spent;
 
-/* The run calls of a side are timed, what is supplied between them is not. */
+/* The run calls of the side are timed, what is supplied between them is not. */
 static uint64_t timed_run(unsigned limit)
 {
     double start = now();
-    uint64_t answer = runs(IMAGE, TABLES(&ours), (uint16_t)limit);
+    uint64_t answer = run_of[player](IMAGE, TABLES(&ours), (uint16_t)limit);
 
     spent += now() - start;
     return answer;
@@ -38,11 +34,11 @@ static uint64_t supply(uint32_t variable, uint32_t value)
     return rissobarm_supply(IMAGE, TABLES(&ours), variable, value);
 }
 
-static double plays(runner *run, unsigned times)
+static double plays(unsigned side, unsigned times)
 {
     unsigned k;
 
-    runs = run;
+    player = side;
     spent = 0;
     for (k = 0; k < times; k++) {
         sink = rissobarm_start(IMAGE, TABLES(&ours));
@@ -51,21 +47,11 @@ static double plays(runner *run, unsigned times)
     return spent / times;
 }
 
-static double archive_plays(unsigned times)
-{
-    return plays(rissobarm_run, times);
-}
-
-static double plain_plays(unsigned times)
-{
-    return plays(machine_run, times);
-}
-
 /* The plan at hand, under a name. */
 static void tell_plan(const char *name, int length)
 {
     char shown[40];
-    struct ratio here = in_turns(archive_plays, plain_plays);
+    struct ratio here = in_turns(plays, ALL_SIDES);
 
     snprintf(shown, sizeof shown, "%.*s", length, name);
     tell("run", shown, processes(&ours), image.length, &here, &here);
@@ -84,93 +70,61 @@ static int tell_file(const char *path)
 
 /* ---- a call without a step: image and tables tested, one search for whose turn it is ---- */
 
-static double archive_call(unsigned times)
+static double calls(unsigned side, unsigned times)
 {
     double start = now();
     unsigned k;
 
     for (k = 0; k < times; k++)
-        sink = rissobarm_run(IMAGE, TABLES(&from), 0);
-    return (now() - start) / times;
-}
-
-static double plain_call(unsigned times)
-{
-    double start = now();
-    unsigned k;
-
-    for (k = 0; k < times; k++)
-        sink = machine_run(IMAGE, TABLES(&from), 0);
+        sink = run_of[side](IMAGE, TABLES(&from), 0);
     return (now() - start) / times;
 }
 
 /* ---- a step: a call of some steps less one of none, both from the same tables; a report is one step ---- */
 
 /* A block of calls. */
-static double block(runner *run, unsigned limit)
+static double block(unsigned side, unsigned limit)
 {
     double start = now();
     unsigned k;
 
     for (k = 0; k < BLOCK; k++) {
         ours = from;
-        sink = run(IMAGE, TABLES(&ours), (uint16_t)limit);
+        sink = run_of[side](IMAGE, TABLES(&ours), (uint16_t)limit);
     }
     return now() - start;
 }
 
 /* Blocks with steps and blocks without take turns, so that a change of the processor's pace meets both. */
-static double steps(runner *run, unsigned stride, unsigned times)
+static double blocks(unsigned side, unsigned stride, unsigned times)
 {
-    unsigned blocks = times / BLOCK + 1, k;
+    unsigned count = times / BLOCK + 1, k;
 
     spent = 0;
-    for (k = 0; k < blocks; k++)
-        spent += block(run, stride) - block(run, 0);
-    return spent / blocks / BLOCK / stride;
+    for (k = 0; k < count; k++)
+        spent += block(side, stride) - block(side, 0);
+    return spent / count / BLOCK / stride;
 }
 
-static double archive_step(unsigned times)
+static double steps(unsigned side, unsigned times)
 {
-    return steps(rissobarm_run, STRIDE, times);
+    return blocks(side, STRIDE, times);
 }
 
-static double plain_step(unsigned times)
+static double reports(unsigned side, unsigned times)
 {
-    return steps(machine_run, STRIDE, times);
-}
-
-static double archive_report(unsigned times)
-{
-    return steps(rissobarm_run, 1, times);
-}
-
-static double plain_report(unsigned times)
-{
-    return steps(machine_run, 1, times);
+    return blocks(side, 1, times);
 }
 
 /* ---- a supply: image and tables tested, one variable bound, and unbound again for the next ---- */
 
-static double archive_supply(unsigned times)
+static double supplies(unsigned side, unsigned times)
 {
     double start = now();
     unsigned k;
 
     for (k = 0; k < times; k++) {
-        sink = rissobarm_supply(IMAGE, TABLES(&from), 0, 1);
-        memset(from.vars, 0, RISSOBARM_VARIABLE_ROW);
-    }
-    return (now() - start) / times;
-}
-
-static double plain_supply(unsigned times)
-{
-    double start = now();
-    unsigned k;
-
-    for (k = 0; k < times; k++) {
-        sink = machine_supply(IMAGE, TABLES(&from), 0, 1);
+        sink = supply_of[side](IMAGE, TABLES(&from), 0, 1);
         memset(from.vars, 0, RISSOBARM_VARIABLE_ROW);
     }
     return (now() - start) / times;
@@ -189,14 +143,15 @@ static int fill(unsigned rows)
     return rissobarm_steps(rissobarm_run(IMAGE, TABLES(&ours), STRIDE)) == STRIDE;
 }
 
-/* What is measured of a call. */
+/* What is measured of a call, and of how many sides. */
 static const struct sort {
     const char *name;
-    work *archive, *plain;
+    work *work;
+    unsigned sides;
 } sorts[] = {
-    { "step", archive_step, plain_step },
-    { "call without a step", archive_call, plain_call },
-    { "supply", archive_supply, plain_supply }
+    { "step", steps, ALL_SIDES },
+    { "call without a step", calls, TWO_SIDES },
+    { "supply", supplies, TWO_SIDES }
 };
 
 /* Times are told beside those at the fewest rows of the same image. */
@@ -210,7 +165,7 @@ static int tell_calls(unsigned part)
         if (!fill(rows))
             return 0;
         for (k = 0; k < 3; k++) {
-            here = in_turns(sorts[k].archive, sorts[k].plain);
+            here = in_turns(sorts[k].work, sorts[k].sides);
             if (rows == 16)
                 first[k] = here;
             tell(sorts[k].name, "calls", rows, image.length, &here, &first[k]);
@@ -231,7 +186,7 @@ static int tell_chains(void)
         ours = from;
         if (rissobarm_steps(rissobarm_run(IMAGE, TABLES(&ours), 1)) != 1)
             return 0;
-        here = in_turns(archive_report, plain_report);
+        here = in_turns(reports, ALL_SIDES);
         if (rows == 128)
             first = here;
         tell("report", "chain", rows, image.length, &here, &first);
