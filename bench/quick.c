@@ -1,5 +1,5 @@
 /*
- * A run and a supply of the machine in C as fast as it could be made: rows are read and written where they stand, the image is
+ * A run and a supply of the machine in C, the fastest that we have: rows are read and written where they stand, the image is
  * tested and indexed once a call, and so are the tables. During a run each process knows its children and what they said, and
  * those that can move are a set of bits: a step looks at the process that moves, at its parent and at what it wakes, not at all
  * rows.

@@ -1,4 +1,4 @@
-/* The run and the supply in C as fast as it could be made: the same lent bytes and answers as rissobarm_run and rissobarm_supply. */
+/* The fastest run and supply in C that we have: the same lent bytes and answers as rissobarm_run and rissobarm_supply. */
 #ifndef QUICK_H
 #define QUICK_H
 

@@ -2,7 +2,7 @@
 """Tables and plot of measured ratios: report.py RESULTS.csv PLOT.svg PAGE.. writes the plot and sets the tables into the pages.
 
 A ratio is that of the archive to the plain C, which the targets are about, or to the quick C where that is said.
-A page has the lines <!-- measured: NAME --> and <!-- end -->, with NAME as summary or tables; what stands between them is replaced.
+A page has the lines <!-- measured: NAME --> and <!-- end -->, with NAME as summary, tables or missed; what stands between them is replaced.
 A ratio is told as its median over the runs, and in brackets the least and the greatest of a run."""
 import csv
 import math
@@ -162,6 +162,26 @@ def summary(found):
     yield from table("", ["What", "Target", "Least ratio", "Greatest ratio", "Over the target", "To quick C"], rows)
 
 
+def over(found, what, target):
+    """The cases over a target: plans and images by name, the others by image size, with the fewest and the most rows."""
+    told = []
+    if what in ("load", "run"):
+        return ["%s %.2f" % (key[1], middle(lines)) for key, lines in chosen(found, what) if middle(lines) > target]
+    for size in sorted({key[3] for key, _ in chosen(found, what)}):
+        cases = [(key[2], middle(lines) > target) for key, lines in chosen(found, what) if key[3] == size]
+        rows = [used for used, missed in cases if missed]
+        if rows:
+            told.append("%s bytes at %d of %d (%d to %d rows)" % (number(size), len(rows), len(cases), min(rows), max(rows)))
+    return told
+
+
+def missed(found):
+    """What is over its target."""
+    yield from table("", ["What", "Target", "Over it"],
+                     [[what, "%.1f" % target, "; ".join(over(found, what, target)) or "none"]
+                      for what, target in TARGETS.items() if target])
+
+
 def set_into(page, blocks):
     """Sets what was measured between the marks of a page, by their names."""
     with open(page) as file:
@@ -179,7 +199,8 @@ WIDE, HIGH, TOP, LOW, HIGHEST = 230, 210, 82, 0.5, 128
 
 STYLE = """
   text { font: 12px sans-serif; fill: #1f2328 } .name { font-weight: bold; font-size: 13px }
-  .quick { stroke-dasharray: 3 3 } .page { fill: #ffffff } .grid { stroke: #d1d9e0 } .axis { stroke: #59636e; fill: none } .goal { stroke: #59636e; stroke-dasharray: 5 4 }
+  .quick { stroke-dasharray: 3 3 }
+  .page { fill: #ffffff } .grid { stroke: #d1d9e0 } .axis { stroke: #59636e; fill: none } .goal { stroke: #59636e; stroke-dasharray: 5 4 }
   .s0 { stroke: #0072b2; fill: #0072b2 } .s1 { stroke: #c65102; fill: #c65102 }
   .s2 { stroke: #00785a; fill: #00785a } .s3 { stroke: #a0468c; fill: #a0468c } polyline { fill: none !important; stroke-width: 2 }
   @media (prefers-color-scheme: dark) {
@@ -278,7 +299,7 @@ def main(results, picture, *pages):
     with open(picture, "w") as file:
         file.write("\n".join(plot(found)) + "\n")
     for page in pages:
-        set_into(page, {"summary": summary(found), "tables": tables(found)})
+        set_into(page, {"summary": summary(found), "tables": tables(found), "missed": missed(found)})
 
 
 if __name__ == "__main__":
