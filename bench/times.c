@@ -30,26 +30,26 @@ static double median(double *times)
 }
 
 /* How many times make a round; the first ones also warm the caches. */
-static unsigned enough(work *work, unsigned side)
+static unsigned enough(work *thing, unsigned side)
 {
     double start = now(), once;
 
-    work(side, 8);
+    thing(side, 8);
     once = (now() - start) / 8;
     return once > ROUND_NS ? 1 : (unsigned)(ROUND_NS / once) + 1;
 }
 
-struct ratio in_turns(work *work, unsigned sides)
+struct ratio in_turns(work *thing, unsigned sides)
 {
     struct ratio r = { 0, 1e300, 0, { 0, 0, 0 } };
     double spent[ALL_SIDES][ROUNDS], ratio;
     unsigned times[ALL_SIDES], side, k;
 
     for (side = 0; side < sides; side++)
-        times[side] = enough(work, side);
+        times[side] = enough(thing, side);
     for (k = 0; k < ROUNDS; k++) {
         for (side = 0; side < sides; side++)
-            spent[side][k] = work(side, times[side]);
+            spent[side][k] = thing(side, times[side]);
         ratio = spent[ARCHIVE][k] / spent[PLAIN][k];
         r.least = ratio < r.least ? ratio : r.least;
         r.most = ratio > r.most ? ratio : r.most;

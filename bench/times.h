@@ -16,7 +16,7 @@ struct ratio {
 double now(void);
 
 /* The first so many sides in turns, round for round. */
-struct ratio in_turns(work *work, unsigned sides);
+struct ratio in_turns(work *thing, unsigned sides);
 
 /*
  * A line of results; each side's time stands as a multiple of its own in another ratio. The quick C stands behind the others with
