@@ -9,8 +9,8 @@ use borrow.Author.Tests.{le-leb, le-ltb, leb-true, lt-leb, lt-ltb, ltb-true}
 use native.Mathlib.Omega.{arith}
 use Rattle.head.proofs.Laws.{head-is}
 use Rattle.load.specs.Fields.{refusalOf}
-use Rattle.machine.proofs.Entering.{inside-of}
-use Rattle.machine.specs.Entered.{EnterSays}
+use Rattle.entry.proofs.Entering.{inside-of}
+use Rattle.entry.specs.Entered.{EnterSays}
 use Rattle.machine.specs.Supplying.{askedOf, DecidedSays, givenBy, isConst, supplyOf, SupplySays, Writes, WritesOf}
 use Rattle.parlog.proofs.Bools.{never}
 use Rattle.parlog.specs.Calls.{supplyAnswer, supplyCall}

@@ -1,6 +1,4 @@
 -- The laws of the calls.
-pub mod Held
-pub mod Entering
 pub mod Looking
 pub mod Beginning
 pub mod Giving

@@ -7,7 +7,7 @@ use lib.Dec.{ltb}
 use borrow.Author.Tests.{le-ltb, lt-ltb}
 use native.Mathlib.Omega.{arith}
 use Rattle.load.specs.Fields.{refusalOf}
-use Rattle.machine.specs.Entered.{EnterSays}
+use Rattle.entry.specs.Entered.{EnterSays}
 use Rattle.parlog.specs.Calls.{valueAnswer, valueCall}
 use Rattle.parlog.specs.Limits.{Limits}
 use Rattle.parlog.specs.Load.{refusal}

@@ -1,4 +1,3 @@
 -- What the calls promise.
-pub mod Entered
 pub mod Starting
 pub mod Supplying

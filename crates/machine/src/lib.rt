@@ -1,7 +1,6 @@
 // The calls over lent bytes: a start, a supply, and the value of a goal variable.
 use parlog::Loaded;
 use parlog::Process;
-use parlog::Refusal;
 use parlog::Spot;
 use parlog::Started;
 use parlog::Supplied;
@@ -23,42 +22,13 @@ ghost use Rattle.parlog.specs.Unify.{value};
 ghost use Rattle.parlog.specs.declared.Binding.the-variants.{Bound};
 ghost use Rattle.parlog.specs.declared.Supplied.the-variants.{Ungiven};
 ghost use Rattle.parlog.specs.declared.Term.the-variants.{Var};
-ghost use Rattle.machine.specs.Entered.{EnterSays};
 ghost use Rattle.machine.specs.Starting.{BeginSays, StartSays, StartableSays};
 ghost use Rattle.machine.specs.Supplying.{DecidedSays, SupplySays, askedOf, givenBy, isConst};
 
-// The limits of a run, and the sizes of its two tables.
-const PROCS: usize = 512;
-
-const VARS: usize = 1024;
-
+// The sizes of the two tables of a run.
 const PROC_BYTES: usize = 12288;
 
 const VAR_BYTES: usize = 4096;
-
-// A refusal with this number; it has no offset.
-pub fn refusal(number: u8) -> Refusal
-    ensures { λ r. ⌜ r ≡ refusal number 0 ⌝ }
-{
-    Refusal {
-        number: number,
-        offset: 0,
-    }
-}
-
-// The image first, then the table rules: the counts of the program, or the refusal.
-pub fn enter(image: &[u8], head: &[u8], procs: &[u8], vars: &[u8]) -> Loaded
-    ensures { λ r. ⌜ EnterSays small (now (image .entry)) (lent (now (head .entry)) (now (procs .entry)) (now (vars .entry))) r ⌝ }
-{
-    let l = load::load(image);
-    let Loaded::Accepted(rels, clauses) = l else {
-        return l;
-    };
-    if !table_rules::lent_ok(image, rels, clauses, head, procs, vars, PROCS, VARS) {
-        return Loaded::Refused(refusal(8));
-    }
-    l
-}
 
 // ---- the value
 
@@ -76,7 +46,7 @@ fn look(
 {
     let goal = program_clause::goal_vars(image, rels, clauses);
     if goal <= (variable as usize) {
-        return Valued::Unvalued(refusal(12));
+        return Valued::Unvalued(entry::refusal(12));
     }
     let n = head::var_count(head);
     let seen = unify::value_of(vars, n, Term::Var(variable));
@@ -87,7 +57,7 @@ fn look(
 pub fn value(image: &[u8], head: &[u8], procs: &[u8], vars: &[u8], variable: u32) -> Valued
     ensures { λ r. ⌜ r ≡ valueCall small (now (image .entry)) (lent (now (head .entry)) (now (procs .entry)) (now (vars .entry))) variable ⌝ }
 {
-    let e = enter(image, head, procs, vars);
+    let e = entry::enter(image, head, procs, vars);
     let Loaded::Accepted(rels, clauses) = e else {
         let r = load::refusal(e);
         return Valued::Unvalued(r);
@@ -105,8 +75,8 @@ fn startable(image: &[u8], head: &[u8], procs: &[u8], vars: &[u8]) -> Loaded
     let Loaded::Accepted(rels, clauses) = l else {
         return l;
     };
-    if !table_rules::full_size(head, procs, vars, PROCS, VARS) {
-        return Loaded::Refused(refusal(8));
+    if !table_rules::full_size(head, procs, vars, entry::PROCS, entry::VARS) {
+        return Loaded::Refused(entry::refusal(8));
     }
     l
 }
@@ -209,10 +179,10 @@ fn given(t: Term, constant: u32) -> Supplied
     let large = 32767 < constant;
     let known = is_const(t);
     if large {
-        return Supplied::Ungiven(refusal(14));
+        return Supplied::Ungiven(entry::refusal(14));
     }
     if known {
-        return Supplied::Ungiven(refusal(13));
+        return Supplied::Ungiven(entry::refusal(13));
     }
     Supplied::Given(number_of(t))
 }
@@ -232,7 +202,7 @@ fn asked(
 {
     let goal = program_clause::goal_vars(image, rels, clauses);
     if goal <= (variable as usize) {
-        return Supplied::Ungiven(refusal(12));
+        return Supplied::Ungiven(entry::refusal(12));
     }
     let n = head::var_count(head);
     let t = unify::value_of(vars, n, Term::Var(variable));
@@ -250,7 +220,7 @@ fn decided(
 ) -> Supplied
     ensures { λ r. ⌜ DecidedSays small (now (image .entry)) (lent (now (head .entry)) (now (procs .entry)) (now (vars .entry))) variable value r ⌝ }
 {
-    let e = enter(image, head, procs, vars);
+    let e = entry::enter(image, head, procs, vars);
     let Loaded::Accepted(rels, clauses) = e else {
         let r = load::refusal(e);
         return Supplied::Ungiven(r);

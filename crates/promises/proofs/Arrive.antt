@@ -4,7 +4,7 @@ use mathlib.Core.List.{List}
 use Prim.Native.Nat.{_*_, _≤_, ℕ}
 use lib.ListN.{length, length-replicate}
 use native.Mathlib.Omega.{arith}
-use Rattle.machine.proofs.Held.{put-over}
+use Rattle.entry.proofs.Held.{put-over}
 use Rattle.parlog.proofs.Repeated.{run-reached}
 use Rattle.parlog.specs.Demands.{at-start, by-number, by-supply, Reached}
 use Rattle.parlog.specs.Limits.{Limits, Usable}

@@ -7,7 +7,7 @@ use Prim.Native.Nat.{_<_, _≤_, ℕ}
 use lib.Dec.{ltb}
 use borrow.Author.Tests.{ltb-false, ltb-true}
 use native.Mathlib.Omega.{arith}
-use Rattle.machine.proofs.Held.{count-procs, same-lent, tables-state}
+use Rattle.entry.proofs.Held.{count-procs, same-lent, tables-state}
 use Rattle.parlog.proofs.Bools.{split}
 use Rattle.parlog.proofs.Stable.{can-here}
 use Rattle.parlog.proofs.Steps.{turn-is}

@@ -7,7 +7,7 @@ use Prim.Native.Nat.{_*_, _<_, _≤_, ℕ}
 use lib.ListN.{getD, length}
 use native.Mathlib.Omega.{arith}
 use Rattle.load.proofs.Sanity.{accepted-sane}
-use Rattle.machine.proofs.Held.{count-procs, same-lent, started-good, started-read, tables-state}
+use Rattle.entry.proofs.Held.{count-procs, same-lent, started-good, started-read, tables-state}
 use Rattle.parlog.proofs.Exact.{at-most-one}
 use Rattle.parlog.proofs.Kept.{step-keeps, supply-keeps}
 use Rattle.parlog.proofs.Rows.{rows-length, written-past}

@@ -7,7 +7,7 @@ use mathlib.Core.List.{[], _++_, _∷_, List}
 use Prim.Native.Nat.{_<_, _≤_, suc, zero, ℕ}
 use lib.ListN.{replicate}
 use native.Mathlib.Omega.{arith}
-use Rattle.machine.proofs.Held.{count-procs, same-lent, tables-state}
+use Rattle.entry.proofs.Held.{count-procs, same-lent, tables-state}
 use Rattle.parlog.proofs.Able.{wakes-exactly}
 use Rattle.parlog.proofs.Bools.{not-so}
 use Rattle.parlog.proofs.Fair.{served-kept}

@@ -4,7 +4,7 @@ use mathlib.Core.Bool.{Bool, false, true}
 use mathlib.Core.List.{List}
 use Prim.Native.Nat.{_≤_, ℕ}
 use native.Mathlib.Omega.{arith}
-use Rattle.machine.proofs.Held.{put-good, put-read}
+use Rattle.entry.proofs.Held.{put-good, put-read}
 use Rattle.parlog.specs.Calls.{enter, enterBy, entered, enterLoaded, Entry, runCall, runEntry, stepAnswer, stepCall, supplyAnswer, supplyCall, turnCall, turned-away, valueAnswer, valueCall}
 use Rattle.parlog.specs.Limits.{Limits}
 use Rattle.parlog.specs.Load.{loadOf, refusal}

@@ -9,7 +9,7 @@ use lib.Dec.{eqb, leb}
 use lib.ListN.{length}
 use borrow.Author.Tests.{eqb-false, eqb-true, le-leb, leb-true}
 use native.Mathlib.Omega.{arith}
-use Rattle.machine.proofs.Held.{tables-state}
+use Rattle.entry.proofs.Held.{tables-state}
 use Rattle.parlog.proofs.Assume.{assume-counts}
 use Rattle.parlog.proofs.Bools.{and-true, never, not-so, or-false, split, true-and}
 use Rattle.parlog.proofs.Coded.{code-mode}
@@ -18,7 +18,7 @@ use Rattle.parlog.proofs.Fine.{below-child, child-back, child-forth, Fine, fine
 use Rattle.parlog.proofs.Kept.{turn-keeps}
 use Rattle.parlog.proofs.Kin.{heard-bad, heard-good, hears-bad, hears-good, Kin}
 use Rattle.parlog.proofs.Repeated.{runs}
-use Rattle.parlog.proofs.Sane.{Sane}
+use Rattle.parlog.specs.Sane.{Sane}
 use Rattle.parlog.proofs.Shape.{isAwake, shape}
 use Rattle.parlog.proofs.Stable.{can-awake, can-here, reporter-zero, rule-can, supply-grows}
 use Rattle.parlog.proofs.Steps.{steady-kept, step-made, turn-made}

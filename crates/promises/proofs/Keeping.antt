@@ -5,10 +5,10 @@ use mathlib.Core.Bool.{true}
 use mathlib.Core.List.{List}
 use Prim.Native.Nat.{ℕ}
 use native.Mathlib.Omega.{arith}
-use Rattle.machine.proofs.Held.{cells-fit, put-over, rows-fit, same-lent}
+use Rattle.entry.proofs.Held.{cells-fit, put-over, rows-fit, same-lent}
 use Rattle.parlog.proofs.Kept.{run-keeps, step-keeps, supply-keeps}
 use Rattle.parlog.proofs.Repeated.{runs}
-use Rattle.parlog.proofs.Sane.{Sane}
+use Rattle.parlog.specs.Sane.{Sane}
 use Rattle.parlog.proofs.Stable.{supply-grows}
 use Rattle.parlog.proofs.Steps.{steady-kept, turn-made}
 use Rattle.parlog.specs.Calls.{stepAnswer, supplyAnswer}

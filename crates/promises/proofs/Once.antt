@@ -2,7 +2,7 @@
 use mathlib.Core.Path.{_∙_, _≡_, ap, sym}
 use mathlib.Core.List.{List}
 use Prim.Native.Nat.{ℕ}
-use Rattle.machine.proofs.Held.{same-lent}
+use Rattle.entry.proofs.Held.{same-lent}
 use Rattle.parlog.specs.Limits.{Limits}
 use Rattle.parlog.specs.Tables.{Lent}
 use Rattle.parlog.specs.declared.Found.{Found}

@@ -3,7 +3,7 @@ use mathlib.Core.Path.{_≡_}
 use mathlib.Core.Bool.{true}
 use mathlib.Core.List.{List}
 use Prim.Native.Nat.{ℕ}
-use Rattle.machine.proofs.Held.{tables-state}
+use Rattle.entry.proofs.Held.{tables-state}
 use Rattle.parlog.proofs.Equates.{plans-alike, steps-alike}
 use Rattle.parlog.specs.Limits.{Limits}
 use Rattle.parlog.specs.Orders.{AllAsk, EndAlike, Reordered}

@@ -10,15 +10,15 @@ use lib.ListN.{length}
 use borrow.Author.Tests.{eqb-false, eqb-true}
 use native.Mathlib.Omega.{arith}
 use Rattle.load.proofs.Accepted.{accepted}
-use Rattle.machine.proofs.Entering.{lent-inside}
-use Rattle.machine.proofs.Held.{cells-fit, put-over, rows-fit, same-lent, tables-state}
+use Rattle.entry.proofs.Entering.{lent-inside}
+use Rattle.entry.proofs.Held.{cells-fit, put-over, rows-fit, same-lent, tables-state}
 use Rattle.parlog.proofs.Assume.{assume-counts}
 use Rattle.parlog.proofs.Bools.{and-true, never, not-so, split}
 use Rattle.parlog.proofs.Effects.{apply-count, apply-vars}
 use Rattle.parlog.proofs.Kept.{turn-keeps}
 use Rattle.parlog.proofs.Repeated.{runs}
 use Rattle.parlog.proofs.RowRules.{row-facts}
-use Rattle.parlog.proofs.Sane.{Sane}
+use Rattle.parlog.specs.Sane.{Sane}
 use Rattle.parlog.proofs.Scans.{every-at}
 use Rattle.parlog.proofs.Steps.{step-made, turn-is, turn-made}
 use Rattle.parlog.specs.Codes.{dormant, failure, isMode, isResult, none, reporting, resultCode, resultOf, success}

@@ -5,7 +5,7 @@ use Prim.Native.Nat.{_<_, _≤_, ℕ}
 use lib.Dec.{ltb}
 use borrow.Author.Tests.{le-ltb, lt-ltb, ltb-false, ltb-true}
 use native.Mathlib.Omega.{arith}
-use Rattle.machine.proofs.Held.{tables-state}
+use Rattle.entry.proofs.Held.{tables-state}
 use Rattle.parlog.proofs.Bools.{and-true, never, split, true-and}
 use Rattle.parlog.proofs.Exact.{exactly-makes, exactly-room, exactly-still, makes-exactly, room-exactly, still-exactly}
 use Rattle.parlog.proofs.Scans.{lowest-at, lowest-none}

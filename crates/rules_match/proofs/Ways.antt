@@ -14,9 +14,12 @@ use Rattle.decide.proofs.Told.{shifted-four}
 use Rattle.decide.specs.Decision.{changesOf, decidedOf, Decides, deedOf, notesOf, Shifted, toBind, toNote}
 use Rattle.decide.specs.declared.Decision.{Decision}
 use Rattle.decide.specs.declared.Deed.the-variants.{Binds, Fails, Suspends}
+use Rattle.move_plan.specs.Plans.{Within}
+use Rattle.move_plan.specs.declared.Changes.{Changes}
+use Rattle.move_plan.specs.declared.Plan.{Plan}
 use Rattle.parlog.proofs.Bools.{split}
 use Rattle.parlog.specs.Codes.{failure, success}
-use Rattle.parlog.specs.Delta.{Delta, only, report, reporting-with, withNotes, woken}
+use Rattle.parlog.specs.Delta.{only, report, reporting-with, withNotes, woken}
 use Rattle.parlog.specs.Program.{callModes, clauseAt, literalAt, modesAt, outCount, Program}
 use Rattle.parlog.specs.Rules.{Applied, by-rule, equateAt, equateStart, inputMatchStart, matchAt, no-rule, wakeRule}
 use Rattle.parlog.specs.Tables.{noted, State}
@@ -30,27 +33,14 @@ use Rattle.parlog.specs.declared.Process.{Process}
 use Rattle.parlog.specs.declared.Spot.{Spot}
 use Rattle.parlog.specs.declared.Term.{Term}
 use Rattle.parlog.specs.declared.Term.the-variants.{Const, Var}
-use Rattle.move_plan.proofs.Plans.{applied-delta, delta-fresh}
-use Rattle.move_plan.specs.Plans as plans
-use Rattle.move_plan.specs.Plans.{appliedOf, deltaOf, Within}
-use Rattle.move_plan.specs.declared.Changes.{Changes}
-use Rattle.move_plan.specs.declared.Plan.{Plan}
 use Rattle.program_goal.specs.Parts.{shown}
 use Rattle.program_goal.specs.declared.Lit.{Lit}
 use Rattle.rules_match.proofs.Lists.{four-take, least-left, least-right, match-cut, outs-take}
 use Rattle.rules_match.specs.Starts.{EquateThere, inFour, least, MatchThere, startBy}
 use Rattle.unify.specs.Pending.{noChange, top, Writable}
+use Rattle.move_plan.specs.Plans as plans
 
 -- ---- plans
-
--- a plan that acts makes as many variables as its rule
-pub acts-fresh : (pl : Plan) {mv : Move} {d : Delta} → appliedOf pl ≡ by-rule mv d → pl .fresh ≡ d .fresh
-acts-fresh pl e = sym (delta-fresh pl) ∙ ap (λ (d : Delta). d .fresh) (applied-delta pl e)
-
--- no rule applies where a plan does not act
-pub rests : (pl : Plan) → appliedOf pl ≡ no-rule → pl .acts ≡ false
-unfolding appliedOf deltaOf
-rests pl e = split (pl .acts) (λ q. absurd (let z : by-rule (pl .mv) (deltaOf pl) ≡ no-rule = rw q at e in let y : _≡_ {A = ℕ} 0 1 = cc in omega arith)) (λ q. q)
 
 -- nothing is bound within any count
 pub within-none : (m : ℕ) (r : Plan) → r .changes .count ≡ 0 → Within m (r .changes .count) (r .changes .list)

@@ -15,7 +15,7 @@ ghost use lib.Dec.{eqb};
 ghost use lib.ListN.{getD, length};
 ghost use Rattle.parlog.specs.declared.Term.the-variants.{Const, Var};
 ghost use Rattle.parlog.specs.Program.{clauseAt, modesAt, programOf};
-ghost use Rattle.parlog.specs.Rules.{equateAt, equateStart, inputMatchStart, matchAt, no-rule, wakeRule};
+ghost use Rattle.parlog.specs.Rules.{equateAt, equateStart, inputMatchStart, matchAt, wakeRule};
 ghost use Rattle.parlog.specs.Tables.{cellSize, noted, rowSize, varsIn};
 ghost use Rattle.parlog.specs.Unify.{someBound};
 ghost use Rattle.unify.specs.Pending.{noChange, Writable};
@@ -63,7 +63,7 @@ fn start_by(
     x: Process,
 ) -> Plan
     requires { ⌜ Decides (decidedOf d) d × Writable m (toBind d) ⌝ }
-    ensures { λ r. ⌜ (appliedOf r ≡ startBy fail suspend plain bind (decidedOf d) x) × (r .count ≤ newMost) × (r .fresh ≡ 0) × (r .changes .count ≤ 4) × Within m (r .changes .count) (r .changes .list) ⌝ }
+    ensures { λ r. ⌜ (appliedOf r ≡ startBy fail suspend plain bind (decidedOf d) x) × (r .count ≤ newMost) × (r .changes .count ≤ 4) × Within m (r .changes .count) (r .changes .list) ⌝ }
 {
     let deed = d.deed;
     match deed {
@@ -148,7 +148,7 @@ pub fn start_input_match(
     x: Process,
 ) -> Plan
     requires { ⌜ (rels ≤ 32) × (clauses ≤ 64) × (m * cellSize ≤ length (now vars)) × (m ≤ 65535) × MatchThere (programOf (now image) rels clauses) (varsIn (now vars) m) (x .spot) ⌝ }
-    ensures { λ r. ⌜ (appliedOf r ≡ inputMatchStart (matchAt (programOf (now (image .entry)) rels clauses) (varsIn (now (vars .entry)) m) (x .spot)) p x) × (r .count ≤ newMost) × (r .fresh ≡ 0) × (r .changes .count ≤ 4) × Within m (r .changes .count) (r .changes .list) ⌝ }
+    ensures { λ r. ⌜ (appliedOf r ≡ inputMatchStart (matchAt (programOf (now (image .entry)) rels clauses) (varsIn (now (vars .entry)) m) (x .spot)) p x) × (r .count ≤ newMost) × (r .changes .count ≤ 4) × Within m (r .changes .count) (r .changes .list) ⌝ }
 {
     let z = x.spot;
     let d = match_at(image, rels, clauses, vars, m, z);
@@ -202,7 +202,7 @@ pub fn start_equate(
     x: Process,
 ) -> Plan
     requires { ⌜ (rels ≤ 32) × (clauses ≤ 64) × (n * rowSize ≤ length (now procs)) × (m * cellSize ≤ length (now vars)) × (m ≤ 65535) × EquateThere (programOf (now image) rels clauses) (varsIn (now vars) m) (x .spot) ⌝ }
-    ensures { λ r. ⌜ (appliedOf r ≡ equateStart (equateAt (programOf (now (image .entry)) rels clauses) (stateIn (now (procs .entry)) n (now (vars .entry)) m) p (x .spot)) p x) × (r .count ≤ newMost) × (r .fresh ≡ 0) × (r .changes .count ≤ 4) × Within m (r .changes .count) (r .changes .list) ⌝ }
+    ensures { λ r. ⌜ (appliedOf r ≡ equateStart (equateAt (programOf (now (image .entry)) rels clauses) (stateIn (now (procs .entry)) n (now (vars .entry)) m) p (x .spot)) p x) × (r .count ≤ newMost) × (r .changes .count ≤ 4) × Within m (r .changes .count) (r .changes .list) ⌝ }
 {
     let z = x.spot;
     let d = equate_at(image, rels, clauses, procs, n, vars, m, p, z);
@@ -221,24 +221,15 @@ pub fn start_equate(
 
 // ---- wake
 
-// No rule, and no new variables either.
-fn still() -> Plan
-    ensures { λ r. ⌜ (appliedOf r ≡ no-rule) × (r .count ≤ newMost) × (r .fresh ≡ 0) × (r .changes .count ≡ 0) ⌝ }
-{
-    let mut r = move_plan::none();
-    r.fresh = 0;
-    r
-}
-
 // A suspended process starts again once a variable that it notes is bound.
 pub fn wake(vars: &[u8], m: usize, p: usize, x: Process) -> Plan
     requires { ⌜ (m * cellSize ≤ length (now vars)) × (x .count ≤ 4) ⌝ }
-    ensures { λ r. ⌜ (appliedOf r ≡ wakeRule (someBound (varsIn (now (vars .entry)) m) (noted x)) p x) × (r .count ≤ newMost) × (r .fresh ≡ 0) × (r .changes .count ≤ 4) × Within m (r .changes .count) (r .changes .list) ⌝ }
+    ensures { λ r. ⌜ (appliedOf r ≡ wakeRule (someBound (varsIn (now (vars .entry)) m) (noted x)) p x) × (r .count ≤ newMost) × (r .changes .count ≤ 4) × Within m (r .changes .count) (r .changes .list) ⌝ }
 {
     let notes = x.notes;
     let bound = unify::some_bound(vars, m, x.count as usize, notes);
     if !bound {
-        return still();
+        return move_plan::none();
     }
     let y = move_plan::woken(x);
     move_plan::only(Move::Wake(p), y)

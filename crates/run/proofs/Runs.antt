@@ -3,12 +3,12 @@ use mathlib.Core.Path.{_∙_, _≡_, ap, refl}
 use mathlib.Core.Logic.{_≢_}
 use mathlib.Core.Bool.{Bool, false, not, true}
 use mathlib.Core.List.{List}
-use Prim.Native.Nat.{_+_, _-_, _<_, _≤_, suc, zero, ℕ}
+use Prim.Native.Nat.{_+_, _-_, _<_, suc, zero, ℕ}
 use lib.Dec.{eqb}
 use native.Mathlib.Omega.{arith}
 use Rattle.head.proofs.Laws.{head-is}
-use Rattle.machine.proofs.Held.{count-procs, count-vars, put-over, same-lent}
-use Rattle.machine.specs.Entered.{Inside}
+use Rattle.entry.proofs.Held.{count-procs, count-vars, put-over, same-lent}
+use Rattle.entry.specs.Entered.{Inside}
 use Rattle.parlog.specs.Codes.{isLive, resultOf}
 use Rattle.parlog.specs.Limits.{Limits}
 use Rattle.parlog.specs.Program.{Program, programOf}
@@ -22,9 +22,7 @@ use Rattle.parlog.specs.declared.Ran.the-variants.{Ended}
 use Rattle.rows.proofs.Exact.{table-bytes}
 use Rattle.rows.proofs.Tables.{procs-length, table-same}
 use Rattle.rows.specs.Rows.{Bytes}
-use Rattle.run.specs.Running.{Going, Grown, RanSays, WentSays, WentTo}
-use Rattle.run.specs.declared.Went.{Went}
-use Rattle.run.specs.declared.Went.the-variants.{On, Over}
+use Rattle.run.specs.Running.{Going, Grown, RanSays}
 use Rattle.vars.proofs.Exact.{cells-bytes}
 use Rattle.vars.proofs.Tables.{cells-same, vars-length}
 
@@ -90,7 +88,7 @@ module _ {lim : Limits} {s : List ℕ} {r c : ℕ} (l₀ l l′ : Lent) (i₀ : 
       ∙ ap (λ (x : Lent). putTables x (tablesIn l′)) first
       ∙ put-over l₀ (tablesIn l) (tablesIn l′) (omega (arith, b .more-procs)) (omega (arith, b .more-vars)) (omega (arith, i₀ .procs-size, i′ .procs-most)) (omega (arith, i₀ .vars-size, i′ .vars-most))
 
-  grown-then : Grown l₀ l′
+  pub grown-then : Grown l₀ l′
   grown-then = record {
     head = ap (λ (x : Lent). x .head) over;
     procs = ap (λ (x : Lent). x .procs) over;
@@ -115,7 +113,7 @@ grown-same l i hs ps vs = record { head = head-same; procs = procs-same; vars = 
 -- ---- the loop
 
 -- k less than the limit
-one-less : (limit k : ℕ) → k < limit → limit - k ≡ suc (limit - (k + 1))
+pub one-less : (limit k : ℕ) → k < limit → limit - k ≡ suc (limit - (k + 1))
 one-less limit k h = omega arith
 
 module _ (lim : Limits) (s : List ℕ) (r c : ℕ) (l₀ : Lent) (limit : ℕ) where
@@ -124,22 +122,7 @@ module _ (lim : Limits) (s : List ℕ) (r c : ℕ) (l₀ : Lent) (limit : ℕ) w
 
   module _ (i₀ : Inside lim s r c l₀) (l : Lent) (k : ℕ) (g : Going lim s r c l₀ l limit k) where
     -- the run comes to this
-    comes-to : (e : End) → runFrom (limit - k) lim (programOf s r c) k (tablesIn l) ≡ halt e k (tablesIn l) → RanSays lim s r c l₀ limit (Ended e k) l
+    pub comes-to : (e : End) → runFrom (limit - k) lim (programOf s r c) k (tablesIn l) ≡ halt e k (tablesIn l) → RanSays lim s r c l₀ limit (Ended e k) l
     comes-to e q =
         let z : runTables limit lim (programOf s r c) (tablesIn l₀) ≡ halt e k (tablesIn l) = unfold runTables in (g .rest ∙ q) in
         record { answer = rw z; head = rw z (g .holds .head); procs = rw z (g .holds .procs); vars = rw z (g .holds .vars) }
-
-    pub going-on : k < limit → {w : Went} (l′ : Lent) → WentSays lim s r c l w l′ → w ≡ On → Going lim s r c l₀ l′ limit (k + 1)
-    going-on h l′ d e = let f : WentTo On lim (programOf s r c) l l′ = rw e at (d .went) in record {
-      inside = d .inside;
-      most = omega arith;
-      rest = g .rest ∙ ap (λ (x : ℕ). runFrom x lim (programOf s r c) k (tablesIn l)) (one-less limit k h) ∙ f .0 (limit - (k + 1)) k ∙ ap (λ (x : ℕ). runFrom (limit - (k + 1)) lim (programOf s r c) x (tablesIn l′)) (omega arith);
-      holds = grown-then l₀ l l′ i₀ (g .inside) (d .inside) (g .holds) (f .1);
-    }
-
-    pub going-over : k < limit → {w : Went} (l′ : Lent) → WentSays lim s r c l w l′ → {e : End} → w ≡ Over e → RanSays lim s r c l₀ limit (Ended e k) l′
-    going-over h l′ d {e} q = let f : WentTo (Over e) lim (programOf s r c) l l′ = rw q at (d .went) in
-        rw (f .1) (comes-to e (ap (λ (x : ℕ). runFrom x lim (programOf s r c) k (tablesIn l)) (one-less limit k h) ∙ f .0 (limit - (k + 1)) k))
-
-    pub going-spent : limit ≤ k → {e : End} → ((n : ℕ) → runFrom 0 lim (programOf s r c) n (tablesIn l) ≡ halt e n (tablesIn l)) → RanSays lim s r c l₀ limit (Ended e k) l
-    going-spent h {e} q = comes-to e (ap (λ (x : ℕ). runFrom x lim (programOf s r c) k (tablesIn l)) (let m = g .most in omega arith) ∙ q k)

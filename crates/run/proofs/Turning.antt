@@ -1,23 +1,24 @@
 -- The ways through a turn, and through one turn of a run.
 use mathlib.Core.Path.{_∙_, _≡_, ap, refl, sym}
-use mathlib.Core.Bool.{Bool, cond, false, not, true}
+use mathlib.Core.Bool.{Bool, false, true}
 use mathlib.Core.List.{[], List}
-use Prim.Native.Nat.{_<_, suc, ℕ}
+use Prim.Native.Nat.{_+_, _-_, _<_, suc, ℕ}
 use lib.Dec.{eqb}
 use borrow.Author.Tests.{eq-eqb, ne-eqb}
 use native.Mathlib.Omega.{arith}
 use Rattle.children.specs.Telling.{Tells}
+use Rattle.children.specs.declared.Told.{Told}
 use Rattle.load.specs.Fields.{refusalOf}
-use Rattle.machine.specs.Entered.{EnterSays, Inside}
+use Rattle.entry.specs.Entered.{EnterSays, Inside}
 use Rattle.move_plan.specs.Plans.{stateIn}
 use Rattle.parlog.proofs.Repeated.{turn-can}
-use Rattle.parlog.proofs.Steps.{it-has-no-room, it-steps, Tried, tried, turn-is}
+use Rattle.parlog.proofs.Steps.{turn-is}
 use Rattle.parlog.specs.Calls.{entered, runCall, runEntry, stepAnswer, turnCall}
-use Rattle.parlog.specs.Codes.{isLive, resultOf}
+use Rattle.parlog.specs.Codes.{resultOf}
 use Rattle.parlog.specs.Limits.{Limits}
 use Rattle.parlog.specs.Load.{refusal}
 use Rattle.parlog.specs.Program.{Program, programOf}
-use Rattle.parlog.specs.Run.{canMove, endOf, goalEnded, goalResult, halt, made, runFrom, Running, Stepping, stepTables, turnFor, turnOf, turnTables, turnTo, unmade}
+use Rattle.parlog.specs.Run.{canMove, endOf, goalEnded, goalResult, halt, made, runFrom, Stepping, stepTables, turnFor, turnOf, turnTables, turnTo, unmade}
 use Rattle.parlog.specs.Tables.{at, Lent, lent, markerLast, procCount, procsOf, putTables, Tables, tablesIn, varCount}
 use Rattle.parlog.specs.declared.End.{End}
 use Rattle.parlog.specs.declared.End.the-variants.{Budget, Room, Waiting}
@@ -25,18 +26,18 @@ use Rattle.parlog.specs.declared.Found.{Found}
 use Rattle.parlog.specs.declared.Found.the-variants.{At, Nothing}
 use Rattle.parlog.specs.declared.Loaded.{Loaded}
 use Rattle.parlog.specs.declared.Loaded.the-variants.{Accepted, Refused}
+use Rattle.parlog.specs.declared.Move.{Move}
 use Rattle.parlog.specs.declared.Ran.{Ran}
-use Rattle.parlog.specs.declared.Ran.the-variants.{Unrun}
+use Rattle.parlog.specs.declared.Ran.the-variants.{Ended, Unrun}
 use Rattle.parlog.specs.declared.Refusal.{Refusal}
 use Rattle.parlog.specs.declared.Stepped.{Stepped}
-use Rattle.parlog.specs.declared.Stepped.the-variants.{Unmoved}
+use Rattle.parlog.specs.declared.Stepped.the-variants.{Moved, Unmoved}
 use Rattle.rows.proofs.Tables.{procs-length}
-use Rattle.run.proofs.Runs.{run-ended, run-goes, run-room, run-spent, run-waits, sleeps}
-use Rattle.run.specs.Running.{goalIn, goalWent, RanSays, RunSays, StopSays, TurnedIn, Turning, TurnSays, wentBy, WentSays, WentTo, WhoseSays}
-use Rattle.run.specs.declared.Went.{Went}
-use Rattle.run.specs.declared.Went.the-variants.{On, Over}
+use Rattle.run.proofs.Runs.{comes-to, grown-then, one-less, run-ended, run-goes, run-room, run-spent, run-waits, sleeps}
+use Rattle.run.specs.Running.{Going, LookSays, RanSays, RunSays, TurnedIn, Turning, TurnSays, WhoseSays}
+use Rattle.run.specs.declared.View.{View}
 use Rattle.step.proofs.Deciding.{parents-fall}
-use Rattle.step.specs.Stepping.{SteppedSays}
+use Rattle.step.specs.Stepping.{stepIn, SteppedSays, tablesAfter}
 use Rattle.turn_search.specs.declared.Turn.{Turn}
 
 -- ---- whose turn it is
@@ -59,15 +60,15 @@ module _ (lim : Limits) (s : List ℕ) (r c : ℕ) (l : Lent) {f : Found} (whose
   abbrev pr : Program
   pr = programOf s r c
 
-  pub turn-none : Inside lim s r c l → f ≡ Nothing → {x : Refusal} → x ≡ refusal 10 0 → TurnedIn lim s r c l (Unmoved x) (l .head) (l .procs) (l .vars)
-  turn-none i e ex =
+  pub turn-none : f ≡ Nothing → {x : Refusal} → x ≡ refusal 10 0 → TurnedIn lim s r c l (Unmoved x) (l .head) (l .procs) (l .vars)
+  turn-none e ex =
       let z : turnTables lim pr (tablesIn l) ≡ unmade 10 = unfold turnTables turnTo in rw (sym (whose pr) ∙ e) in
-      record { answer = rw (z, ex); head = rw z; procs = rw z; vars = rw z; inside = i; tables = rw z; more-procs = omega arith; more-vars = omega arith }
+      record { answer = rw (z, ex); head = rw z; procs = rw z; vars = rw z }
 
   pub turn-some : {p : ℕ} → f ≡ At p → {a : Stepped} {h ps vs : List ℕ} → SteppedSays lim s r c l p a h ps vs → TurnedIn lim s r c l a h ps vs
   turn-some {p} e d =
       let z : turnTables lim pr (tablesIn l) ≡ stepTables lim pr (tablesIn l) p = turn-is lim pr (tablesIn l) p (sym (whose pr) ∙ e) in
-      record { answer = rw z (d .answer); head = rw z (d .head); procs = rw z (d .procs); vars = rw z (d .vars); inside = d .inside; tables = rw z (d .tables); more-procs = d .more-procs; more-vars = d .more-vars }
+      record { answer = rw z (d .answer); head = rw z (d .head); procs = rw z (d .procs); vars = rw z (d .vars) }
 
 module _ (lim : Limits) (s : List ℕ) (l : Lent) {a : Loaded} (says : EnterSays lim s l a) where
   pub turn-refused : {f x : Refusal} → a ≡ Refused f → x ≡ refusalOf a → TurnSays lim s l (Unmoved x) (l .head) (l .procs) (l .vars)
@@ -90,85 +91,100 @@ module _ (lim : Limits) (s : List ℕ) (l : Lent) {a : Loaded} (says : EnterSays
       let z : runCall lim s l limit ≡ runEntry (entered (programOf s r c) (tablesIn l)) lim l limit = unfold runCall in rw (says .entry, e) in
       record { answer = rw z (d .answer); head = rw z (d .head); procs = rw z (d .procs); vars = rw z (d .vars) }
 
--- ---- the goal
+-- ---- the tests before a step
 
-module _ (h p : List ℕ) {n x : ℕ} (en : n ≡ procCount h) (ex : x ≡ at (procsOf p n) 0 .mode) where
-  mode-is : not (isLive (at (procsOf p (procCount h)) 0 .mode)) ≡ eqb x 0
+module _ (l : Lent) {n x : ℕ} (en : n ≡ procCount (l .head)) (ex : x ≡ at (procsOf (l .procs) n) 0 .mode) where
+  mode-is : goalEnded (tablesIn l) ≡ eqb x 0
+  unfolding tablesIn
   mode-is = rw (← en) (sym (sleeps ex))
 
-  pub goal-awake : (x ≡ 0 → ⊥) → On ≡ goalIn h p
-  goal-awake ne = rw (mode-is ∙ ne-eqb x 0 ne)
+  pub look-ended : x ≡ 0 → {y : ℕ} → y ≡ at (procsOf (l .procs) n) 0 .result → {e : End} → e ≡ endOf (resultOf y) → {t : Told} → LookSays l (record { who = Nothing; told = t; end = e })
+  look-ended q {y} ey {e} ee = record { who = λ pr. rw z; end = rw z told; told = λ p h. let w : _≡_ {A = ℕ} 0 1 = cc in absurd (omega arith) }
+    where
+      z : goalEnded (tablesIn l) ≡ true
+      z = mode-is ∙ eq-eqb x 0 q
 
-  pub goal-asleep : x ≡ 0 → {y : ℕ} → y ≡ at (procsOf p n) 0 .result → {e : End} → e ≡ endOf (resultOf y) → Over e ≡ goalIn h p
-  goal-asleep q ey ee = rw (mode-is ∙ eq-eqb x 0 q) (rw (← en, ee, ey))
+      told : e ≡ goalResult (tablesIn l)
+      told = unfold tablesIn in (rw (← en) (ee ∙ ap (λ (i : ℕ). endOf (resultOf i)) ey))
 
-over-is : (b : Bool) (r : End) {e : End} → goalWent b r ≡ Over e → (b ≡ true) × (r ≡ e)
-over-is true r q = (refl, cc)
-over-is false r q = let z : _≡_ {A = ℕ} 0 1 = cc in absurd (omega arith)
+  pub look-goes : (x ≡ 0 → ⊥) → {t : Turn} → WhoseSays l t → LookSays l (record { who = t .who; told = t .told; end = Waiting })
+  look-goes ne d =
+      let z : goalEnded (tablesIn l) ≡ false = mode-is ∙ ne-eqb x 0 ne in
+      record { who = λ pr. rw z (d .who pr); end = rw z; told = d .told }
 
-on-is : (b : Bool) (r : End) → goalWent b r ≡ On → b ≡ false
-on-is true r q = let z : _≡_ {A = ℕ} 0 1 = cc in absurd (omega arith)
-on-is false r q = refl
+module _ (l : Lent) {w : View} (d : LookSays l w) where
+  -- nobody's turn: every run ends here
+  look-none : w .who ≡ Nothing → (lim : Limits) (pr : Program) (j n : ℕ) → runFrom j lim pr n (tablesIn l) ≡ halt (w .end) n (tablesIn l)
+  look-none q lim pr j n = go (goalEnded (tablesIn l)) refl
+    where
+      go : (b : Bool) → goalEnded (tablesIn l) ≡ b → runFrom j lim pr n (tablesIn l) ≡ halt (w .end) n (tablesIn l)
+      go true z =
+          let e : w .end ≡ goalResult (tablesIn l) = rw z at (d .end) in
+          rw e (run-ended lim pr (tablesIn l) j n z)
+      go false z =
+          let e : w .end ≡ Waiting = rw z at (d .end) in
+          let f : w .who ≡ turnFor pr (tablesIn l) = rw z at (d .who pr) in
+          rw e (run-waits lim pr (tablesIn l) z j n (sym f ∙ q))
 
--- ---- the answer of a turn in a run
+  -- somebody's: the goal has not ended
+  look-some : {p : ℕ} → w .who ≡ At p → (goalEnded (tablesIn l) ≡ false) × ((pr : Program) → turnFor pr (tablesIn l) ≡ At p)
+  look-some {p} q = go (goalEnded (tablesIn l)) refl
+    where
+      go : (b : Bool) → goalEnded (tablesIn l) ≡ b → (goalEnded (tablesIn l) ≡ false) × ((pr : Program) → turnFor pr (tablesIn l) ≡ At p)
+      go true z =
+          let f : w .who ≡ Nothing = rw z at (d .who (programOf [] 0 0)) in
+          let y : _≡_ {A = ℕ} 0 1 = cc in absurd (omega arith)
+      go false z = (z, λ pr. let f : w .who ≡ turnFor pr (tablesIn l) = rw z at (d .who pr) in sym f ∙ q)
 
--- what a turn comes to in a run, by whose turn it is
-abbrev after : Stepping → ℕ → Tables → (Tables → Running) → Running
-after (unmade k) n t go = halt (cond (eqb k 10) Waiting Room) n t
-after (made m t′) n t go = go t′
+  pub look-below : {p : ℕ} → w .who ≡ At p → p < procCount (l .head)
+  look-below {p} q = turn-below l (λ pr. sym (look-some q .1 pr)) refl
 
-run-turn : (lim : Limits) (pr : Program) (t : Tables) → goalEnded t ≡ false → (k n : ℕ) → runFrom (suc k) lim pr n t ≡ after (turnTables lim pr t) n t (λ t′. runFrom k lim pr (suc n) t′)
-run-turn lim pr t g k n = go (turnFor pr t) refl
-  where
-    some : (p : ℕ) → turnFor pr t ≡ At p → Tried lim pr t p → runFrom (suc k) lim pr n t ≡ after (turnTables lim pr t) n t (λ t′. runFrom k lim pr (suc n) t′)
-    some p q (it-steps u z f) = rw (turn-is lim pr t p q ∙ z) (run-goes lim pr t g q k n z)
-    some p q (it-has-no-room z) = rw (turn-is lim pr t p q ∙ z) (run-room lim pr t g q k n z)
+-- ---- the loop of a run
 
-    go : (f : Found) → turnFor pr t ≡ f → runFrom (suc k) lim pr n t ≡ after (turnTables lim pr t) n t (λ t′. runFrom k lim pr (suc n) t′)
-    go Nothing q = let z : turnTables lim pr t ≡ unmade 10 = unfold turnTables turnTo in rw q in rw z (run-waits lim pr t g (suc k) n q)
-    go (At p) q = let c = turn-can lim pr t p q in some p q (tried lim pr t p (c .0) (c .1))
+moved-is : (x : Stepping) (l : Lent) (t : Tables) {m : Move} → stepAnswer x l .answer ≡ Moved m → x ≡ made m (tablesAfter x t)
+moved-is (unmade k) l t e = let z : _≡_ {A = ℕ} 0 1 = cc in absurd (omega arith)
+moved-is (made m t′) l t e = cc
 
--- ---- one turn of a run
+unmoved-is : (x : Stepping) (l : Lent) {f : Refusal} → stepAnswer x l .answer ≡ Unmoved f → (k : ℕ) × (x ≡ unmade k)
+unmoved-is (unmade k) l e = (k, refl)
+unmoved-is (made m t′) l e = let z : _≡_ {A = ℕ} 0 1 = cc in absurd (omega arith)
 
-module _ (lim : Limits) (l : Lent) {g : Went} (is : g ≡ goalIn (l .head) (l .procs)) where
-  module _ {e : End} (q : g ≡ Over e) where
-    ended : (goalEnded (tablesIn l) ≡ true) × (goalResult (tablesIn l) ≡ e)
-    unfolding tablesIn
-    ended = over-is (goalEnded (tablesIn l)) (goalResult (tablesIn l)) (sym is ∙ q)
+module _ (lim : Limits) (s : List ℕ) (r c : ℕ) (l₀ : Lent) (limit : ℕ) (i₀ : Inside lim s r c l₀) (l : Lent) (k : ℕ) (g : Going lim s r c l₀ l limit k) {w : View} (d : LookSays l w) where
+  abbrev prog : Program
+  prog = programOf s r c
 
-    over : (pr : Program) (k n : ℕ) → runFrom k lim pr n (tablesIn l) ≡ halt e n (tablesIn l)
-    over pr k n = rw (← (ended .1)) (run-ended lim pr (tablesIn l) k n (ended .0))
+  pub going-none : w .who ≡ Nothing → RanSays lim s r c l₀ limit (Ended (w .end) k) l
+  going-none q = comes-to lim s r c l₀ limit i₀ l k g (w .end) (look-none l d q lim prog (limit - k) k)
 
-    pub stop-ended : StopSays lim l e
-    stop-ended pr n = over pr 0 n
+  module _ {p : ℕ} (q : w .who ≡ At p) where
+    pub going-spent : k ≡ limit → RanSays lim s r c l₀ limit (Ended Budget k) l
+    going-spent e = comes-to lim s r c l₀ limit i₀ l k g Budget (ap (λ (x : ℕ). runFrom x lim prog k (tablesIn l)) (omega arith) ∙ run-spent lim prog (tablesIn l) (look-some l d q .0) (look-some l d q .1 prog) k)
 
-    pub went-ended : (s : List ℕ) (r c : ℕ) → Inside lim s r c l → WentSays lim s r c l g l
-    went-ended s r c i = record { inside = i; went = rw q ((λ k n. over (programOf s r c) (suc k) n), refl) }
+    module _ (ne : k ≡ limit → ⊥) {a : Stepped} {h ps vs : List ℕ} (x : SteppedSays lim s r c l p a h ps vs) where
+      below : k < limit
+      below = let m = g .most in let u = ne in omega (arith, m, u)
 
-  module _ (q : g ≡ On) where
-    awake : goalEnded (tablesIn l) ≡ false
-    unfolding tablesIn
-    awake = on-is (goalEnded (tablesIn l)) (goalResult (tablesIn l)) (sym is ∙ q)
+      next : runFrom (limit - k) lim prog k (tablesIn l) ≡ runFrom (suc (limit - (k + 1))) lim prog k (tablesIn l)
+      next = ap (λ (j : ℕ). runFrom j lim prog k (tablesIn l)) (one-less limit k below)
 
-    module _ {f : Found} (whose : (pr : Program) → f ≡ turnFor pr (tablesIn l)) where
-      pub stop-waits : f ≡ Nothing → StopSays lim l Waiting
-      stop-waits e pr k = run-waits lim pr (tablesIn l) awake 0 k (sym (whose pr) ∙ e)
+      pub going-room : {f : Refusal} → a ≡ Unmoved f → RanSays lim s r c l₀ limit (Ended Room k) (lent h ps vs)
+      going-room e =
+          let (j, y) = unmoved-is (stepIn lim s r c l p) l (sym (x .answer) ∙ e) in
+          let eh : h ≡ l .head = rw y at (x .head) in
+          let ep : ps ≡ l .procs = rw y at (x .procs) in
+          let ev : vs ≡ l .vars = rw y at (x .vars) in
+          rw (eh, ep, ev) (comes-to lim s r c l₀ limit i₀ l k g Room (next ∙ run-room lim prog (tablesIn l) (look-some l d q .0) (look-some l d q .1 prog) (limit - (k + 1)) k y))
 
-      pub stop-spent : {p : ℕ} → f ≡ At p → StopSays lim l Budget
-      stop-spent e pr k = run-spent lim pr (tablesIn l) awake (sym (whose pr) ∙ e) k
-
-    pub went-turned : (s : List ℕ) (r c : ℕ) {a : Stepped} {h p v : List ℕ} → TurnedIn lim s r c l a h p v → {w : Went} → w ≡ wentBy a → WentSays lim s r c l w (lent h p v)
-    went-turned s r c {a} {h} {p} {v} d ew = record { inside = d .inside; went = rw (ew ∙ ap wentBy (d .answer)) (by (turnTables lim (programOf s r c) (tablesIn l)) refl) }
-      where
-        by : (x : Stepping) → turnTables lim (programOf s r c) (tablesIn l) ≡ x → WentTo (wentBy (stepAnswer x l .answer)) lim (programOf s r c) l (lent h p v)
-        by (unmade j) z =
-            let u : h ≡ l .head = rw z at (d .head) in
-            let y : p ≡ l .procs = rw z at (d .procs) in
-            let w : v ≡ l .vars = rw z at (d .vars) in
-            ((λ k n. run-turn lim (programOf s r c) (tablesIn l) awake k n ∙ rw z), rw (u, y, w))
-        by (made m t) z =
-            let t-is : tablesIn (lent h p v) ≡ t = rw z at (d .tables) in
-            let u : h ≡ putTables l (tablesIn (lent h p v)) .head = rw t-is (rw z at (d .head)) in
-            let y : p ≡ putTables l (tablesIn (lent h p v)) .procs = rw t-is (rw z at (d .procs)) in
-            let w : v ≡ putTables l (tablesIn (lent h p v)) .vars = rw t-is (rw z at (d .vars)) in
-            ((λ k n. run-turn lim (programOf s r c) (tablesIn l) awake k n ∙ rw (z, t-is)), record { head = u; procs = y; vars = w; more-procs = d .more-procs; more-vars = d .more-vars })
+      pub going-on : {m : Move} → a ≡ Moved m → Going lim s r c l₀ (lent h ps vs) limit (k + 1)
+      going-on {m} e =
+          let z = moved-is (stepIn lim s r c l p) l (tablesIn l) (sym (x .answer) ∙ e) in
+          let y : stepIn lim s r c l p ≡ made m (tablesIn (lent h ps vs)) = rw (x .tables) z in
+          let eh : h ≡ putTables l (tablesIn (lent h ps vs)) .head = rw y at (x .head) in
+          let ep : ps ≡ putTables l (tablesIn (lent h ps vs)) .procs = rw y at (x .procs) in
+          let ev : vs ≡ putTables l (tablesIn (lent h ps vs)) .vars = rw y at (x .vars) in
+          record {
+            inside = x .inside;
+            most = omega (arith, below);
+            rest = g .rest ∙ next ∙ run-goes lim prog (tablesIn l) (look-some l d q .0) (look-some l d q .1 prog) (limit - (k + 1)) k y ∙ ap (λ (j : ℕ). runFrom (limit - (k + 1)) lim prog j (tablesIn (lent h ps vs))) (omega arith);
+            holds = grown-then l₀ l (lent h ps vs) i₀ (g .inside) (x .inside) (g .holds) (record { head = eh; procs = ep; vars = ev; more-procs = x .more-procs; more-vars = x .more-vars });
+          }

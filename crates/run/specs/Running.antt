@@ -1,28 +1,24 @@
 -- What a run promises: its answer, and each table afterwards, byte for byte; and what its parts do.
 use mathlib.Core.Path.{_≡_}
-use mathlib.Core.Bool.{Bool, cond, false, not, true}
+use mathlib.Core.Bool.{Bool, false, true}
 use mathlib.Core.List.{List}
-use Prim.Native.Nat.{_*_, _-_, _<_, _≤_, suc, ℕ}
-use lib.Dec.{eqb}
+use Prim.Native.Nat.{_*_, _-_, _<_, _≤_, ℕ}
 use lib.ListN.{length}
 use Rattle.children.specs.Telling.{Tells}
-use Rattle.machine.specs.Entered.{Inside}
+use Rattle.entry.specs.Entered.{Inside}
 use Rattle.parlog.specs.Calls.{runCall, stepAnswer, turnCall}
-use Rattle.parlog.specs.Codes.{isLive, resultOf}
 use Rattle.parlog.specs.Limits.{Limits}
 use Rattle.parlog.specs.Program.{Program, programOf}
-use Rattle.parlog.specs.Run.{endOf, halt, runFrom, runTables, turnFor, turnTables}
-use Rattle.parlog.specs.Tables.{at, cellSize, headSize, Lent, lent, markerLast, procCount, procsOf, putTables, rowSize, tablesIn, varCount}
+use Rattle.parlog.specs.Run.{goalEnded, goalResult, runFrom, runTables, turnFor, turnTables}
+use Rattle.parlog.specs.Tables.{cellSize, headSize, Lent, markerLast, procCount, procsOf, putTables, rowSize, tablesIn, varCount}
 use Rattle.parlog.specs.declared.End.{End}
-use Rattle.parlog.specs.declared.End.the-variants.{Room, Waiting}
-use Rattle.parlog.specs.declared.Found.the-variants.{At}
+use Rattle.parlog.specs.declared.End.the-variants.{Waiting}
+use Rattle.parlog.specs.declared.Found.{Found}
+use Rattle.parlog.specs.declared.Found.the-variants.{At, Nothing}
 use Rattle.parlog.specs.declared.Ran.{Ran}
 use Rattle.parlog.specs.declared.Ran.the-variants.{Ended}
 use Rattle.parlog.specs.declared.Stepped.{Stepped}
-use Rattle.parlog.specs.declared.Stepped.the-variants.{Moved, Unmoved}
-use Rattle.run.specs.declared.Went.{Went}
-use Rattle.run.specs.declared.Went.the-variants.{On, Over}
-use Rattle.step.specs.Stepping.{tablesAfter}
+use Rattle.run.specs.declared.View.{View}
 use Rattle.tree.specs.Family.{Falls}
 use Rattle.turn_search.specs.declared.Turn.{Turn}
 
@@ -42,18 +38,30 @@ pub record WhoseSays (l : Lent) (t : Turn) : Type 0 where
   pub who : (pr : Program) → t .who ≡ turnFor pr (tablesIn l)
   pub told : (p : ℕ) → t .who ≡ At p → Tells (procsOf (l .procs) (procCount (l .head))) p (t .told)
 
--- Turns 2: the turn in tables that keep the rules; they keep them afterwards, and no count shrinks
+-- Turns 2: the turn in tables that keep the rules
 pub record TurnedIn (lim : Limits) (s : List ℕ) (r c : ℕ) (l : Lent) (a : Stepped) (h p v : List ℕ) : Type 0 where
   pub answer : a ≡ stepAnswer (turnTables lim (programOf s r c) (tablesIn l)) l .answer
   pub head : h ≡ stepAnswer (turnTables lim (programOf s r c) (tablesIn l)) l .lent .head
   pub procs : p ≡ stepAnswer (turnTables lim (programOf s r c) (tablesIn l)) l .lent .procs
   pub vars : v ≡ stepAnswer (turnTables lim (programOf s r c) (tablesIn l)) l .lent .vars
-  pub inside : Inside lim s r c (lent h p v)
-  pub tables : tablesIn (lent h p v) ≡ tablesAfter (turnTables lim (programOf s r c) (tablesIn l)) (tablesIn l)
-  pub more-procs : procCount (l .head) ≤ procCount h
-  pub more-vars : varCount (l .head) ≤ varCount h
 
--- ---- one turn of a run
+-- ---- the loop
+
+-- nobody's turn once the goal has ended
+abbrev pub unlessEnded : Bool → Found → Found
+unlessEnded true f = Nothing
+unlessEnded false f = f
+
+-- the end where it is nobody's turn
+abbrev pub stillEnd : Bool → End → End
+stillEnd true e = e
+stillEnd false e = Waiting
+
+-- Turns 7: the tests before a step, whatever the program
+pub record LookSays (l : Lent) (w : View) : Type 0 where
+  pub who : (pr : Program) → w .who ≡ unlessEnded (goalEnded (tablesIn l)) (turnFor pr (tablesIn l))
+  pub end : w .end ≡ stillEnd (goalEnded (tablesIn l)) (goalResult (tablesIn l))
+  pub told : (p : ℕ) → w .who ≡ At p → Tells (procsOf (l .procs) (procCount (l .head))) p (w .told)
 
 -- the bytes of one lend hold more of the same tables
 pub record Grown (l l′ : Lent) : Type 0 where
@@ -62,36 +70,6 @@ pub record Grown (l l′ : Lent) : Type 0 where
   pub vars : l′ .vars ≡ putTables l (tablesIn l′) .vars
   pub more-procs : procCount (l .head) ≤ procCount (l′ .head)
   pub more-vars : varCount (l .head) ≤ varCount (l′ .head)
-
--- Turns 7: the run is over where the goal has ended
-abbrev pub goalWent : Bool → End → Went
-goalWent true e = Over e
-goalWent false e = On
-
--- the same of the goal's process in these rows
-abbrev pub goalIn : List ℕ → List ℕ → Went
-goalIn h p = goalWent (not (isLive (at (procsOf p (procCount h)) 0 .mode))) (endOf (resultOf (at (procsOf p (procCount h)) 0 .result)))
-
--- Turns 7: what the answer of a turn is to a run: a move more; nothing can move; no room for it
-abbrev pub wentBy : Stepped → Went
-wentBy (Moved m) = On
-wentBy (Unmoved f) = Over (cond (eqb (f .number) 10) Waiting Room)
-
--- Turns 7: it ends here with nothing written, or the rest of the run begins where the step left the tables
-abbrev pub WentTo : Went → Limits → Program → Lent → Lent → Type 0
-WentTo (Over e) lim pr l l′ = ((k n : ℕ) → runFrom (suc k) lim pr n (tablesIn l) ≡ halt e n (tablesIn l)) × (l′ ≡ l)
-WentTo On lim pr l l′ = ((k n : ℕ) → runFrom (suc k) lim pr n (tablesIn l) ≡ runFrom k lim pr (suc n) (tablesIn l′)) × Grown l l′
-
--- one turn of a run that may make a move more
-pub record WentSays (lim : Limits) (s : List ℕ) (r c : ℕ) (l : Lent) (w : Went) (l′ : Lent) : Type 0 where
-  pub inside : Inside lim s r c l′
-  pub went : WentTo w lim (programOf s r c) l l′
-
--- Turns 7: the end of a run that may make no more moves
-abbrev pub StopSays : Limits → Lent → End → Type 0
-StopSays lim l e = (pr : Program) (n : ℕ) → runFrom 0 lim pr n (tablesIn l) ≡ halt e n (tablesIn l)
-
--- ---- the loop
 
 -- k moves of the run are made: what is left gives what the whole gives
 pub record Going (lim : Limits) (s : List ℕ) (r c : ℕ) (l₀ l : Lent) (limit k : ℕ) : Type 0 where

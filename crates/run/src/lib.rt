@@ -1,4 +1,5 @@
 // A turn, and a run of turns, over lent bytes.
+use children::Told;
 use parlog::End;
 use parlog::Found;
 use parlog::Loaded;
@@ -7,17 +8,19 @@ use parlog::Stepped;
 use parlog::codes;
 use turn_search::Turn;
 ghost use mathlib.Core.Path.{_≡_};
-ghost use Prim.Native.Nat.{_*_, _≤_};
-ghost use lib.ListN.{length};
-ghost use Rattle.machine.specs.Entered.{Inside};
+ghost use Prim.Native.Nat.{_≤_};
+ghost use Rattle.entry.specs.Entered.{Inside};
+ghost use Rattle.parlog.specs.Codes.{resultOf};
 ghost use Rattle.parlog.specs.Limits.{small};
-ghost use Rattle.parlog.specs.Tables.{headSize, lent, procCount, rowSize};
-ghost use Rattle.run.specs.Running.{goalIn, RanSays, RunSays, StopSays, Turning, TurnedIn, TurnSays, wentBy, WentSays, WhoseSays};
+ghost use Rattle.parlog.specs.Run.{endOf};
+ghost use Rattle.parlog.specs.Tables.{lent};
+ghost use Rattle.run.specs.Running.{LookSays, RanSays, RunSays, Turning, TurnedIn, TurnSays, WhoseSays};
 
-// How one turn of a run went: a move more, or the run's end.
-pub enum Went {
-    On,
-    Over(End),
+// What a run finds before a step: whose turn it is with what its children report, and the end where it is nobody's.
+pub struct View {
+    pub who: Found,
+    pub told: Told,
+    pub end: End,
 }
 
 // ---- a turn
@@ -48,7 +51,7 @@ fn turn_in(
     let t = whose(head, procs, vars);
     let f = t.who;
     let Found::At(p) = f else {
-        return Stepped::Unmoved(machine::refusal(10));
+        return Stepped::Unmoved(entry::refusal(10));
     };
     step::stepped(image, rels, clauses, head, procs, vars, p, t.told)
 }
@@ -57,7 +60,7 @@ fn turn_in(
 pub fn turn(image: &[u8], head: &mut [u8], procs: &mut [u8], vars: &mut [u8]) -> Stepped
     ensures { λ r. ⌜ TurnSays small (now (image .entry)) (lent (now (head .entry)) (now (procs .entry)) (now (vars .entry))) r (now (head .exit)) (now (procs .exit)) (now (vars .exit)) ⌝ }
 {
-    let e = machine::enter(image, head, procs, vars);
+    let e = entry::enter(image, head, procs, vars);
     let Loaded::Accepted(rels, clauses) = e else {
         let r = load::refusal(e);
         return Stepped::Unmoved(r);
@@ -67,75 +70,42 @@ pub fn turn(image: &[u8], head: &mut [u8], procs: &mut [u8], vars: &mut [u8]) ->
 
 // ---- a run
 
-// Whether the goal's process sleeps, and then the end that its result is.
-fn goal(head: &[u8], procs: &[u8]) -> Went
-    requires { ⌜ (headSize ≤ length (now head)) × (procCount (now head) * rowSize ≤ length (now procs)) ⌝ }
-    ensures { λ r. ⌜ r ≡ goalIn (now (head .entry)) (now (procs .entry)) ⌝ }
+// The end that a result is.
+fn end_by(result: u8) -> End
+    ensures { λ r. ⌜ r ≡ endOf (resultOf result) ⌝ }
+{
+    if result == codes::SUCCESS {
+        return End::Success;
+    }
+    End::Failure
+}
+
+// The tests before a step: whether the goal's process sleeps, then whose turn it is.
+fn look(head: &[u8], procs: &[u8], vars: &[u8]) -> View
+    requires { ⌜ Turning small (now head) (now procs) (now vars) ⌝ }
+    ensures { λ r. ⌜ LookSays (lent (now (head .entry)) (now (procs .entry)) (now (vars .entry))) r ⌝ }
 {
     let n = head::proc_count(head);
-    if rows::mode_at(procs, n, 0) != codes::DORMANT {
-        return Went::On;
-    }
-    if rows::result_at(procs, n, 0) == codes::SUCCESS {
-        return Went::Over(End::Success);
-    }
-    Went::Over(End::Failure)
-}
-
-// What the answer of a turn is to a run; refused as 10 is that nothing can move.
-fn went_by(a: Stepped) -> Went
-    ensures { λ r. ⌜ r ≡ wentBy a ⌝ }
-{
-    let Stepped::Unmoved(f) = a else {
-        return Went::On;
-    };
-    if f.number == 10 {
-        return Went::Over(End::Waiting);
-    }
-    Went::Over(End::Room)
-}
-
-// One turn of a run that may make a move more: the goal's test, then the turn.
-fn go(
-    image: &[u8],
-    rels: usize,
-    clauses: usize,
-    head: &mut [u8],
-    procs: &mut [u8],
-    vars: &mut [u8],
-) -> Went
-    requires { ⌜ Inside small (now image) rels clauses (lent (now head) (now procs) (now vars)) ⌝ }
-    ensures { λ r. ⌜ WentSays small (now (image .entry)) rels clauses (lent (now (head .entry)) (now (procs .entry)) (now (vars .entry))) r (lent (now (head .exit)) (now (procs .exit)) (now (vars .exit))) ⌝ }
-{
-    let g = goal(head, procs);
-    let Went::On = g else {
-        return g;
-    };
-    let a = turn_in(image, rels, clauses, head, procs, vars);
-    went_by(a)
-}
-
-// The tests alone, where the limit is used up.
-fn stop(head: &[u8], procs: &[u8], vars: &[u8]) -> End
-    requires { ⌜ Turning small (now head) (now procs) (now vars) ⌝ }
-    ensures { λ r. ⌜ StopSays small (lent (now (head .entry)) (now (procs .entry)) (now (vars .entry))) r ⌝ }
-{
-    let g = goal(head, procs);
-    match g {
-        Went::Over(e) => {
-            return e;
-        }
-        Went::On => {}
+    if rows::mode_at(procs, n, 0) == codes::DORMANT {
+        let end = end_by(rows::result_at(procs, n, 0));
+        let told = children::nothing();
+        return View {
+            who: Found::Nothing,
+            told: told,
+            end: end,
+        };
     }
     let t = whose(head, procs, vars);
-    let f = t.who;
-    match f {
-        Found::At(_) => End::Budget,
-        Found::Nothing => End::Waiting,
+    let who = t.who;
+    let told = t.told;
+    View {
+        who: who,
+        told: told,
+        end: End::Waiting,
     }
 }
 
-// A run in tables that keep the rules; every move keeps them, so no test is repeated.
+// A run in tables that keep the rules; every move keeps them, so no test of the tables is repeated.
 fn going(
     image: &[u8],
     rels: usize,
@@ -149,26 +119,30 @@ fn going(
     ensures { λ r. ⌜ RanSays small (now (image .entry)) rels clauses (lent (now (head .entry)) (now (procs .entry)) (now (vars .entry))) limit r (lent (now (head .exit)) (now (procs .exit)) (now (vars .exit))) ⌝ }
 {
     let mut k = 0;
-    while k < limit {
-        let w = go(image, rels, clauses, head, procs, vars);
-        match w {
-            Went::On => {
-                k += 1;
-            }
-            Went::Over(e) => {
-                return Ran::Ended(e, k);
-            }
+    while k <= limit {
+        let w = look(head, procs, vars);
+        let f = w.who;
+        let Found::At(p) = f else {
+            let end = w.end;
+            return Ran::Ended(end, k);
+        };
+        if k == limit {
+            return Ran::Ended(End::Budget, k);
         }
+        let a = step::stepped(image, rels, clauses, head, procs, vars, p, w.told);
+        let Stepped::Moved(_) = a else {
+            return Ran::Ended(End::Room, k);
+        };
+        k += 1;
     }
-    let e = stop(head, procs, vars);
-    Ran::Ended(e, k)
+    Ran::Ended(End::Budget, k)
 }
 
 // The run: turns until the goal has ended, nothing can move, the limit is used up or a step has no room.
 pub fn run(image: &[u8], head: &mut [u8], procs: &mut [u8], vars: &mut [u8], limit: u16) -> Ran
     ensures { λ r. ⌜ RunSays small (now (image .entry)) (lent (now (head .entry)) (now (procs .entry)) (now (vars .entry))) limit r (now (head .exit)) (now (procs .exit)) (now (vars .exit)) ⌝ }
 {
-    let e = machine::enter(image, head, procs, vars);
+    let e = entry::enter(image, head, procs, vars);
     let Loaded::Accepted(rels, clauses) = e else {
         let r = load::refusal(e);
         return Ran::Unrun(r);

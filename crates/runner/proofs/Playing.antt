@@ -6,7 +6,7 @@ use Prim.Native.Nat.{_*_, _≤_, ℕ}
 use lib.ListN.{length}
 use native.Mathlib.Omega.{arith}
 use Rattle.load.proofs.Sanity.{accepted-sane}
-use Rattle.machine.proofs.Held.{fresh-good, head-sized, same-lent, started-good, started-read, started-sized, tables-state, vars-back, vars-counted, vars-sized}
+use Rattle.entry.proofs.Held.{fresh-good, head-sized, same-lent, started-good, started-read, started-sized, tables-state, vars-back, vars-counted, vars-sized}
 use Rattle.machine.specs.Starting.{StartSays}
 use Rattle.parlog.proofs.Assume.{assume-counts, sizes-full}
 use Rattle.parlog.proofs.Kept.{run-keeps}

@@ -13,25 +13,25 @@ use Rattle.children.specs.declared.Told.{Told}
 use Rattle.load.proofs.Accepted.{accepted}
 use Rattle.load.proofs.Heads.{accepted-heads}
 use Rattle.load.proofs.Sanity.{accepted-sane}
-use Rattle.machine.specs.Entered.{Inside}
+use Rattle.entry.specs.Entered.{Inside}
+use Rattle.move_plan.proofs.Plans.{applied-none, applied-some, fits-is, fits-procs, fits-vars}
+use Rattle.move_plan.specs.Plans.{appliedOf, deltaOf, fitsIn, newMost, stateIn, Within}
+use Rattle.move_plan.specs.declared.Plan.{Plan}
 use Rattle.moves.proofs.Legal.{legal, right-sized}
 use Rattle.moves.specs.Legal.{Legal}
 use Rattle.parlog.proofs.Bools.{and-true}
 use Rattle.parlog.proofs.Steps.{steady-kept}
-use Rattle.parlog.specs.Limits.{Limits, Usable}
+use Rattle.parlog.specs.Limits.{Limits, small, Usable}
 use Rattle.parlog.specs.Program.{Program, programOf}
 use Rattle.parlog.specs.Rules.{fits, move, ruleOf, withRoom}
 use Rattle.parlog.specs.Run.{counted, made, procsIn, stepBy, stepped, stepTables, unmade}
 use Rattle.parlog.specs.Scan.{every}
 use Rattle.parlog.specs.TableRules.{cellKnown, fullSize, lentOk, stateOk, tablesOk}
-use Rattle.parlog.specs.Tables.{at, cellSize, Lent, procCount, procsOf, rowSize, tablesIn, varCount}
+use Rattle.parlog.specs.Tables.{at, cellSize, headSize, Lent, procCount, procsOf, rowSize, tablesIn, varCount}
 use Rattle.parlog.specs.declared.Process.{Process}
-use Rattle.move_plan.proofs.Plans.{applied-none, applied-some, fits-is, fits-procs, fits-vars}
-use Rattle.move_plan.specs.Plans.{appliedOf, deltaOf, fitsIn, stateIn, Within}
-use Rattle.move_plan.specs.declared.Plan.{Plan}
 use Rattle.rows.proofs.Tables.{procs-length}
 use Rattle.step.specs.Stepping.{stepIn}
-use Rattle.tree.specs.Family.{Falls}
+use Rattle.tree.specs.Family.{Falls, mostRows}
 use Rattle.vars.proofs.Tables.{vars-length}
 
 -- ---- what a mover may count on
@@ -79,6 +79,36 @@ module _ (lim : Limits) (s : List ℕ) (r c : ℕ) (l : Lent) (i : Inside lim s 
   may-write n m pl eb q w =
       let f = room-for lim n m pl eb q in
       (omega (arith, i .procs-size, f .0), omega (arith, i .vars-size, f .1), λ j u. let x = w j u in (omega (arith, x .0), x .1))
+
+  -- ---- what the callees of a step ask
+
+  pub rule-asks : Usable lim → lim .vars ≤ 60000 → (p : ℕ) → p < procCount (l .head) → {n m : ℕ} → n ≡ procCount (l .head) → n ≤ 65535 → m ≡ varCount (l .head)
+      → {t : Told} → (at (procsOf (l .procs) (procCount (l .head))) p .mode ≡ 3 → Tells (procsOf (l .procs) (procCount (l .head))) p t)
+      → (r ≤ 32) × (c ≤ 64) × (n * rowSize ≤ length (l .procs)) × (n ≤ 65535) × (m * cellSize ≤ length (l .vars)) × (m ≤ 60000) × (p < n) × Legal pr (stateIn (l .procs) n (l .vars) m) p
+      × (at (procsOf (l .procs) n) p .mode ≡ 3 → Tells (procsOf (l .procs) n) p t)
+  rule-asks ok few p h en hn em told = (i .relations, i .clauses, rw en (i .rows), hn, rw em (i .cells), omega (arith, i .vars-most, few, em), rw en h, may-move ok p h en em, told-of (l .procs) p en told)
+
+  pub fits-asks : {n m : ℕ} → n ≡ procCount (l .head) → m ≡ varCount (l .head) → (n ≤ lim .procs) × (m ≤ lim .vars)
+  fits-asks en em = (rw en (i .procs-most), rw em (i .vars-most))
+
+  module _ (p : ℕ) (h : p < procCount (l .head)) (n m : ℕ) (en : n ≡ procCount (l .head)) (pl : Plan) {b : Bool} (eb : b ≡ fitsIn (lim .procs) (lim .vars) n m pl) (q : b ≡ true) where
+    pub write-asks : lim .procs ≤ mostRows → pl .count ≤ newMost → pl .changes .count ≤ 4 → Within m (pl .changes .count) (pl .changes .list)
+        → ((n + pl .count) * rowSize ≤ length (l .procs)) × (pl .count ≤ newMost) × (p < n) × Falls (procsOf (l .procs) n) × ((m + pl .fresh) * cellSize ≤ length (l .vars)) × (pl .changes .count ≤ 4)
+        × Within (m + pl .fresh) (pl .changes .count) (pl .changes .list) × (n ≤ mostRows)
+    write-asks most few changes w = let x = may-write n m pl eb q w in (x .0, few, rw en h, parents-fall en, x .1, changes, x .2, omega (arith, en, i .procs-most, most))
+
+    pub head-asks : Usable lim → n ≤ 65535 → (length (l .head) ≡ headSize) × (n + pl .count ≤ 65535) × (m + pl .fresh ≤ 65535) × (p ≤ 65535)
+    head-asks ok hn = let f = room-for lim n m pl eb q in (i .head, omega (arith, f .0, ok .procs-counted), omega (arith, f .1, ok .vars-counted), omega (arith, h, en, hn))
+
+-- a run has no more rows than marks are kept for
+pub small-rows : small .procs ≤ mostRows
+unfolding small
+small-rows = omega arith
+
+-- the variables of a run can be counted
+pub small-few : small .vars ≤ 60000
+unfolding small
+small-few = omega arith
 
 -- ---- the decision
 

@@ -7,8 +7,8 @@ use lib.ListN.{length}
 use native.Mathlib.Omega.{arith}
 use Rattle.head.proofs.Laws.{head-last, head-length, head-procs, head-steps, head-vars}
 use Rattle.load.proofs.Sanity.{accepted-sane}
-use Rattle.machine.proofs.Entering.{lent-inside}
-use Rattle.machine.specs.Entered.{Inside}
+use Rattle.entry.proofs.Entering.{lent-inside}
+use Rattle.entry.specs.Entered.{Inside}
 use Rattle.parlog.proofs.Assume.{sizes-full}
 use Rattle.parlog.proofs.Effects.{apply-count, apply-vars}
 use Rattle.parlog.proofs.Kept.{step-keeps}

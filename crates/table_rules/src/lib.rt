@@ -130,8 +130,7 @@ fn behind_goal(
         return false;
     }
     let l = program_goal::literal(image, rels, clauses, z);
-    let rel = l.rel;
-    behind_literal(image, rels, clauses, n, t, waits, z, rel)
+    behind_literal(image, rels, clauses, n, t, waits, z, l.rel)
 }
 
 // What the rules of its tag read is there, and what they read besides in its mode.
@@ -139,22 +138,29 @@ fn placed_ok(image: &[u8], rels: usize, clauses: usize, n: usize, x: Process) ->
     requires { ⌜ (rels ≤ 32) × (clauses ≤ 64) ⌝ }
     ensures { λ b. ⌜ b ≡ (placesOk (tagOf (x .tag)) (programOf (now (image .entry)) rels clauses) n (x .spot) && goingOk (tagOf (x .tag)) (programOf (now (image .entry)) rels clauses) n x) ⌝ }
 {
-    let z = x.spot;
     if x.tag == codes::GUARD_EVAL {
-        return clause_in(image, rels, clauses, n, z.found, z.first);
+        return clause_in(image, rels, clauses, n, x.spot.found, x.spot.first);
     }
     let search = basics::or(x.tag == codes::SEQ_SEARCH, x.tag == codes::OR_SEARCH);
     let told = basics::and(
         search,
         basics::and(x.mode == codes::REPORTING, x.result == codes::SUCCESS),
     );
-    let goal = goal_in(image, rels, clauses, n, z);
-    let found = told_ok(image, rels, clauses, n, told, z);
+    let goal = goal_in(image, rels, clauses, n, x.spot);
+    let found = told_ok(image, rels, clauses, n, told, x.spot);
     let there = basics::and(goal, found);
     if !there {
         return false;
     }
-    behind_goal(image, rels, clauses, n, x.tag, x.mode == codes::WAITING, z)
+    behind_goal(
+        image,
+        rels,
+        clauses,
+        n,
+        x.tag,
+        x.mode == codes::WAITING,
+        x.spot,
+    )
 }
 
 // ---- a row
@@ -174,10 +180,9 @@ fn kin_ok(
 {
     if i == 0 {
         let goal = program_goal::tag_of_goal(image, rels, clauses, codes::THE_GOAL, 0);
-        let z = x.spot;
         return basics::and(
             x.tag == goal,
-            basics::and(x.parent == 0, z.kind == codes::THE_GOAL),
+            basics::and(x.parent == 0, x.spot.kind == codes::THE_GOAL),
         );
     }
     let parent = x.parent as usize;
@@ -192,8 +197,7 @@ fn kin_ok(
 fn own_ok(n: usize, i: usize, x: Process) -> bool
     ensures { λ b. ⌜ b ≡ (known x && (resultOk i x && notesOk n x)) ⌝ }
 {
-    let z = x.spot;
-    let numbers = row_tests::known(x.tag, x.mode, x.result, z.kind);
+    let numbers = row_tests::known(x.tag, x.mode, x.result, x.spot.kind);
     let result = row_tests::result_ok(i, x.mode, x.result);
     let four = x.notes;
     let notes = row_tests::notes_ok(n, x.mode, x.count, four);

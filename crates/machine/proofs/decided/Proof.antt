@@ -1,5 +1,5 @@
 use Rattle.machine.proofs.Giving.{decided-asked, decided-refused}
-use Rattle.machine.proofs.Entering.{inside-of}
+use Rattle.entry.proofs.Entering.{inside-of}
 use native.Mathlib.Omega.{arith}
 use borrow.Author.Needs.{needs}
 use Rattle.machine.proofs.decided.Statement.{statement}

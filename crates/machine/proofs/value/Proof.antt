@@ -1,5 +1,5 @@
 use Rattle.machine.proofs.Looking.{value-looked, value-refused}
-use Rattle.machine.proofs.Entering.{inside-of}
+use Rattle.entry.proofs.Entering.{inside-of}
 use native.Mathlib.Omega.{arith}
 use borrow.Author.Needs.{needs}
 use Rattle.machine.proofs.value.Statement.{statement}

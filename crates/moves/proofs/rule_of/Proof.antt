@@ -24,4 +24,4 @@ rule-of-spec =
     (λ c. (starts _ _ _ _ (c .before .before .get .ensures) (c .before .match .keys3) (c .start-rule .ensures .0), (c .start-rule .ensures .1), (c .start-rule .ensures .2), (c .start-rule .ensures .3)))
     (λ c. (waits _ _ _ _ (c .before .before .get .ensures) (c .before .match .keys4) ((c .wait-rule .ensures .0) _), (c .wait-rule .ensures .1), (let h = (c .wait-rule .ensures .2) in omega arith), within-none _ (c .wait-rule .result) (c .wait-rule .ensures .2)))
     (λ c. (reports _ _ _ _ (c .before .before .get .ensures) (c .before .match .keys5) (c .stop .ensures .0), (c .stop .ensures .1), (let h = (c .stop .ensures .2) in omega arith), within-none _ (c .stop .result) (c .stop .ensures .2)))
-    (λ c. let a = able-there _ _ _ _ (c .before .before .get .ensures) (c .before .before .before .before .before .before .pre .7) in (wakes _ _ _ _ (c .before .before .get .ensures) (suspended-left _ (a .mode) (c .before .match .rest .0 .0 .0 .0 .1) (c .before .match .rest .0 .0 .0 .1) (c .before .match .rest .0 .0 .1) (c .before .match .rest .0 .1) (c .before .match .rest .1)) (c .wake .ensures .0), (c .wake .ensures .1), (c .wake .ensures .3), (c .wake .ensures .4))))
+    (λ c. let a = able-there _ _ _ _ (c .before .before .get .ensures) (c .before .before .before .before .before .before .pre .7) in (wakes _ _ _ _ (c .before .before .get .ensures) (suspended-left _ (a .mode) (c .before .match .rest .0 .0 .0 .0 .1) (c .before .match .rest .0 .0 .0 .1) (c .before .match .rest .0 .0 .1) (c .before .match .rest .0 .1) (c .before .match .rest .1)) (c .wake .ensures .0), (c .wake .ensures .1), (c .wake .ensures .2), (c .wake .ensures .3))))

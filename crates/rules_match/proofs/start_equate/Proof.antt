@@ -12,4 +12,4 @@ start-equate-spec =
     (λ c κs. search needs)
     (λ c κs. search needs)
     (λ c κs. (itself (c .before .before .equate-at .ensures), equate-writes _ _ _ _ (vars-length _ _) (c .before .before .before .before .before .before .before .pre .5) (c .before .before .equate-at .ensures)))
-    (λ c. (equate-started (c .before .before .first-noted .ensures) (c .before .first-bound .ensures) _ _ (c .before .before .before .equate-at .ensures) (c .start-by .ensures .0), (c .start-by .ensures .1), (c .start-by .ensures .2), (c .start-by .ensures .3), (c .start-by .ensures .4))))
+    (λ c. (equate-started (c .before .before .first-noted .ensures) (c .before .first-bound .ensures) _ _ (c .before .before .before .equate-at .ensures) (c .start-by .ensures .0), (c .start-by .ensures .1), (c .start-by .ensures .2), (c .start-by .ensures .3))))

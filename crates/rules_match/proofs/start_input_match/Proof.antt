@@ -12,4 +12,4 @@ start-input-match-spec =
     (λ c κs. search needs)
     (λ c κs. search needs)
     (λ c κs. (itself (c .before .before .match-at .ensures), match-writes _ _ _ (vars-length _ _) (c .before .before .before .before .before .before .pre .4) (c .before .before .match-at .ensures)))
-    (λ c. (match-started (c .before .before .first-noted .ensures) (c .before .first-bound .ensures) _ _ (c .before .before .before .match-at .ensures) (c .start-by .ensures .0), (c .start-by .ensures .1), (c .start-by .ensures .2), (c .start-by .ensures .3), (c .start-by .ensures .4))))
+    (λ c. (match-started (c .before .before .first-noted .ensures) (c .before .first-bound .ensures) _ _ (c .before .before .before .match-at .ensures) (c .start-by .ensures .0), (c .start-by .ensures .1), (c .start-by .ensures .2), (c .start-by .ensures .3))))

@@ -1,8 +1,8 @@
 use borrow.Author.Needs.{needs}
-use Prim.Native.Nat.{_-_}
+use Prim.Native.Nat.{_+_, _-_}
 use native.Mathlib.Omega.{arith}
-use Rattle.run.proofs.Turning.{turning}
-use Rattle.run.proofs.Runs.{going-on, going-over, going-spent, going-start}
+use Rattle.run.proofs.Turning.{going-none, going-on, going-room, going-spent, look-below, turning}
+use Rattle.run.proofs.Runs.{going-start}
 use Rattle.parlog.specs.Limits.{small}
 use Rattle.parlog.specs.Tables.{lent}
 use Rattle.run.specs.Running.{Going}
@@ -13,7 +13,7 @@ abbrev Inv-loop : tie.InvT-loop
 Inv-loop image rels clauses head₀ procs₀ vars₀ limit k₀ head procs vars k = Going small image rels clauses (lent head₀ procs₀ vars₀) (lent head procs vars) limit k
 
 abbrev μ-loop : tie.MeasureT-loop
-μ-loop image rels clauses head₀ procs₀ vars₀ limit k₀ head procs vars k = limit - k
+μ-loop image rels clauses head₀ procs₀ vars₀ limit k₀ head procs vars k = limit + 1 - k
 
 pub going-spec : {M : Type 1} → statement M
 going-spec =
@@ -22,18 +22,28 @@ going-spec =
     Inv-loop
     μ-loop
     (λ c. going-start _ _ _ _ _ _ (c .before .before .before .before .pre .0) (λ b. omega (arith, (c .before .before .slice-known .given) b)) (λ b. omega (arith, (c .before .slice-known2 .given) b)) (λ b. omega (arith, (c .slice-known3 .given) b)))
-    (λ c κs. (c .before .before .before .before .loop .inv .inside))
-    (λ c. search needs)
-    (λ c. omega arith)
-    (λ c. omega arith)
-    (λ c. going-on _ _ _ _ _ _ (c .before .before .before .before .before .before .before .before .before .before .before .before .before .before .before .before .before .before .pre .0) _ _ (c .before .before .before .before .before .before .before .before .before .before .before .before .before .loop .inv) (c .before .before .before .before .before .before .before .before .before .before .before .before .loop-test .taken) _ (c .before .before .before .before .before .before .before .before .go .ensures) (c .enum-told .given .1))
-    (λ c. search needs)
-    (λ c. search needs)
-    (λ c. search needs)
-    (λ c. search needs)
-    (λ c. going-over _ _ _ _ _ _ (c .before .before .before .before .before .before .before .before .before .before .before .before .before .before .before .before .before .before .before .pre .0) _ _ (c .before .before .before .before .before .before .before .before .before .before .before .before .before .before .loop .inv) (c .before .before .before .before .before .before .before .before .before .before .before .before .before .loop-test .taken) _ (c .before .before .before .before .before .before .before .before .before .go .ensures) (c .before .w .given .1))
     (λ c κs. turning _ _ _ _ _ (c .before .before .before .before .loop .inv .inside))
     (λ c. search needs)
     (λ c. search needs)
+    (λ c. omega (arith, (c .before .before .before .before .before .before .before .loop .inv .inside .head), (c .before .before .before .before .before .before .before .before .before .before .before .before .pre .0 .head)))
+    (λ c. omega (arith, (c .before .before .before .before .before .before .before .loop .inv .inside .procs-size), (c .before .before .before .before .before .before .before .before .before .before .before .before .pre .0 .procs-size)))
+    (λ c. omega (arith, (c .before .before .before .before .before .before .before .loop .inv .inside .vars-size), (c .before .before .before .before .before .before .before .before .before .before .before .before .pre .0 .vars-size)))
+    (λ c. going-none _ _ _ _ _ _ (c .before .before .before .before .before .before .before .before .before .before .before .before .pre .0) _ _ (c .before .before .before .before .before .before .before .loop .inv) (c .before .before .look .ensures) (c .enum-told .given .1))
+    (λ c. omega (arith, (c .before .before .before .before .before .before .before .before .before .loop .inv .inside .head), (c .before .before .before .before .before .before .before .before .before .before .before .before .before .before .pre .0 .head)))
+    (λ c. omega (arith, (c .before .before .before .before .before .before .before .before .before .loop .inv .inside .procs-size), (c .before .before .before .before .before .before .before .before .before .before .before .before .before .before .pre .0 .procs-size)))
+    (λ c. omega (arith, (c .before .before .before .before .before .before .before .before .before .loop .inv .inside .vars-size), (c .before .before .before .before .before .before .before .before .before .before .before .before .before .before .pre .0 .vars-size)))
+    (λ c. going-spent _ _ _ _ _ _ (c .before .before .before .before .before .before .before .before .before .before .before .before .before .before .pre .0) _ _ (c .before .before .before .before .before .before .before .before .before .loop .inv) (c .before .before .before .before .look .ensures) (c .before .before .f .given .1) (c .if1 .taken))
+    (λ c κs. ((c .before .before .before .before .before .before .before .before .before .before .before .before .loop .inv .inside), look-below _ (c .before .before .before .before .before .before .before .look .ensures) (c .before .before .before .before .before .f .given .1), λ w. (c .before .before .before .before .before .before .before .look .ensures .told) _ (c .before .before .before .before .before .f .given .1)))
     (λ c. search needs)
-    (λ c. going-spent _ _ _ _ _ _ (c .before .before .before .before .before .before .before .before .before .before .pre .0) _ _ (c .before .before .before .before .before .loop .inv) (omega (arith, (c .before .before .before .before .loop-test .left))) ((c .stop .ensures) _)))
+    (λ c. search needs)
+    (λ c. omega (arith, (c .before .before .before .before .before .before .before .head .given), (c .before .before .before .before .before .before .before .before .before .before .before .before .before .before .before .before .before .before .before .before .before .loop .inv .inside .head), (c .before .before .before .before .before .before .before .before .before .before .before .before .before .before .before .before .before .before .before .before .before .before .before .before .before .before .pre .0 .head)))
+    (λ c. omega (arith, (c .before .before .before .before .before .procs .given), (c .before .before .before .before .before .before .before .before .before .before .before .before .before .before .before .before .before .before .before .before .before .loop .inv .inside .procs-size), (c .before .before .before .before .before .before .before .before .before .before .before .before .before .before .before .before .before .before .before .before .before .before .before .before .before .before .pre .0 .procs-size)))
+    (λ c. omega (arith, (c .before .before .before .vars .given), (c .before .before .before .before .before .before .before .before .before .before .before .before .before .before .before .before .before .before .before .before .before .loop .inv .inside .vars-size), (c .before .before .before .before .before .before .before .before .before .before .before .before .before .before .before .before .before .before .before .before .before .before .before .before .before .before .pre .0 .vars-size)))
+    (λ c. going-room _ _ _ _ _ _ (c .before .before .before .before .before .before .before .before .before .before .before .before .before .before .before .before .before .before .before .before .before .before .before .before .before .before .pre .0) _ _ (c .before .before .before .before .before .before .before .before .before .before .before .before .before .before .before .before .before .before .before .before .before .loop .inv) (c .before .before .before .before .before .before .before .before .before .before .before .before .before .before .before .before .look .ensures) (c .before .before .before .before .before .before .before .before .before .before .before .before .before .before .f .given .1) (c .before .before .before .before .before .before .before .before .before .before .before .before .if1 .left) (c .before .before .before .before .before .before .before .before .stepped .ensures) (c .enum-told3 .given .1))
+    (λ c. omega (arith, (c .before .before .before .before .before .before .before .before .before .before .before .before .before .before .before .before .before .before .before .before .loop-test .taken), (c .before .before .before .before .before .before .before .before .before .before .before .before .before .before .before .before .before .before .before .before .before .before .before .before .before .before .pre .1)))
+    (λ c. omega (arith, (c .before .before .before .before .before .before .before .before .before .before .before .before .before .before .before .before .before .before .before .before .loop-test .taken)))
+    (λ c. going-on _ _ _ _ _ _ (c .before .before .before .before .before .before .before .before .before .before .before .before .before .before .before .before .before .before .before .before .before .before .before .before .before .before .pre .0) _ _ (c .before .before .before .before .before .before .before .before .before .before .before .before .before .before .before .before .before .before .before .before .before .loop .inv) (c .before .before .before .before .before .before .before .before .before .before .before .before .before .before .before .before .look .ensures) (c .before .before .before .before .before .before .before .before .before .before .before .before .before .before .f .given .1) (c .before .before .before .before .before .before .before .before .before .before .before .before .if1 .left) (c .before .before .before .before .before .before .before .before .stepped .ensures) (c .enum-told2 .given .1))
+    (λ c. omega (arith, (c .before .loop .inv .inside .head), (c .before .before .before .before .before .before .pre .0 .head)))
+    (λ c. omega (arith, (c .before .loop .inv .inside .procs-size), (c .before .before .before .before .before .before .pre .0 .procs-size)))
+    (λ c. omega (arith, (c .before .loop .inv .inside .vars-size), (c .before .before .before .before .before .before .pre .0 .vars-size)))
+    (λ c. let m = (c .before .loop .inv .most) in let t = (c .loop-test .left) in absurd (omega arith)))

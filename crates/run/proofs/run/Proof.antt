@@ -1,6 +1,6 @@
 use native.Mathlib.Omega.{arith}
 use Rattle.run.proofs.Turning.{run-ran, run-refused}
-use Rattle.machine.proofs.Entering.{inside-of}
+use Rattle.entry.proofs.Entering.{inside-of}
 use borrow.Author.Needs.{needs}
 use Rattle.run.proofs.run.Statement.{statement}
 use Rattle.run.proofs.run.Tie as tie

@@ -1,5 +1,5 @@
 use Rattle.run.proofs.Turning.{turn-refused, turn-turned}
-use Rattle.machine.proofs.Entering.{inside-of}
+use Rattle.entry.proofs.Entering.{inside-of}
 use borrow.Author.Needs.{needs}
 use Rattle.run.proofs.turn.Statement.{statement}
 use Rattle.run.proofs.turn.Tie as tie

@@ -14,7 +14,7 @@ turn-in-spec =
     (λ c. search needs)
     (λ c. search needs)
     (λ c. search needs)
-    (λ c. turn-none _ _ _ _ _ (c .before .before .before .whose .ensures .who) (c .before .before .before .before .before .before .before .before .before .before .before .pre) (c .before .enum-told .given .1) (c .refusal .ensures))
+    (λ c. turn-none _ _ _ _ _ (c .before .before .before .whose .ensures .who) (c .before .enum-told .given .1) (c .refusal .ensures))
     (λ c κs. ((c .before .before .before .before .before .before .before .before .before .before .before .before .before .before .pre), turn-below _ (c .before .before .before .before .before .before .whose .ensures .who) (c .before .before .before .before .f .given .1), λ w. (c .before .before .before .before .before .before .whose .ensures .told) _ (c .before .before .before .before .f .given .1)))
     (λ c. search needs)
     (λ c. search needs)

@@ -12,4 +12,4 @@ own-ok-spec =
     (λ c κs. search needs)
     (λ c κs. search needs)
     (λ c κs. search needs)
-    (λ c. let s = c .before .before .before .before .before .before .before in own-is (s .args .n) (s .args .i) (s .args .x) (c .before .before .before .before .before .known .ensures) (c .before .before .before .before .result-ok .ensures) (c .before .before .notes-ok .ensures) (c .before .and .ensures) (c .and2 .ensures)))
+    (λ c. let s = c .before .before .before .before .before .before in own-is (s .args .n) (s .args .i) (s .args .x) (c .before .before .before .before .before .known .ensures) (c .before .before .before .before .result-ok .ensures) (c .before .before .notes-ok .ensures) (c .before .and .ensures) (c .and2 .ensures)))

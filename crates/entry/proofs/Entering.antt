@@ -8,7 +8,7 @@ use lib.ListN.{length}
 use borrow.Author.Tests.{ltb-true}
 use native.Mathlib.Omega.{arith}
 use Rattle.load.specs.Bounds.{Bounded}
-use Rattle.machine.specs.Entered.{EnterSays, Inside}
+use Rattle.entry.specs.Entered.{EnterSays, Inside}
 use Rattle.parlog.proofs.Assume.{assume-counts, full-sizes}
 use Rattle.parlog.proofs.Bools.{and-true}
 use Rattle.parlog.specs.Calls.{enter}

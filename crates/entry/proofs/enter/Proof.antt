@@ -1,10 +1,10 @@
-use Rattle.machine.proofs.Entering.{enter-entered, enter-refused, enter-turned}
+use Rattle.entry.proofs.Entering.{enter-entered, enter-refused, enter-turned}
 use borrow.Author.Tests.{not-false, not-true}
 use native.Mathlib.Omega.{arith}
 use Rattle.parlog.specs.Limits.{small}
 use borrow.Author.Needs.{needs}
-use Rattle.machine.proofs.enter.Statement.{statement}
-use Rattle.machine.proofs.enter.Tie as tie
+use Rattle.entry.proofs.enter.Statement.{statement}
+use Rattle.entry.proofs.enter.Tie as tie
 
 pub enter-spec : {M : Type 1} → statement M
 unfolding small

@@ -1,0 +1,2 @@
+-- What a call's entry promises.
+pub mod Entered

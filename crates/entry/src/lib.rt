@@ -1,0 +1,37 @@
+// The tests at a call's entry: the image first, then the table rules.
+use parlog::Loaded;
+use parlog::Refusal;
+ghost use mathlib.Core.Path.{_≡_};
+ghost use Rattle.parlog.specs.Limits.{small};
+ghost use Rattle.parlog.specs.Load.{refusal};
+ghost use Rattle.parlog.specs.Tables.{lent};
+ghost use Rattle.entry.specs.Entered.{EnterSays};
+
+// The limits of a run.
+pub const PROCS: usize = 512;
+
+pub const VARS: usize = 1024;
+
+// A refusal with this number; it has no offset.
+pub fn refusal(number: u8) -> Refusal
+    ensures { λ r. ⌜ r ≡ refusal number 0 ⌝ }
+{
+    Refusal {
+        number: number,
+        offset: 0,
+    }
+}
+
+// The image first, then the table rules: the counts of the program, or the refusal.
+pub fn enter(image: &[u8], head: &[u8], procs: &[u8], vars: &[u8]) -> Loaded
+    ensures { λ r. ⌜ EnterSays small (now (image .entry)) (lent (now (head .entry)) (now (procs .entry)) (now (vars .entry))) r ⌝ }
+{
+    let l = load::load(image);
+    let Loaded::Accepted(rels, clauses) = l else {
+        return l;
+    };
+    if !table_rules::lent_ok(image, rels, clauses, head, procs, vars, PROCS, VARS) {
+        return Loaded::Refused(refusal(8));
+    }
+    l
+}
