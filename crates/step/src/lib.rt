@@ -3,6 +3,7 @@ use children::Told;
 use parlog::Loaded;
 use parlog::Refusal;
 use parlog::Stepped;
+use parlog::codes;
 ghost use mathlib.Core.Path.{_≡_};
 ghost use Prim.Native.Nat.{_*_, _<_, _≤_};
 ghost use lib.ListN.{length};
@@ -14,9 +15,9 @@ ghost use Rattle.parlog.specs.Tables.{at, lent, procCount, procsOf, rowSize};
 ghost use Rattle.step.specs.Stepping.{EntrySays, StepSays, SteppedSays};
 
 // The limits of a run.
-const PROCS: usize = 512;
+const PROCS: usize = codes::MOST_PROCS;
 
-const VARS: usize = 1024;
+const VARS: usize = codes::MOST_VARS;
 
 // What a step by number begins with: the counts of the program and what its process is told, or the refusal.
 pub enum Entry {
@@ -52,10 +53,10 @@ pub fn stepped(
     let m = head::var_count(head);
     let plan = moves::rule_of(image, rels, clauses, procs, n, vars, m, p, told);
     if !plan.acts {
-        return Stepped::Unmoved(entry::refusal(10));
+        return Stepped::Unmoved(entry::refusal(codes::STILL));
     }
     if !move_plan::fits(PROCS, VARS, n, m, plan) {
-        return Stepped::Unmoved(entry::refusal(11));
+        return Stepped::Unmoved(entry::refusal(codes::ROOM));
     }
     let made = head::marker_steps(head);
     let steps = count(made);
@@ -87,7 +88,7 @@ fn entered(image: &[u8], head: &[u8], procs: &[u8], vars: &[u8], p: usize) -> En
     };
     let n = head::proc_count(head);
     if n <= p {
-        let r = entry::refusal(9);
+        let r = entry::refusal(codes::NODE);
         return Entry::Out(r);
     }
     let told = ask(procs, n, p);
