@@ -2,19 +2,13 @@
 use mathlib.Core.Path.{_∙_, _≡_, sym}
 use mathlib.Core.Bool.{Bool, false, true}
 use mathlib.Core.List.{List}
-use Prim.Native.Nat.{_*_, _+_, _<_, _≤_, ℕ}
+use Prim.Native.Nat.{_+_, _<_, _≤_, ℕ}
 use lib.Dec.{ltb}
 use lib.ListN.{length}
 use borrow.Author.Tests.{le-ltb}
 use native.Mathlib.Omega.{arith}
-use Rattle.children.specs.Telling.{Tells}
-use Rattle.children.specs.declared.Told.{Told}
 use Rattle.load.specs.Fields.{refusalOf}
-use Rattle.entry.proofs.Entering.{inside-of}
 use Rattle.entry.specs.Entered.{EnterSays, Inside}
-use Rattle.move_plan.proofs.Plans.{delta-fresh, delta-new, fits-procs, fits-vars}
-use Rattle.move_plan.specs.Plans.{appliedOf, deltaOf, fitsIn, stateIn}
-use Rattle.move_plan.specs.declared.Plan.{Plan}
 use Rattle.parlog.specs.Calls.{stepAnswer, stepCall}
 use Rattle.parlog.specs.Delta.{apply}
 use Rattle.parlog.specs.Limits.{Limits}
@@ -22,20 +16,21 @@ use Rattle.parlog.specs.Load.{refusal}
 use Rattle.parlog.specs.Program.{programOf}
 use Rattle.parlog.specs.Rules.{ruleOf}
 use Rattle.parlog.specs.Run.{counted, procsIn, stepTables, unmade}
-use Rattle.parlog.specs.Tables.{at, headBytes, Lent, markerSteps, procCount, procsOf, rowSize, tablesIn, varCount}
+use Rattle.parlog.specs.Tables.{headBytes, Lent, markerSteps, procCount, procsOf, tablesIn, varCount}
 use Rattle.parlog.specs.declared.Loaded.{Loaded}
 use Rattle.parlog.specs.declared.Loaded.the-variants.{Accepted, Refused}
 use Rattle.parlog.specs.declared.Move.{Move}
 use Rattle.parlog.specs.declared.Refusal.{Refusal}
 use Rattle.parlog.specs.declared.Stepped.{Stepped}
 use Rattle.parlog.specs.declared.Stepped.the-variants.{Moved, Unmoved}
+use Rattle.move_plan.proofs.Plans.{delta-fresh, delta-new, fits-procs, fits-vars}
+use Rattle.move_plan.specs.Plans.{appliedOf, deltaOf, fitsIn, stateIn}
+use Rattle.move_plan.specs.declared.Plan.{Plan}
 use Rattle.rows.proofs.Tables.{procs-length}
 use Rattle.rows.specs.Rows.{Bytes, Table}
-use Rattle.step.proofs.Deciding.{step-full, step-made, step-still, told-of}
+use Rattle.step.proofs.Deciding.{step-full, step-made, step-still}
 use Rattle.step.proofs.Making.{made-head, made-inside, made-procs, made-tables, made-vars, procs-after, vars-after}
-use Rattle.step.specs.Stepping.{EntrySays, stepIn, SteppedSays, StepSays}
-use Rattle.step.specs.declared.Entry.{Entry}
-use Rattle.step.specs.declared.Entry.the-variants.{In, Out}
+use Rattle.step.specs.Stepping.{stepIn, SteppedSays, StepSays}
 use Rattle.vars.specs.Cells.{Cells}
 
 module _ (lim : Limits) (s : List ℕ) (r c : ℕ) (l : Lent) (i : Inside lim s r c l) (p : ℕ) (h : p < procCount (l .head)) {n m : ℕ} (en : n ≡ procCount (l .head)) (em : m ≡ varCount (l .head))
@@ -87,22 +82,20 @@ module _ (lim : Limits) (s : List ℕ) (r c : ℕ) (l : Lent) (i : Inside lim s 
 -- ---- the call
 
 module _ (lim : Limits) (s : List ℕ) (l : Lent) (p : ℕ) {e : Loaded} (told : EnterSays lim s l e) where
-  pub entry-refused : {f g : Refusal} → e ≡ Refused f → g ≡ refusalOf e → EntrySays (Out g) lim s l p
+  pub step-refused : {f g : Refusal} → e ≡ Refused f → g ≡ refusalOf e → StepSays lim s l p (Unmoved g) (l .head) (l .procs) (l .vars)
   unfolding stepCall
-  entry-refused q eg = rw (told .entry, eg, q)
+  step-refused q eg = record { answer = rw (told .entry, eg, q); head = rw (told .entry, q); procs = rw (told .entry, q); vars = rw (told .entry, q) }
 
-  module _ {r c : ℕ} (q : e ≡ Accepted r c) {n : ℕ} (en : n ≡ procCount (l .head)) where
+  module _ {r c : ℕ} (q : e ≡ Accepted r c) where
     call-is : stepCall lim s l p ≡ stepAnswer (stepIn lim s r c l p) l
     unfolding stepCall
     call-is = rw (told .entry, q)
 
-    -- what asking may count on
-    pub entry-asks : n ≤ 65535 → (n * rowSize ≤ length (l .procs)) × (n ≤ 65535)
-    entry-asks h = (rw en (inside-of lim s l told q .rows), h)
-
     -- 9: there is no such process
-    pub entry-nobody : n ≤ p → {f : Refusal} → f ≡ refusal 9 0 → EntrySays (Out f) lim s l p
-    entry-nobody h ef = call-is ∙ rw ef nobody
+    pub step-nobody : {n : ℕ} → n ≡ procCount (l .head) → n ≤ p → {f : Refusal} → f ≡ refusal 9 0 → StepSays lim s l p (Unmoved f) (l .head) (l .procs) (l .vars)
+    step-nobody en h ef =
+        let k : stepCall lim s l p ≡ record { answer = Unmoved (refusal 9 0); lent = l } = call-is ∙ nobody in
+        record { answer = rw (k, ef); head = rw k; procs = rw k; vars = rw k }
       where
         past : ltb p (procsIn (tablesIn l)) ≡ false
         past = unfold tablesIn in le-ltb p (length (procsOf (l .procs) (procCount (l .head)))) (omega (arith, procs-length (l .procs) (procCount (l .head)), en, h))
@@ -110,16 +103,5 @@ module _ (lim : Limits) (s : List ℕ) (l : Lent) (p : ℕ) {e : Loaded} (told :
         nobody : stepAnswer (stepIn lim s r c l p) l ≡ record { answer = Unmoved (refusal 9 0); lent = l }
         nobody = unfold stepTables in rw past
 
-    pub entry-in : p < n → {t : Told} → (at (procsOf (l .procs) n) p .mode ≡ 3 → Tells (procsOf (l .procs) n) p t) → EntrySays (In r c t) lim s l p
-    entry-in h ask = (call-is, inside-of lim s l told q, rw (← en) h, told-of (l .procs) p (sym en) ask)
-
-module _ (lim : Limits) (s : List ℕ) (l : Lent) (p : ℕ) {e : Entry} (says : EntrySays e lim s l p) where
-  pub step-refused : {f : Refusal} → e ≡ Out f → StepSays lim s l p (Unmoved f) (l .head) (l .procs) (l .vars)
-  step-refused {f} q = let k : EntrySays (Out f) lim s l p = rw q at says in record { answer = rw k; head = rw k; procs = rw k; vars = rw k }
-
-  module _ {r c : ℕ} {t : Told} (q : e ≡ In r c t) where
-    pub step-in : EntrySays (In r c t) lim s l p
-    step-in = rw q at says
-
     pub step-done : {a : Stepped} {h ps vs : List ℕ} → SteppedSays lim s r c l p a h ps vs → StepSays lim s l p a h ps vs
-    step-done d = let k = step-in .0 in record { answer = rw k (d .answer); head = rw k (d .head); procs = rw k (d .procs); vars = rw k (d .vars) }
+    step-done d = record { answer = rw call-is (d .answer); head = rw call-is (d .head); procs = rw call-is (d .procs); vars = rw call-is (d .vars) }

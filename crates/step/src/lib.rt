@@ -1,7 +1,6 @@
 // The step by number: the move of one process, over lent bytes.
 use children::Told;
 use parlog::Loaded;
-use parlog::Refusal;
 use parlog::Stepped;
 use parlog::codes;
 ghost use mathlib.Core.Path.{_≡_};
@@ -12,18 +11,12 @@ ghost use Rattle.entry.specs.Entered.{Inside};
 ghost use Rattle.parlog.specs.Limits.{small};
 ghost use Rattle.parlog.specs.Run.{counted};
 ghost use Rattle.parlog.specs.Tables.{at, lent, procCount, procsOf, rowSize};
-ghost use Rattle.step.specs.Stepping.{EntrySays, StepSays, SteppedSays};
+ghost use Rattle.step.specs.Stepping.{StepSays, SteppedSays};
 
 // The limits of a run.
 const PROCS: usize = codes::MOST_PROCS;
 
 const VARS: usize = codes::MOST_VARS;
-
-// What a step by number begins with: the counts of the program and what its process is told, or the refusal.
-pub enum Entry {
-    Out(Refusal),
-    In(usize, usize, Told),
-}
 
 // One step more; the largest number stays.
 fn count(steps: u32) -> u32
@@ -77,24 +70,6 @@ fn ask(procs: &[u8], n: usize, p: usize) -> Told
     children::nothing()
 }
 
-// The tests of a step by number: the image and the tables, then the number.
-fn entered(image: &[u8], head: &[u8], procs: &[u8], vars: &[u8], p: usize) -> Entry
-    ensures { λ r. ⌜ EntrySays r small (now (image .entry)) (lent (now (head .entry)) (now (procs .entry)) (now (vars .entry))) p ⌝ }
-{
-    let e = entry::enter(image, head, procs, vars);
-    let Loaded::Accepted(rels, clauses) = e else {
-        let r = load::refusal(e);
-        return Entry::Out(r);
-    };
-    let n = head::proc_count(head);
-    if n <= p {
-        let r = entry::refusal(codes::NODE);
-        return Entry::Out(r);
-    }
-    let told = ask(procs, n, p);
-    Entry::In(rels, clauses, told)
-}
-
 // The step by number.
 pub fn step(
     image: &[u8],
@@ -105,12 +80,16 @@ pub fn step(
 ) -> Stepped
     ensures { λ r. ⌜ StepSays small (now (image .entry)) (lent (now (head .entry)) (now (procs .entry)) (now (vars .entry))) process r (now (head .exit)) (now (procs .exit)) (now (vars .exit)) ⌝ }
 {
+    let e = entry::enter(image, head, procs, vars);
+    let Loaded::Accepted(rels, clauses) = e else {
+        let r = load::refusal(e);
+        return Stepped::Unmoved(r);
+    };
     let p = process as usize;
-    let e = entered(image, head, procs, vars, p);
-    match e {
-        Entry::Out(r) => Stepped::Unmoved(r),
-        Entry::In(rels, clauses, told) => {
-            stepped(image, rels, clauses, head, procs, vars, p, told)
-        }
+    let n = head::proc_count(head);
+    if n <= p {
+        return Stepped::Unmoved(entry::refusal(codes::NODE));
     }
+    let told = ask(procs, n, p);
+    stepped(image, rels, clauses, head, procs, vars, p, told)
 }

@@ -8,4 +8,4 @@ unfolding heldBy
 returns c = rw (← (c .before .is-input .ensures)) (c .or .ensures)
 
 pub is-held-spec : {M : Type 1} → statement M
-is-held-spec = tie.close (tie.spec (λ c κs. search needs) (λ c κs. search needs) returns)
+is-held-spec = tie.close (tie.spec (λ c κs. search needs) (λ c κs. tt) returns)

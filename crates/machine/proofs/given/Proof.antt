@@ -1,6 +1,5 @@
 use Rattle.machine.proofs.Giving.{given-free, given-known, given-large}
 use borrow.Author.Tests.{ltb-false, ltb-true}
-use borrow.Author.Needs.{needs}
 use Rattle.machine.proofs.given.Statement.{statement}
 use Rattle.machine.proofs.given.Tie as tie
 
@@ -8,10 +7,10 @@ pub given-spec : {M : Type 1} → statement M
 given-spec =
     tie.close
     (tie.spec
-    (λ c κs. search needs)
-    (λ c κs. search needs)
+    (λ c κs. tt)
+    (λ c κs. tt)
     (λ c. given-large (c .before .before .before .args .t) (c .before .before .before .args .constant) (ltb-true 32767 (c .before .before .before .args .constant) (c .before .if1 .taken)) (c .refusal .ensures))
-    (λ c κs. search needs)
+    (λ c κs. tt)
     (λ c. given-known (c .before .before .before .before .args .t) (c .before .before .before .before .args .constant) (ltb-false 32767 (c .before .before .before .before .args .constant) (c .before .before .if1 .left)) (c .before .before .before .is-const .ensures) (c .before .if2 .taken) (c .refusal2 .ensures))
-    (λ c κs. search needs)
+    (λ c κs. tt)
     (λ c. given-free (c .before .before .before .before .args .t) (c .before .before .before .before .args .constant) (ltb-false 32767 (c .before .before .before .before .args .constant) (c .before .before .if1 .left)) (c .before .before .before .is-const .ensures) (c .before .if2 .left) (c .number-of .ensures)))

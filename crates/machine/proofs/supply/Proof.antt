@@ -8,7 +8,7 @@ pub supply-spec : {M : Type 1} → statement M
 supply-spec =
     tie.close
     (tie.spec
-    (λ c κs. search needs)
+    (λ c κs. tt)
     (λ c. search needs)
     (λ c. search needs)
     (λ c. search needs)

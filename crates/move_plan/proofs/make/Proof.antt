@@ -9,4 +9,4 @@ unfolding appliedOf deltaOf
 returns c = (rw (none-taken (c .no-changes .result) (c .no-changes .ensures)), search needs, (c .no-changes .ensures))
 
 pub make-spec : {M : Type 1} → statement M
-make-spec = tie.close (tie.spec (λ c κs. search needs) returns)
+make-spec = tie.close (tie.spec (λ c κs. tt) returns)

@@ -10,4 +10,4 @@ returns c = (refl, search needs, (c .no-changes .ensures))
 
 pub none-spec : {M : Type 1} → statement M
 none-spec =
-    tie.close (tie.spec (λ c κs. search needs) (λ c κs. search needs) (λ c κs. search needs) returns)
+    tie.close (tie.spec (λ c κs. tt) (λ c κs. search needs) (λ c κs. tt) returns)

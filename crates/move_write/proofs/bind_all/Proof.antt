@@ -26,7 +26,7 @@ bind-all-spec =
     (λ c. (omega arith, bind-start _ _ (c .before .args .t3)))
     (λ c. search needs)
     (λ c. search needs)
-    (λ c κs. search needs)
+    (λ c κs. tt)
     (λ c κs. (search needs, rw (c .before .wide-u32 .ensures) ((c .before .before .before .before .before .before .pre .2) (c .before .before .before .before .loop .i) (c .before .before .before .loop-test .taken) .0), (c .before .before .before .before .before .before .pre .2) (c .before .before .before .before .loop .i) (c .before .before .before .loop-test .taken) .1))
     (λ c. search needs)
     (λ c. search needs)

@@ -10,7 +10,7 @@ sleep-at-spec =
     tie.close
     (tie.spec
     (λ c κs. search needs)
-    (λ c κs. search needs)
+    (λ c κs. tt)
     (λ c κs. search needs)
     (λ c. search needs)
     (λ c. sleep-one _ _ _ (c .before .before .before .before .before .get .ensures) ((c .before .before .before .before .with-mode .ensures) dormant refl) (c .before .before .put .ensures))

@@ -8,7 +8,7 @@ member-spec =
     tie.close
     (tie.spec
     (λ c. search needs)
-    (λ c κs. search needs)
+    (λ c κs. tt)
     (λ c κs. search needs)
     (λ c κs. search needs)
     (λ c. member-is _ _ _ _ (c .before .before .literal-spot .ensures) (c .before .tag-of-literal .ensures .0) (c .new-process .ensures)))

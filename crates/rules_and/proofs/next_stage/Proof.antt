@@ -4,4 +4,4 @@ use Rattle.rules_and.proofs.next_stage.Statement.{statement}
 use Rattle.rules_and.proofs.next_stage.Tie as tie
 
 pub next-stage-spec : {M : Type 1} → statement M
-next-stage-spec = tie.close (tie.spec (λ c. search needs) (λ c κs. search needs) (λ c κs. search needs) (λ c. next-is _ (c .before .at-stage .ensures) (c .with-spot .ensures)))
+next-stage-spec = tie.close (tie.spec (λ c. search needs) (λ c κs. tt) (λ c κs. tt) (λ c. next-is _ (c .before .at-stage .ensures) (c .with-spot .ensures)))

@@ -8,7 +8,7 @@ start-seq-search-spec =
     tie.close
     (tie.spec
     (λ c κs. search needs)
-    (λ c κs. search needs)
+    (λ c κs. tt)
     (λ c. (λ s e. no-block _ s _ _ (c .before .before .blocks2 .ensures .0) (c .before .if1 .taken) (c .report .ensures .0), (c .report .ensures .1), (c .report .ensures .2)))
     (λ c κs. search needs)
     (λ c. (λ s e. first-block _ s _ _ (c .before .before .blocks2 .ensures .0) (c .before .if1 .left) (c .searching .ensures .0) e, (c .searching .ensures .1), (c .searching .ensures .2))))

@@ -1,4 +1,8 @@
-use Rattle.step.proofs.Stepping.{step-done, step-in, step-refused}
+use mathlib.Core.Path.{sym}
+use native.Mathlib.Omega.{arith}
+use Rattle.step.proofs.Deciding.{told-of}
+use Rattle.step.proofs.Stepping.{step-done, step-nobody, step-refused}
+use Rattle.entry.proofs.Entering.{inside-of}
 use borrow.Author.Needs.{needs}
 use Rattle.step.proofs.step.Statement.{statement}
 use Rattle.step.proofs.step.Tie as tie
@@ -7,15 +11,23 @@ pub step-spec : {M : Type 1} → statement M
 step-spec =
     tie.close
     (tie.spec
-    (λ c κs. tt)
+    (λ c κs. search needs)
     (λ c. search needs)
     (λ c. search needs)
-    (λ c κs. let k = step-in _ _ _ _ (c .before .before .before .before .before .before .entered .ensures) (c .before .before .before .before .e2 .given .1) in (k .1, k .2, k .3))
-    (λ c. search needs)
-    (λ c. search needs)
-    (λ c. search needs)
-    (λ c. step-refused _ _ _ _ (c .before .before .before .entered .ensures) (c .before .e .given .1))
+    (λ c κs. search needs)
     (λ c. search needs)
     (λ c. search needs)
     (λ c. search needs)
-    (λ c. step-done _ _ _ _ (c .before .before .before .before .before .before .before .before .before .before .before .before .before .entered .ensures) (c .before .before .before .before .before .before .before .before .before .before .before .e2 .given .1) (c .before .before .before .before .before .before .stepped .ensures)))
+    (λ c. step-refused _ _ _ _ (c .before .before .before .enter .ensures) (c .before .enum-told .given .1) (c .refusal .ensures))
+    (λ c κs. let i = inside-of _ _ _ (c .before .before .before .before .enter .ensures) (c .before .before .e .given .1) in omega (arith, i .head))
+    (λ c κs. search needs)
+    (λ c. search needs)
+    (λ c. search needs)
+    (λ c. search needs)
+    (λ c. step-nobody _ _ _ _ (c .before .before .before .before .before .before .before .enter .ensures) (c .before .before .before .before .before .e .given .1) (c .before .before .proc-count .ensures .0) (c .before .if1 .taken) (c .refusal2 .ensures))
+    (λ c κs. let i = inside-of _ _ _ (c .before .before .before .before .before .before .before .enter .ensures) (c .before .before .before .before .before .e .given .1) in let en = (c .before .before .proc-count .ensures) in (omega (arith, i .rows, en .0), en .1))
+    (λ c κs. let i = inside-of _ _ _ (c .before .before .before .before .before .before .before .before .before .before .before .enter .ensures) (c .before .before .before .before .before .before .before .before .before .e .given .1) in let en = (c .before .before .before .before .before .before .proc-count .ensures .0) in (i, omega (arith, en, (c .before .before .before .before .before .if1 .left)), told-of _ _ (sym en) (c .before .before .before .ask .ensures)))
+    (λ c. search needs)
+    (λ c. search needs)
+    (λ c. search needs)
+    (λ c. step-done _ _ _ _ (c .before .before .before .before .before .before .before .before .before .before .before .before .before .before .before .before .before .before .enter .ensures) (c .before .before .before .before .before .before .before .before .before .before .before .before .before .before .before .before .e .given .1) (c .before .before .before .before .before .before .stepped .ensures)))

@@ -10,8 +10,8 @@ behind-goal-spec =
     (tie.spec
     (λ c κs. search needs)
     (λ c. search needs)
-    (λ c κs. search needs)
-    (λ c κs. search needs)
+    (λ c κs. tt)
+    (λ c κs. tt)
     (λ c. let s = c .before .before .before .before .before .before in goal-stage (programOf (s .args .image .now) (s .args .rels) (s .args .clauses)) (s .args .n) (s .args .z) (s .args .waits) (s .args .t) (c .before .before .before .before .if1 .taken) (c .before .before .before .goal-size .ensures .0) (c .before .or .ensures) (c .choose .ensures))
     (λ c κs. search needs)
     (λ c. search needs)

@@ -15,9 +15,9 @@ cell-ok-spec =
     (λ c. search needs)
     (λ c. search needs)
     (λ c. search needs)
-    (λ c κs. search needs)
-    (λ c κs. search needs)
+    (λ c κs. tt)
+    (λ c κs. tt)
     (λ c. search needs)
-    (λ c κs. search needs)
+    (λ c κs. tt)
     (λ c. let s = c .before .before .before .before .before .before .before .before in
     cell-is (s .args .vars .now) (s .args .n) (s .args .v) (search needs) (c .before .before .wide-u32 .ensures ∙ c .before .before .before .join .ensures) (c .cell-ok .ensures)))

@@ -9,7 +9,7 @@ full-size-spec =
     (tie.spec
     (λ c. search needs)
     (λ c. search needs)
-    (λ c κs. search needs)
-    (λ c κs. search needs)
+    (λ c κs. tt)
+    (λ c κs. tt)
     (λ c. let s = c .before .before .before .before .before in
     size-is (s .args .most) (s .args .cap) (s .args .head .now) (s .args .procs .now) (s .args .vars .now) (c .before .and .ensures) (c .and2 .ensures)))

@@ -9,7 +9,7 @@ goal-in-spec =
     tie.close
     (tie.spec
     (λ c κs. search needs)
-    (λ c κs. search needs)
+    (λ c κs. tt)
     (λ c. let s = c .before .before .before .before .before .before in
     goal-own (programOf (s .args .image .now) (s .args .rels) (s .args .clauses)) (s .args .n) (s .args .z) (c .before .before .before .if1 .taken) (c .before .before .goal-vars .ensures .0) (c .and .ensures))
     (λ c κs. search needs)

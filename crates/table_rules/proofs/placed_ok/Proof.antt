@@ -11,12 +11,12 @@ placed-ok-spec =
     (tie.spec
     (λ c κs. search needs)
     (λ c. let s = c .before .before .before .before in placed-guard (programOf (s .args .image .now) (s .args .rels) (s .args .clauses)) (s .args .n) (s .args .x) (c .before .if1 .taken) (c .clause-in .ensures))
+    (λ c κs. tt)
+    (λ c κs. tt)
+    (λ c κs. tt)
     (λ c κs. search needs)
     (λ c κs. search needs)
-    (λ c κs. search needs)
-    (λ c κs. search needs)
-    (λ c κs. search needs)
-    (λ c κs. search needs)
+    (λ c κs. tt)
     (λ c. let t = c .before .before .before .before in
     let s = t .before .before .before .before .before .before .before .before .before .before in placed-none (programOf (s .args .image .now) (s .args .rels) (s .args .clauses)) (s .args .n) (s .args .x) (t .before .before .before .before .before .before .before .if1 .left) (t .before .before .before .before .or .ensures) (t .before .and .ensures) (t .and2 .ensures) (c .before .before .before .goal-in .ensures) (c .before .before .told-ok .ensures) (c .before .and3 .ensures) (not-true _ (c .if2 .taken)))
     (λ c κs. (c .before .before .before .before .before .before .before .before .before .before .before .before .before .before .before .pre))

@@ -11,7 +11,7 @@ row-ok-spec =
     tie.close
     (tie.spec
     (λ c κs. search needs)
-    (λ c κs. search needs)
+    (λ c κs. tt)
     (λ c. let s = c .before .before .before .before .before in row-own (programOf (s .args .image .now) (s .args .rels) (s .args .clauses)) (procsOf (s .args .procs .now) (s .args .count)) (s .args .n) (s .args .i) (c .before .before .get .ensures) (c .before .own-ok .ensures) (not-true _ (c .if1 .taken)))
     (λ c κs. search needs)
     (λ c. let s = c .before .before .before .before .before .before .before in row-kin (programOf (s .args .image .now) (s .args .rels) (s .args .clauses)) (procsOf (s .args .procs .now) (s .args .count)) (s .args .n) (s .args .i) (c .before .before .before .before .get .ensures) (c .before .before .before .own-ok .ensures) (not-false _ (c .before .before .if1 .left)) (c .before .kin-ok .ensures) (not-true _ (c .if2 .taken)))

@@ -27,7 +27,7 @@ found-in-spec =
     (λ c. (search needs, search needs, search needs, refl))
     (λ c. search needs)
     (λ c. search needs)
-    (λ c κs. search needs)
+    (λ c κs. tt)
     (λ c. search needs)
     (λ c. search needs)
     (λ c. (search needs, search needs, search needs, latest-more _ _ _ (c .before .before .loop-test .taken) (omega arith) _ _ _ (c .newer .ensures) ∙ c .before .before .before .loop .inv .3))

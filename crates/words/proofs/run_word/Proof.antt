@@ -11,7 +11,7 @@ run-word-spec =
     tie.close
     (tie.spec
     (λ c. search needs)
-    (λ c κs. search needs)
+    (λ c κs. tt)
     (λ c. search needs)
     (λ c κs. let h = case-at (c .before .before .a .given .1) RunFits (c .before .before .before .before .pre) in (omega arith, omega arith, omega arith, h))
     (λ c. search needs)
