@@ -39,7 +39,7 @@ uninstall: ## takes these files out again
 	rm -f '$(into)/lib/librissobarm.so' '$(into)/lib/librissobarm.so.$(MAJOR)' '$(into)/lib/librissobarm.so.$(VERSION)'
 	rm -f '$(into)/lib/pkgconfig/rissobarm.pc'
 
-bench: ## measures the archive beside plain C, RUNS times (5); on x86-64 alone
+bench: ## measures the archive beside plain and quick C, RUNS times (5); on x86-64 alone
 	@bench/run $(RUNS)
 
 soak: ## drives archive and reference side by side for MINUTES (20), from SEED where one is given

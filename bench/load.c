@@ -7,23 +7,14 @@
 static struct image image;
 static volatile uint64_t sink;
 
-static double archive(unsigned times)
+static double loads(unsigned side, unsigned times)
 {
+    static uint64_t (*const load_of[TWO_SIDES])(const uint8_t *, size_t) = { rissobarm_load, checker_load };
     double start = now();
     unsigned k;
 
     for (k = 0; k < times; k++)
-        sink = rissobarm_load(image.bytes, image.length);
-    return (now() - start) / times;
-}
-
-static double plain(unsigned times)
-{
-    double start = now();
-    unsigned k;
-
-    for (k = 0; k < times; k++)
-        sink = checker_load(image.bytes, image.length);
+        sink = load_of[side](image.bytes, image.length);
     return (now() - start) / times;
 }
 
@@ -126,14 +117,14 @@ enum { SORTS = sizeof sorts / sizeof sorts[0] };
 /* Each sort at full size; times are told beside those of the first, the largest image that is accepted. */
 static void tell_sorts(void)
 {
-    struct ratio first = { 0, 0, 0, 0, 0 };
+    struct ratio first = { 0, 0, 0, { 0, 0, 0 } };
     unsigned k;
 
     for (k = 0; k < SORTS; k++) {
         struct ratio here;
 
         sorts[k].make(1);
-        here = in_turns(archive, plain);
+        here = in_turns(loads, TWO_SIDES);
         if (k == 0)
             first = here;
         tell("load", sorts[k].name, 0, image.length, &here, &first);
@@ -143,14 +134,14 @@ static void tell_sorts(void)
 /* A sort from a sixteenth of the relations and clauses up; times are told beside those at a sixteenth. */
 static void tell_growth(const struct sort *sort)
 {
-    struct ratio first = { 0, 0, 0, 0, 0 };
+    struct ratio first = { 0, 0, 0, { 0, 0, 0 } };
     unsigned part;
 
     for (part = 16; part >= 1; part /= 2) {
         struct ratio here;
 
         sort->make(part);
-        here = in_turns(archive, plain);
+        here = in_turns(loads, TWO_SIDES);
         if (part == 16)
             first = here;
         tell("load by size", sort->name, 0, image.length, &here, &first);

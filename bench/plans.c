@@ -1,11 +1,46 @@
-/* The plans that are measured. */
+/* The plans that are measured, and what arrives for them. */
 #include "plans.h"
-#include "rissobarm.h"
 
 #include <stdio.h>
 #include <string.h>
 
-int read_plan(struct image *image, const char *path)
+enum { PATH_ROOM = 4096 };
+
+void make_arrivals(struct arrivals *arrivals)
+{
+    unsigned k;
+
+    arrivals->count = RISSOBARM_OWN_LIMIT;
+    arrivals->slice = LIMIT;
+    for (k = 0; k < arrivals->count; k++) {
+        arrivals->variable[k] = k;
+        arrivals->value[k] = 1;
+    }
+}
+
+/* The arrivals of a plan, where there is a file of them beside its image. */
+static void read_arrivals(struct arrivals *arrivals, const char *path)
+{
+    char beside[PATH_ROOM];
+    unsigned variable, value;
+    FILE *file;
+
+    make_arrivals(arrivals);
+    snprintf(beside, sizeof beside, "%.*s.arrivals", (int)(strlen(path) - strlen(".image")), path);
+    file = fopen(beside, "r");
+    if (file == NULL)
+        return;
+    arrivals->slice = SLICE;
+    for (arrivals->count = 0; arrivals->count < RISSOBARM_OWN_LIMIT; arrivals->count++) {
+        if (fscanf(file, "%9u %9u", &variable, &value) != 2)
+            break;
+        arrivals->variable[arrivals->count] = variable;
+        arrivals->value[arrivals->count] = value;
+    }
+    fclose(file);
+}
+
+int read_plan(struct image *image, struct arrivals *arrivals, const char *path)
 {
     FILE *file = fopen(path, "rb");
 
@@ -13,7 +48,22 @@ int read_plan(struct image *image, const char *path)
         return 0;
     image->length = fread(image->bytes, 1, sizeof image->bytes, file);
     fclose(file);
+    read_arrivals(arrivals, path);
     return rissobarm_refusal(rissobarm_load(image->bytes, image->length)) == RISSOBARM_ACCEPTED;
+}
+
+unsigned play(const struct arrivals *arrivals, run_call *run, supply_call *supply)
+{
+    unsigned end = rissobarm_end(run(LIMIT)), next = 0;
+
+    while (end == RISSOBARM_END_BUDGET || (end == RISSOBARM_END_WAITING && next < arrivals->count)) {
+        if (next < arrivals->count &&
+            rissobarm_refusal(supply(arrivals->variable[next], arrivals->value[next])) != RISSOBARM_ACCEPTED)
+            break;
+        next++;
+        end = rissobarm_end(run(arrivals->slice));
+    }
+    return end;
 }
 
 /* Fields of a record, from its kind on. */

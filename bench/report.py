@@ -1,7 +1,8 @@
 #!/usr/bin/env python3
 """Tables and plot of measured ratios: report.py RESULTS.csv PLOT.svg PAGE.. writes the plot and sets the tables into the pages.
 
-A page has the lines <!-- measured: NAME --> and <!-- end -->, with NAME as summary or tables; what stands between them is replaced.
+A ratio is that of the archive to the plain C, which the targets are about, or to the quick C where that is said.
+A page has the lines <!-- measured: NAME --> and <!-- end -->, with NAME as summary, tables or missed; what stands between them is replaced.
 A ratio is told as its median over the runs, and in brackets the least and the greatest of a run."""
 import csv
 import math
@@ -24,13 +25,20 @@ def middle(lines, column="ratio"):
     return statistics.median(float(line[column]) for line in lines)
 
 
-def ends(lines):
-    ratios = [float(line["ratio"]) for line in lines]
+def ends(lines, column="ratio"):
+    ratios = [float(line[column]) for line in lines]
     return min(ratios), max(ratios)
 
 
-def spread(lines):
-    return "%.2f (%.2f to %.2f)" % (middle(lines), *ends(lines))
+def has_quick(lines):
+    """Whether the quick C was timed too."""
+    return all(line.get("to_quick") for line in lines)
+
+
+def spread(lines, column="ratio"):
+    if column == "to_quick" and not has_quick(lines):
+        return "-"
+    return "%.2f (%.2f to %.2f)" % (middle(lines, column), *ends(lines, column))
 
 
 # ---- tables
@@ -68,24 +76,41 @@ def load_tables(found):
 
 
 def run_table(found):
-    yield from table("Run of a whole plan", ["Plan", "Bytes", "Rows at the end", "Ratio"],
-                     [[key[1], number(key[3]), str(key[2]), spread(lines)] for key, lines in chosen(found, "run")])
+    yield from table("Run of a whole plan", ["Plan", "Bytes", "Rows at the end", "Ratio", "To quick C"],
+                     [[key[1], number(key[3]), str(key[2]), spread(lines), spread(lines, "to_quick")]
+                      for key, lines in chosen(found, "run")])
 
 
-def grid_table(found, what, title):
-    """Ratios by rows in use, with a column for each image size."""
-    keys = [key for key, _ in chosen(found, what)]
+def woken_table(found):
+    """What a woken call takes in nanoseconds, where it was measured."""
+    rows = [[key[1], *("{:,.0f}".format(middle(lines, side)) for side in ("archive", "plain", "quick")),
+             spread(lines), spread(lines, "to_quick")] for key, lines in chosen(found, "woken call")]
+    if rows:
+        yield from table("A woken call of the plan of records, in nanoseconds, its share of supplies and run calls counted in",
+                         ["Counted", "Archive", "Plain C", "Quick C", "Ratio", "To quick C"], rows)
+
+
+def grid_table(found, what, title, column="ratio"):
+    """Ratios by rows in use, with a column for each image size; none where the quick C is asked for and was not timed."""
+    keys = [key for key, lines in chosen(found, what) if column == "ratio" or has_quick(lines)]
     sizes = sorted({key[3] for key in keys})
-    yield from table(title, ["Rows"] + [number(size) + " bytes" for size in sizes],
-                     [[str(rows)] + [spread(found[what, "calls", rows, size]) for size in sizes]
-                      for rows in sorted({key[2] for key in keys})])
+    if keys:
+        yield from table(title, ["Rows"] + [number(size) + " bytes" for size in sizes],
+                         [[str(rows)] + [spread(found[what, "calls", rows, size], column) for size in sizes]
+                          for rows in sorted({key[2] for key in keys})])
+
+
+def multiples(lines):
+    """How many times as long each side takes as at the first size: archive, plain C and, where it was timed, quick C."""
+    sides = ("archive", "plain", "quick") if has_quick(lines) else ("archive", "plain")
+    return ["%.1f" % middle(lines, side) for side in sides]
 
 
 def report_table(found):
     """A report by rows in use, all but two of them below it."""
-    yield from table("A report with all rows but two below it, each below the one before; times as multiples of those at 128 rows",
-                     ["Rows", "Ratio", "Archive", "Plain C"],
-                     [[str(key[2]), spread(lines), "%.1f" % middle(lines, "archive"), "%.1f" % middle(lines, "plain")]
+    yield from table("A report with all rows but two below it, each below the one before; times as multiples of those at 128 rows: "
+                     "archive, plain C, quick C", ["Rows", "Ratio", "To quick C", "Times"],
+                     [[str(key[2]), spread(lines), spread(lines, "to_quick"), ", ".join(multiples(lines))]
                       for key, lines in chosen(found, "report")])
 
 
@@ -94,10 +119,9 @@ def growth_table(found):
     keys = [key for key, _ in chosen(found, "step")]
     sizes = sorted({key[3] for key in keys})
     columns = [(what, size) for what in ("step", "call without a step") for size in (sizes[0], sizes[-1])]
-    yield from table("Times as multiples of those at 16 rows: archive, plain C",
+    yield from table("Times as multiples of those at 16 rows: archive, plain C, and of a step quick C",
                      ["Rows"] + ["%s, %s bytes" % (what, number(size)) for what, size in columns],
-                     [[str(rows)] + ["%.1f, %.1f" % tuple(middle(found[what, "calls", rows, size], side)
-                                                          for side in ("archive", "plain")) for what, size in columns]
+                     [[str(rows)] + [", ".join(multiples(found[what, "calls", rows, size])) for what, size in columns]
                       for rows in sorted({key[2] for key in keys})])
 
 
@@ -106,31 +130,63 @@ def tables(found):
     yield ""
     yield from load_tables(found)
     yield from run_table(found)
+    yield from woken_table(found)
     yield from grid_table(found, "step", "A step, by rows in use and image size")
+    yield from grid_table(found, "step", "A step to that of the quick C, by rows in use and image size", "to_quick")
     yield from grid_table(found, "call without a step", "A call without a step, by rows in use and image size")
     yield from grid_table(found, "supply", "A supply, by rows in use and image size")
     yield from growth_table(found)
     yield from report_table(found)
 
 
+TARGETS = {"load": 1.5, "run": 2.0, "step": 2.0, "report": 2.0, "call without a step": 2.0, "supply": None}
+
+
+def quick_range(cases):
+    """The least and the greatest median of the archive to the quick C."""
+    ratios = [middle(lines, "to_quick") for _, lines in cases if has_quick(lines)]
+    return "%.2f to %.2f" % (min(ratios), max(ratios)) if ratios else "-"
+
+
 def summary(found):
     """For each thing measured the least and the greatest median, the case of the greatest, and how many miss the target."""
     rows = []
-    for what, target in (("load", 1.5), ("run", 2.0), ("step", 2.0), ("report", 2.0), ("call without a step", 2.0), ("supply", None)):
-        cases = sorted((middle(lines), key) for key, lines in chosen(found, what))
+    for what, target in TARGETS.items():
+        measured = chosen(found, what)
+        cases = sorted((middle(lines), key) for key, lines in measured)
         ratio, (_, which, used, size) = cases[-1]
         case = "%s, %s bytes" % ("%d rows" % used if used and what != "run" else which, number(size))
         missed = sum(ratio > target for ratio, _ in cases) if target else None
         rows.append([what, "%.1f" % target if target else "none", "%.2f" % cases[0][0], "%.2f (%s)" % (ratio, case),
-                     "%d of %d" % (missed, len(cases)) if target else "-"])
-    yield from table("", ["What", "Target", "Least ratio", "Greatest ratio", "Over the target"], rows)
+                     "%d of %d" % (missed, len(cases)) if target else "-", quick_range(measured)])
+    yield from table("", ["What", "Target", "Least ratio", "Greatest ratio", "Over the target", "To quick C"], rows)
 
 
-def set_into(page, found):
-    """Sets what was measured between the marks of a page."""
+def over(found, what, target):
+    """The cases over a target: plans and images by name, the others by image size, with the fewest and the most rows."""
+    told = []
+    if what in ("load", "run"):
+        return ["%s %.2f" % (key[1], middle(lines)) for key, lines in chosen(found, what) if middle(lines) > target]
+    for size in sorted({key[3] for key, _ in chosen(found, what)}):
+        cases = [(key[2], middle(lines) > target) for key, lines in chosen(found, what) if key[3] == size]
+        rows = [used for used, missed in cases if missed]
+        if rows:
+            told.append("%s bytes at %d of %d (%d to %d rows)" % (number(size), len(rows), len(cases), min(rows), max(rows)))
+    return told
+
+
+def missed(found):
+    """What is over its target."""
+    yield from table("", ["What", "Target", "Over it"],
+                     [[what, "%.1f" % target, "; ".join(over(found, what, target)) or "none"]
+                      for what, target in TARGETS.items() if target])
+
+
+def set_into(page, blocks):
+    """Sets what was measured between the marks of a page, by their names."""
     with open(page) as file:
         words = file.read()
-    for name, lines in (("summary", summary(found)), ("tables", tables(found))):
+    for name, lines in blocks.items():
         inside = "<!-- measured: %s -->\n\n" % name + "\n".join(lines) + "\n<!-- end -->"
         words = re.sub("<!-- measured: %s -->.*?<!-- end -->" % name, lambda _: inside, words, flags=re.S)
     with open(page, "w") as file:
@@ -139,10 +195,11 @@ def set_into(page, found):
 
 # ---- plot
 
-WIDE, HIGH, TOP, LOW, HIGHEST = 230, 210, 82, 0.5, 64
+WIDE, HIGH, TOP, LOW, HIGHEST = 230, 210, 82, 0.5, 128
 
 STYLE = """
   text { font: 12px sans-serif; fill: #1f2328 } .name { font-weight: bold; font-size: 13px }
+  .quick { stroke-dasharray: 3 3 }
   .page { fill: #ffffff } .grid { stroke: #d1d9e0 } .axis { stroke: #59636e; fill: none } .goal { stroke: #59636e; stroke-dasharray: 5 4 }
   .s0 { stroke: #0072b2; fill: #0072b2 } .s1 { stroke: #c65102; fill: #c65102 }
   .s2 { stroke: #00785a; fill: #00785a } .s3 { stroke: #a0468c; fill: #a0468c } polyline { fill: none !important; stroke-width: 2 }
@@ -174,7 +231,7 @@ def height(ratio):
 def axes(left, name, along, place, ticks, goal):
     """The frame of one plot: ratios upward, what it is measured by along, and the ratio that is aimed at."""
     yield text(left, 20, name, 'class="name"')
-    for ratio in (0.5, 1, 2, 4, 8, 16, 32, 64):
+    for ratio in (LOW * 2 ** k for k in range(round(math.log2(HIGHEST / LOW)) + 1)):
         yield stroke("grid", left, height(ratio), left + WIDE, height(ratio))
         yield text(left - 7, height(ratio) + 4, "%g" % ratio, 'text-anchor="end"')
     for tick in ticks:
@@ -187,18 +244,25 @@ def axes(left, name, along, place, ticks, goal):
     yield text(left + WIDE - 2, height(goal) + (-5 if goal == 2 else 14), "target %.1f" % goal, 'text-anchor="end"')
 
 
+def curve(left, kind, place, points, column="ratio"):
+    """The median for each place."""
+    yield '<polyline class="%s" points="%s"/>' % (
+        kind, " ".join("%.1f,%.1f" % (left + WIDE * place(at), height(middle(lines, column))) for at, lines in points))
+
+
 def series(left, index, name, place, points):
-    """One line: its name above the plot, and for each place the median with the range of the runs."""
+    """One line: its name above the plot, and for each place the median with the range of the runs; dashed, that to the quick C."""
     kind, x, y = "s%d" % index, left + index % 2 * 112, 42 + index // 2 * 20
     yield '<polyline class="%s" points="%d,%d %d,%d"/>' % (kind, x, y - 4, x + 18, y - 4)
     yield text(x + 24, y, name)
-    shown = [(left + WIDE * place(at), lines) for at, lines in points]
-    yield '<polyline class="%s" points="%s"/>' % (
-        kind, " ".join("%.1f,%.1f" % (at, height(middle(lines))) for at, lines in shown))
-    for at, lines in shown:
+    yield from curve(left, kind, place, points)
+    for at, lines in points:
+        x = left + WIDE * place(at)
         least, most = ends(lines)
-        yield stroke(kind, at, height(least), at, height(most))
-        yield '<circle class="%s" cx="%.1f" cy="%.1f" r="2.5"/>' % (kind, at, height(middle(lines)))
+        yield stroke(kind, x, height(least), x, height(most))
+        yield '<circle class="%s" cx="%.1f" cy="%.1f" r="2.5"/>' % (kind, x, height(middle(lines)))
+    if all(has_quick(lines) for _, lines in points):
+        yield from curve(left, kind + " quick", place, points, "to_quick")
 
 
 def by_rows(found, left, what, name):
@@ -223,7 +287,7 @@ def plot(found):
     yield "<title>Time of the archive over that of plain C</title><style>%s\n</style>" % STYLE
     yield '<rect class="page" width="905" height="345"/>'
     yield text(0, 0, "archive / plain C", 'transform="translate(16 %d) rotate(-90)" text-anchor="middle"' % (TOP + HIGH / 2))
-    yield from by_rows(found, 55, "step", "A step, by image size")
+    yield from by_rows(found, 55, "step", "A step (dashed: to quick C)")
     yield from by_rows(found, 350, "call without a step", "Call without a step, by image size")
     yield from by_size(found, 645)
     yield "</svg>"
@@ -235,7 +299,8 @@ def main(results, picture, *pages):
     with open(picture, "w") as file:
         file.write("\n".join(plot(found)) + "\n")
     for page in pages:
-        set_into(page, found)
+        set_into(page, {"summary": summary(found), "tables": tables(found), "missed": missed(found)})
 
 
-main(*sys.argv[1:])
+if __name__ == "__main__":
+    main(*sys.argv[1:])

@@ -1,10 +1,10 @@
 /*
- * The archive's load, run and supply beside the plain C ones: the same answers and the same bytes in every call, on random images
- * and plans, and on the plans that are measured, which must also end as they should.
+ * The archive's load, run and supply beside those of the plain C and of the quick C: the same answers and the same bytes in every
+ * call, on random images and plans, and on the plans that are measured, which must also end as they should.
  */
 #include "checker.h"
-#include "machine.h"
 #include "plans.h"
+#include "sides.h"
 #include "tables.h"
 
 #include <stdio.h>
@@ -13,39 +13,46 @@
 enum { IMAGES = 120000, SMALL_PLANS = 20000, WHOLE_IMAGES = 4000 };
 
 static struct image image;
-static struct tables ours, theirs; /* of the archive, of the plain C */
+static struct arrivals arrivals;
+static struct tables ours, theirs; /* of the archive, of another side */
 static unsigned runs, supplies, refused, differences;
 
-/* Notes what both answered and left. */
-static uint64_t seen(uint64_t a, uint64_t b)
+/* Notes whether a side answered and left the same as the archive. */
+static void compare_side(uint64_t answer, uint64_t other)
 {
-    refused += rissobarm_refusal(a) != RISSOBARM_ACCEPTED;
-    differences += a != b || memcmp(&ours, &theirs, sizeof ours) != 0;
-    return a;
+    differences += answer != other || memcmp(&ours, &theirs, sizeof ours) != 0;
 }
 
-/* Both run from the same tables. */
-static uint64_t both_run(unsigned limit)
+/* All sides run from the same tables; what the archive answers. */
+static uint64_t all_run(unsigned limit)
 {
-    uint64_t a, b;
+    const struct tables before = ours;
+    uint64_t answer = rissobarm_run(IMAGE, TABLES(&ours), (uint16_t)limit);
+    unsigned side;
 
-    theirs = ours;
     runs++;
-    a = rissobarm_run(IMAGE, TABLES(&ours), (uint16_t)limit);
-    b = machine_run(IMAGE, TABLES(&theirs), (uint16_t)limit);
-    return seen(a, b);
+    refused += rissobarm_refusal(answer) != RISSOBARM_ACCEPTED;
+    for (side = PLAIN; side < ALL_SIDES; side++) {
+        theirs = before;
+        compare_side(answer, run_of[side](IMAGE, TABLES(&theirs), (uint16_t)limit));
+    }
+    return answer;
 }
 
-/* Both supply a value to the same tables. */
-static uint64_t both_supply(uint32_t variable, uint32_t value)
+/* All sides supply a value to the same tables; what the archive answers. */
+static uint64_t all_supply(uint32_t variable, uint32_t value)
 {
-    uint64_t a, b;
+    const struct tables before = ours;
+    uint64_t answer = rissobarm_supply(IMAGE, TABLES(&ours), variable, value);
+    unsigned side;
 
-    theirs = ours;
     supplies++;
-    a = rissobarm_supply(IMAGE, TABLES(&ours), variable, value);
-    b = machine_supply(IMAGE, TABLES(&theirs), variable, value);
-    return seen(a, b);
+    refused += rissobarm_refusal(answer) != RISSOBARM_ACCEPTED;
+    for (side = PLAIN; side < ALL_SIDES; side++) {
+        theirs = before;
+        compare_side(answer, supply_of[side](IMAGE, TABLES(&theirs), variable, value));
+    }
+    return answer;
 }
 
 /* A random supply; now and then of a value that is too large, or for no variable. */
@@ -55,7 +62,7 @@ static void supply_any(struct random *random)
 
     if (random_once(random, 16))
         value += RISSOBARM_CONSTANT_LIMIT;
-    both_supply(variable, value);
+    all_supply(variable, value);
 }
 
 /* Sets one byte of the first ones to a number below the top. */
@@ -85,7 +92,7 @@ static void compare(struct random *random)
     if (rissobarm_refusal(rissobarm_start(IMAGE, TABLES(&ours))) != RISSOBARM_ACCEPTED)
         return;
     for (slices = 0; slices < most; slices++) {
-        end = rissobarm_end(both_run(random_once(random, 4) ? (unsigned)LIMIT : random_below(random, 40)));
+        end = rissobarm_end(all_run(random_once(random, 4) ? (unsigned)LIMIT : random_below(random, 40)));
         if (end == RISSOBARM_END_ROOM || end == RISSOBARM_END_SUCCESS || end == RISSOBARM_END_FAILURE)
             break;
         if (end == RISSOBARM_END_WAITING || random_once(random, 3))
@@ -99,7 +106,7 @@ static void compare(struct random *random)
         if (random_once(random, 6))
             damage(random, ours.head, sizeof ours.head, 20);
         supply_any(random);
-        both_run(random_below(random, 40));
+        all_run(random_below(random, 40));
     }
 }
 
@@ -182,7 +189,7 @@ static unsigned loads_differ(void)
     return differ;
 }
 
-/* Both runs and supplies on random plans. */
+/* Runs and supplies of all sides on random plans. */
 static unsigned runs_differ(void)
 {
     struct random random = { 90210 };
@@ -199,18 +206,6 @@ static unsigned runs_differ(void)
     printf("run and supply: %u runs and %u supplies on %d plans, %u of them refused, %u differences\n", runs, supplies,
            SMALL_PLANS + WHOLE_IMAGES, refused, differences);
     return differences;
-}
-
-/* Both play the plan at hand as it is measured: each time it waits the next goal variable is supplied as 1. */
-static unsigned play(void)
-{
-    unsigned end, calls = 0;
-
-    differences += rissobarm_refusal(rissobarm_start(IMAGE, TABLES(&ours))) != RISSOBARM_ACCEPTED;
-    do
-        end = rissobarm_end(both_run(LIMIT));
-    while (end == RISSOBARM_END_WAITING && rissobarm_refusal(both_supply(calls++, 1)) == RISSOBARM_ACCEPTED);
-    return end;
 }
 
 /* Whether every process from 2 on sleeps. */
@@ -233,7 +228,7 @@ static int chain_bad(struct random *random, unsigned rows, unsigned some)
     for (k = 3; k < rows; k++)
         if (random_once(random, some))
             ours.procs[RISSOBARM_PROCESS_ROW * k + RISSOBARM_ROW_MODE] = RISSOBARM_MODE_DORMANT;
-    return rissobarm_steps(both_run(1)) != 1 || !all_asleep();
+    return rissobarm_steps(all_run(1)) != 1 || !all_asleep();
 }
 
 /* Chains of every length, with more and more rows that sleep already. */
@@ -250,7 +245,7 @@ static int chains_bad(void)
     return bad != 0 || differences != before;
 }
 
-/* The plan at hand, under a name; 0 where both sides do the same and it ends as it should. */
+/* All play the plan at hand as it is measured, under a name; 0 where they do the same and it ends as it should. */
 static int plan_bad(const char *name, unsigned expected)
 {
     static const char *const ends[RISSOBARM_END_COUNT + 1] = {
@@ -261,9 +256,12 @@ static int plan_bad(const char *name, unsigned expected)
         [RISSOBARM_END_ROOM] = "no room",
         [RISSOBARM_END_BUDGET] = "the budget used up",
     };
-    unsigned before = differences, end = play();
+    unsigned before = differences, calls = runs, end;
 
-    printf("%s: ends in %s, %u rows, %u differences\n", name, ends[end], processes(&ours), differences - before);
+    differences += rissobarm_refusal(rissobarm_start(IMAGE, TABLES(&ours))) != RISSOBARM_ACCEPTED;
+    end = play(&arrivals, all_run, all_supply);
+    printf("%s: ends in %s, %u run calls, %u rows, %u differences\n", name, ends[end], runs - calls, processes(&ours),
+           differences - before);
     if (end != expected)
         printf("%s: should end in %s\n", name, ends[expected]);
     return end != expected || differences != before;
@@ -276,15 +274,18 @@ static int plans_bad(const char *folder)
         const char *name;
         unsigned end;
     } plans[] = {
-        { "calls", RISSOBARM_END_ROOM }, { "wide", RISSOBARM_END_SUCCESS }, { "guards", RISSOBARM_END_SUCCESS }
+        { "calls", RISSOBARM_END_ROOM },
+        { "wide", RISSOBARM_END_SUCCESS },
+        { "guards", RISSOBARM_END_SUCCESS },
+        { "records", RISSOBARM_END_SUCCESS }
     };
     char path[4096];
     unsigned k;
     int bad = 0;
 
-    for (k = 0; k < 3; k++) {
+    for (k = 0; k < sizeof plans / sizeof plans[0]; k++) {
         snprintf(path, sizeof path, "%s/%s.image", folder, plans[k].name);
-        if (read_plan(&image, path)) {
+        if (read_plan(&image, &arrivals, path)) {
             bad |= plan_bad(plans[k].name, plans[k].end);
         } else {
             printf("%s: no image, or a refused one\n", path);
@@ -292,6 +293,7 @@ static int plans_bad(const char *folder)
         }
     }
     make_calls(&image, 1);
+    make_arrivals(&arrivals);
     return bad | plan_bad("calls in a large image", RISSOBARM_END_ROOM);
 }
 
@@ -302,7 +304,7 @@ int main(int count, char **words)
 
     differ += runs_differ();
     if (plans_bad(count > 1 ? words[1] : "build/bench") | chains_bad() || differ != 0) {
-        fprintf(stderr, "same: archive and plain C are not the same, or a plan does not end as it should\n");
+        fprintf(stderr, "same: archive, plain C and quick C are not the same, or a plan does not end as it should\n");
         return 1;
     }
     return 0;

@@ -1,5 +1,4 @@
-/* The archive's run and supply beside the plain C ones, as ratios: whole plans, then calls by rows in use and by image size. */
-#include "machine.h"
+/* The archive's run and supply beside those in C, as ratios: whole plans, then calls by rows in use and by image size. */
 #include "plans.h"
 #include "tables.h"
 #include "times.h"
@@ -7,60 +6,52 @@
 #include <stdio.h>
 #include <string.h>
 
-enum { STRIDE = 64 };
-
-typedef uint64_t runner(const uint8_t *image, size_t image_len, uint8_t *head, size_t head_len, uint8_t *procs,
-                        size_t procs_len, uint8_t *vars, size_t vars_len, uint16_t limit);
+/* Steps of a call that is timed, and calls between two looks at the clock. */
+enum { STRIDE = 64, BLOCK = 16 };
 
 static struct image image;
+static struct arrivals arrivals;
 static struct tables from, ours; /* what each call starts from, what it is lent */
 static volatile uint64_t sink;
 
 /* ---- whole plans ---- */
 
-/* Runs to the end; each time it waits the next goal variable is supplied as 1, outside the clock. */
-static double play(runner *run)
+static unsigned player; /* the side that plays */
+static double spent;
+
+/* The run calls of the side are timed, what is supplied between them is not. */
+static uint64_t timed_run(unsigned limit)
 {
-    double spent = 0;
-    unsigned calls = 0;
-    uint64_t answer;
+    double start = now();
+    uint64_t answer = run_of[player](IMAGE, TABLES(&ours), (uint16_t)limit);
 
-    sink = rissobarm_start(IMAGE, TABLES(&ours));
-    do {
-        double start = now();
-
-        answer = run(IMAGE, TABLES(&ours), LIMIT);
-        spent += now() - start;
-    } while (rissobarm_end(answer) == RISSOBARM_END_WAITING &&
-             rissobarm_refusal(rissobarm_supply(IMAGE, TABLES(&ours), calls++, 1)) == RISSOBARM_ACCEPTED);
-    return spent;
+    spent += now() - start;
+    return answer;
 }
 
-static double plays(runner *run, unsigned times)
+static uint64_t supply(uint32_t variable, uint32_t value)
 {
-    double spent = 0;
+    return rissobarm_supply(IMAGE, TABLES(&ours), variable, value);
+}
+
+static double plays(unsigned side, unsigned times)
+{
     unsigned k;
 
-    for (k = 0; k < times; k++)
-        spent += play(run);
+    player = side;
+    spent = 0;
+    for (k = 0; k < times; k++) {
+        sink = rissobarm_start(IMAGE, TABLES(&ours));
+        sink = play(&arrivals, timed_run, supply);
+    }
     return spent / times;
-}
-
-static double archive_plays(unsigned times)
-{
-    return plays(rissobarm_run, times);
-}
-
-static double plain_plays(unsigned times)
-{
-    return plays(machine_run, times);
 }
 
 /* The plan at hand, under a name. */
 static void tell_plan(const char *name, int length)
 {
     char shown[40];
-    struct ratio here = in_turns(archive_plays, plain_plays);
+    struct ratio here = in_turns(plays, ALL_SIDES);
 
     snprintf(shown, sizeof shown, "%.*s", length, name);
     tell("run", shown, processes(&ours), image.length, &here, &here);
@@ -71,7 +62,7 @@ static int tell_file(const char *path)
 {
     const char *name = strrchr(path, '/') == NULL ? path : strrchr(path, '/') + 1;
 
-    if (!read_plan(&image, path))
+    if (!read_plan(&image, &arrivals, path))
         return 0;
     tell_plan(name, (int)strcspn(name, "."));
     return 1;
@@ -79,89 +70,61 @@ static int tell_file(const char *path)
 
 /* ---- a call without a step: image and tables tested, one search for whose turn it is ---- */
 
-static double archive_call(unsigned times)
+static double calls(unsigned side, unsigned times)
 {
     double start = now();
     unsigned k;
 
     for (k = 0; k < times; k++)
-        sink = rissobarm_run(IMAGE, TABLES(&from), 0);
-    return (now() - start) / times;
-}
-
-static double plain_call(unsigned times)
-{
-    double start = now();
-    unsigned k;
-
-    for (k = 0; k < times; k++)
-        sink = machine_run(IMAGE, TABLES(&from), 0);
+        sink = run_of[side](IMAGE, TABLES(&from), 0);
     return (now() - start) / times;
 }
 
 /* ---- a step: a call of some steps less one of none, both from the same tables; a report is one step ---- */
 
-static double once(runner *run, unsigned limit)
+/* A block of calls. */
+static double block(unsigned side, unsigned limit)
 {
-    double start;
+    double start = now();
+    unsigned k;
 
-    ours = from;
-    start = now();
-    sink = run(IMAGE, TABLES(&ours), (uint16_t)limit);
+    for (k = 0; k < BLOCK; k++) {
+        ours = from;
+        sink = run_of[side](IMAGE, TABLES(&ours), (uint16_t)limit);
+    }
     return now() - start;
 }
 
-static double steps(runner *run, unsigned stride, unsigned times)
+/* Blocks with steps and blocks without take turns, so that a change of the processor's pace meets both. */
+static double blocks(unsigned side, unsigned stride, unsigned times)
 {
-    double spent = 0;
-    unsigned k;
+    unsigned count = times / BLOCK + 1, k;
 
-    for (k = 0; k < times; k++)
-        spent += once(run, stride) - once(run, 0);
-    return spent / times / stride;
+    spent = 0;
+    for (k = 0; k < count; k++)
+        spent += block(side, stride) - block(side, 0);
+    return spent / count / BLOCK / stride;
 }
 
-static double archive_step(unsigned times)
+static double steps(unsigned side, unsigned times)
 {
-    return steps(rissobarm_run, STRIDE, times);
+    return blocks(side, STRIDE, times);
 }
 
-static double plain_step(unsigned times)
+static double reports(unsigned side, unsigned times)
 {
-    return steps(machine_run, STRIDE, times);
-}
-
-static double archive_report(unsigned times)
-{
-    return steps(rissobarm_run, 1, times);
-}
-
-static double plain_report(unsigned times)
-{
-    return steps(machine_run, 1, times);
+    return blocks(side, 1, times);
 }
 
 /* ---- a supply: image and tables tested, one variable bound, and unbound again for the next ---- */
 
-static double archive_supply(unsigned times)
+static double supplies(unsigned side, unsigned times)
 {
     double start = now();
     unsigned k;
 
     for (k = 0; k < times; k++) {
-        sink = rissobarm_supply(IMAGE, TABLES(&from), 0, 1);
-        memset(from.vars, 0, RISSOBARM_VARIABLE_ROW);
-    }
-    return (now() - start) / times;
-}
-
-static double plain_supply(unsigned times)
-{
-    double start = now();
-    unsigned k;
-
-    for (k = 0; k < times; k++) {
-        sink = machine_supply(IMAGE, TABLES(&from), 0, 1);
+        sink = supply_of[side](IMAGE, TABLES(&from), 0, 1);
         memset(from.vars, 0, RISSOBARM_VARIABLE_ROW);
     }
     return (now() - start) / times;
@@ -180,14 +143,15 @@ static int fill(unsigned rows)
     return rissobarm_steps(rissobarm_run(IMAGE, TABLES(&ours), STRIDE)) == STRIDE;
 }
 
-/* What is measured of a call. */
+/* What is measured of a call, and of how many sides. */
 static const struct sort {
     const char *name;
-    work *archive, *plain;
+    work *work;
+    unsigned sides;
 } sorts[] = {
-    { "step", archive_step, plain_step },
-    { "call without a step", archive_call, plain_call },
-    { "supply", archive_supply, plain_supply }
+    { "step", steps, ALL_SIDES },
+    { "call without a step", calls, TWO_SIDES },
+    { "supply", supplies, TWO_SIDES }
 };
 
 /* Times are told beside those at the fewest rows of the same image. */
@@ -201,7 +165,7 @@ static int tell_calls(unsigned part)
         if (!fill(rows))
             return 0;
         for (k = 0; k < 3; k++) {
-            here = in_turns(sorts[k].archive, sorts[k].plain);
+            here = in_turns(sorts[k].work, sorts[k].sides);
             if (rows == 16)
                 first[k] = here;
             tell(sorts[k].name, "calls", rows, image.length, &here, &first[k]);
@@ -222,7 +186,7 @@ static int tell_chains(void)
         ours = from;
         if (rissobarm_steps(rissobarm_run(IMAGE, TABLES(&ours), 1)) != 1)
             return 0;
-        here = in_turns(archive_report, plain_report);
+        here = in_turns(reports, ALL_SIDES);
         if (rows == 128)
             first = here;
         tell("report", "chain", rows, image.length, &here, &first);
@@ -239,6 +203,7 @@ int main(int count, char **words)
         if (!tell_file(words[k]))
             return 1;
     make_calls(&image, 1);
+    make_arrivals(&arrivals);
     tell_plan("calls in a large image", LIMIT);
     return !(tell_chains() && tell_calls(ALONE) && tell_calls(16) && tell_calls(4) && tell_calls(1));
 }

@@ -1,4 +1,4 @@
-/* Times of two sides in turns, told as ratios. */
+/* Times of the sides in turns, told as ratios. */
 #define _POSIX_C_SOURCE 199309L
 #include "times.h"
 
@@ -30,37 +30,45 @@ static double median(double *times)
 }
 
 /* How many times make a round; the first ones also warm the caches. */
-static unsigned enough(work *side)
+static unsigned enough(work *thing, unsigned side)
 {
     double start = now(), once;
 
-    side(8);
+    thing(side, 8);
     once = (now() - start) / 8;
     return once > ROUND_NS ? 1 : (unsigned)(ROUND_NS / once) + 1;
 }
 
-struct ratio in_turns(work *archive, work *plain)
+struct ratio in_turns(work *thing, unsigned sides)
 {
-    struct ratio r = { 0, 1e300, 0, 0, 0 };
-    double a[ROUNDS], p[ROUNDS], ratio;
-    unsigned of_a = enough(archive), of_p = enough(plain), k;
+    struct ratio r = { 0, 1e300, 0, { 0, 0, 0 } };
+    double spent[ALL_SIDES][ROUNDS], ratio;
+    unsigned times[ALL_SIDES], side, k;
 
+    for (side = 0; side < sides; side++)
+        times[side] = enough(thing, side);
     for (k = 0; k < ROUNDS; k++) {
-        a[k] = archive(of_a);
-        p[k] = plain(of_p);
-        ratio = a[k] / p[k];
+        for (side = 0; side < sides; side++)
+            spent[side][k] = thing(side, times[side]);
+        ratio = spent[ARCHIVE][k] / spent[PLAIN][k];
         r.least = ratio < r.least ? ratio : r.least;
         r.most = ratio > r.most ? ratio : r.most;
     }
-    r.archive = median(a);
-    r.plain = median(p);
-    r.ratio = r.archive / r.plain;
+    for (side = 0; side < sides; side++)
+        r.median[side] = median(spent[side]);
+    r.ratio = r.median[ARCHIVE] / r.median[PLAIN];
     return r;
 }
 
 void tell(const char *what, const char *which, unsigned rows, size_t bytes, const struct ratio *here,
           const struct ratio *beside)
 {
-    printf("%s,%s,%u,%zu,%.3f,%.3f,%.3f,%.3f,%.3f\n", what, which, rows, bytes, here->ratio, here->least, here->most,
-           here->archive / beside->archive, here->plain / beside->plain);
+    const double *of = here->median, *first = beside->median;
+
+    printf("%s,%s,%u,%zu,%.3f,%.3f,%.3f,%.3f,%.3f,", what, which, rows, bytes, here->ratio, here->least, here->most,
+           of[ARCHIVE] / first[ARCHIVE], of[PLAIN] / first[PLAIN]);
+    if (of[QUICK] > 0)
+        printf("%.3f,%.3f\n", of[ARCHIVE] / of[QUICK], of[QUICK] / first[QUICK]);
+    else
+        printf(",\n");
 }

@@ -1,6 +1,7 @@
 // The tests at a call's entry: the image first, then the table rules.
 use parlog::Loaded;
 use parlog::Refusal;
+use parlog::codes;
 ghost use mathlib.Core.Path.{_≡_};
 ghost use Rattle.parlog.specs.Limits.{small};
 ghost use Rattle.parlog.specs.Load.{refusal};
@@ -8,9 +9,9 @@ ghost use Rattle.parlog.specs.Tables.{lent};
 ghost use Rattle.entry.specs.Entered.{EnterSays};
 
 // The limits of a run.
-pub const PROCS: usize = 512;
+pub const PROCS: usize = codes::MOST_PROCS;
 
-pub const VARS: usize = 1024;
+pub const VARS: usize = codes::MOST_VARS;
 
 // A refusal with this number; it has no offset.
 pub fn refusal(number: u8) -> Refusal
@@ -31,7 +32,7 @@ pub fn enter(image: &[u8], head: &[u8], procs: &[u8], vars: &[u8]) -> Loaded
         return l;
     };
     if !table_rules::lent_ok(image, rels, clauses, head, procs, vars, PROCS, VARS) {
-        return Loaded::Refused(refusal(8));
+        return Loaded::Refused(refusal(codes::STATE));
     }
     l
 }

@@ -6,6 +6,7 @@ use parlog::Started;
 use parlog::Supplied;
 use parlog::Term;
 use parlog::Valued;
+use parlog::codes;
 ghost use mathlib.Core.Path.{_≡_};
 ghost use mathlib.Core.Bool.{cond};
 ghost use Prim.Native.Nat.{_*_, _≤_, _<_};
@@ -26,9 +27,9 @@ ghost use Rattle.machine.specs.Starting.{BeginSays, StartSays, Startable
 ghost use Rattle.machine.specs.Supplying.{DecidedSays, SupplySays, askedOf, givenBy, isConst};
 
 // The sizes of the two tables of a run.
-const PROC_BYTES: usize = 12288;
+const PROC_BYTES: usize = codes::MOST_PROCS * codes::ROW_SIZE;
 
-const VAR_BYTES: usize = 4096;
+const VAR_BYTES: usize = codes::MOST_VARS * codes::CELL_SIZE;
 
 // ---- the value
 
@@ -46,7 +47,7 @@ fn look(
 {
     let goal = program_clause::goal_vars(image, rels, clauses);
     if goal <= (variable as usize) {
-        return Valued::Unvalued(entry::refusal(12));
+        return Valued::Unvalued(entry::refusal(codes::NOVAR));
     }
     let n = head::var_count(head);
     let seen = unify::value_of(vars, n, Term::Var(variable));
@@ -76,7 +77,7 @@ fn startable(image: &[u8], head: &[u8], procs: &[u8], vars: &[u8]) -> Loaded
         return l;
     };
     if !table_rules::full_size(head, procs, vars, entry::PROCS, entry::VARS) {
-        return Loaded::Refused(entry::refusal(8));
+        return Loaded::Refused(entry::refusal(codes::STATE));
     }
     l
 }
@@ -100,7 +101,7 @@ fn goal_process(image: &[u8], rels: usize, clauses: usize) -> Process
     let notes = [0, 0, 0, 0];
     Process {
         tag: tag,
-        mode: 2,
+        mode: codes::STARTING,
         result: 0,
         count: 0,
         parent: 0,
@@ -176,13 +177,13 @@ fn number_of(t: Term) -> usize
 fn given(t: Term, constant: u32) -> Supplied
     ensures { λ r. ⌜ r ≡ cond (leb constant 32767) (givenBy t) (Ungiven (refusal 14 0)) ⌝ }
 {
-    let large = 32767 < constant;
+    let large = codes::MOST_CONSTANT < constant;
     let known = is_const(t);
     if large {
-        return Supplied::Ungiven(entry::refusal(14));
+        return Supplied::Ungiven(entry::refusal(codes::CONST));
     }
     if known {
-        return Supplied::Ungiven(entry::refusal(13));
+        return Supplied::Ungiven(entry::refusal(codes::BOUND));
     }
     Supplied::Given(number_of(t))
 }
@@ -202,7 +203,7 @@ fn asked(
 {
     let goal = program_clause::goal_vars(image, rels, clauses);
     if goal <= (variable as usize) {
-        return Supplied::Ungiven(entry::refusal(12));
+        return Supplied::Ungiven(entry::refusal(codes::NOVAR));
     }
     let n = head::var_count(head);
     let t = unify::value_of(vars, n, Term::Var(variable));

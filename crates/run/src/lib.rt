@@ -51,7 +51,7 @@ fn turn_in(
     let t = whose(head, procs, vars);
     let f = t.who;
     let Found::At(p) = f else {
-        return Stepped::Unmoved(entry::refusal(10));
+        return Stepped::Unmoved(entry::refusal(codes::STILL));
     };
     step::stepped(image, rels, clauses, head, procs, vars, p, t.told)
 }

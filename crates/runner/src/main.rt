@@ -4,6 +4,7 @@ use libc::STDOUT_FILENO;
 use parlog::Loaded;
 use parlog::Ran;
 use parlog::Term;
+use parlog::codes;
 ghost use mathlib.Core.Path.{_≡_};
 ghost use Prim.Native.Nat.{_*_, _≤_};
 ghost use lib.ListN.{length};
@@ -66,9 +67,9 @@ fn answer(image: &[u8], out: &mut [u8]) -> usize
         let r = load::refusal(l);
         return runner_text::refused(out, r);
     };
-    let mut head = [0u8; 10];
-    let mut procs = [0u8; 12288];
-    let mut vars = [0u8; 4096];
+    let mut head = [0u8; codes::HEAD_SIZE];
+    let mut procs = [0u8; codes::MOST_PROCS * codes::ROW_SIZE];
+    let mut vars = [0u8; codes::MOST_VARS * codes::CELL_SIZE];
     play(image, rels, clauses, &mut head, &mut procs, &mut vars, out)
 }
 

@@ -2,6 +2,7 @@
 use children::Told;
 use parlog::Loaded;
 use parlog::Stepped;
+use parlog::codes;
 ghost use mathlib.Core.Path.{_≡_};
 ghost use Prim.Native.Nat.{_*_, _<_, _≤_};
 ghost use lib.ListN.{length};
@@ -13,9 +14,9 @@ ghost use Rattle.parlog.specs.Tables.{at, lent, procCount, procsOf, rowSize};
 ghost use Rattle.step.specs.Stepping.{StepSays, SteppedSays};
 
 // The limits of a run.
-const PROCS: usize = 512;
+const PROCS: usize = codes::MOST_PROCS;
 
-const VARS: usize = 1024;
+const VARS: usize = codes::MOST_VARS;
 
 // One step more; the largest number stays.
 fn count(steps: u32) -> u32
@@ -45,10 +46,10 @@ pub fn stepped(
     let m = head::var_count(head);
     let plan = moves::rule_of(image, rels, clauses, procs, n, vars, m, p, told);
     if !plan.acts {
-        return Stepped::Unmoved(entry::refusal(10));
+        return Stepped::Unmoved(entry::refusal(codes::STILL));
     }
     if !move_plan::fits(PROCS, VARS, n, m, plan) {
-        return Stepped::Unmoved(entry::refusal(11));
+        return Stepped::Unmoved(entry::refusal(codes::ROOM));
     }
     let made = head::marker_steps(head);
     let steps = count(made);
@@ -87,7 +88,7 @@ pub fn step(
     let p = process as usize;
     let n = head::proc_count(head);
     if n <= p {
-        return Stepped::Unmoved(entry::refusal(9));
+        return Stepped::Unmoved(entry::refusal(codes::NODE));
     }
     let told = ask(procs, n, p);
     stepped(image, rels, clauses, head, procs, vars, p, told)

@@ -3,6 +3,7 @@ use parlog::Loaded;
 use parlog::Marker;
 use parlog::Refusal;
 use parlog::Stepped;
+use parlog::codes;
 ghost use mathlib.Core.Path.{_≡_};
 ghost use mathlib.Core.List.{_++_};
 ghost use lib.ListN.{length, take};
@@ -59,7 +60,7 @@ fn turned_away(image: &[u8]) -> Refusal
         return load::refusal(l);
     };
     Refusal {
-        number: 8,
+        number: codes::STATE,
         offset: 0,
     }
 }

@@ -1,0 +1,1095 @@
+/*
+ * A run and a supply of the machine in C, the fastest that we have: rows are read and written where they stand, the image is
+ * tested and indexed once a call, and so are the tables. During a run each process knows its children and what they said, and
+ * those that can move are a set of bits: a step looks at the process that moves, at its parent and at what it wakes, not at all
+ * rows.
+ */
+#include "quick.h"
+#include "checker.h"
+#include "rissobarm.h"
+
+#include <string.h>
+
+/* What some children of a process say, a bit each. */
+enum { SOME_SUCCESS = 1, SOME_FAILURE = 2 };
+
+/* Sets of processes are words of so many bits. */
+enum { WORD_BITS = 64, SET_WORDS = RISSOBARM_PROCESS_LIMIT / WORD_BITS };
+
+/* A term of a run: a constant up to 32,767, or a variable with this bit. */
+#define IS_VARIABLE 0x80000000u
+
+/*
+ * A goal as it is run, output equations first where it is a committed body: which of its literals begins each stage, and for each
+ * its relation and where it stands in the image; an output equation stands nowhere.
+ */
+struct goal {
+    uint8_t stages;
+    uint8_t start[RISSOBARM_STAGE_LIMIT + 1];
+    uint8_t relation[RISSOBARM_LITERAL_LIMIT + RISSOBARM_ARITY_LIMIT];
+    uint16_t literal[RISSOBARM_LITERAL_LIMIT + RISSOBARM_ARITY_LIMIT];
+};
+
+struct clause {
+    struct goal sides[2]; /* guard, committed body */
+    uint16_t head;        /* its terms */
+    uint8_t relation, own, size, outputs, block;
+};
+
+struct relation {
+    uint8_t arity, blocks;
+    uint8_t output[RISSOBARM_ARITY_LIMIT];
+    uint8_t first[RISSOBARM_CLAUSE_LIMIT + 1]; /* the first clause of each block, and the end */
+};
+
+/* A process among the others; a child is never process 0, so that 0 is none. */
+struct node {
+    uint16_t parent;
+    uint16_t child, sibling; /* its latest child, and the child of its parent that was made before it */
+    uint16_t silent;         /* its children that do not report */
+    uint16_t older;          /* the first variable of the nearest try-clause above, 0 for none */
+    uint8_t said;            /* what the others say */
+};
+
+struct run {
+    const uint8_t *image;
+    uint8_t *procs, *vars;
+    unsigned count, variables, last;
+    uint32_t steps;
+    unsigned relations, clauses, goal_variables;
+    struct goal goal;
+    struct relation relation[RISSOBARM_RELATION_LIMIT];
+    struct clause clause[RISSOBARM_CLAUSE_LIMIT];
+    struct node node[RISSOBARM_PROCESS_LIMIT];
+    uint64_t ready[SET_WORDS], suspended[SET_WORDS]; /* those that can move, those that are suspended */
+    uint8_t noted[RISSOBARM_VARIABLE_LIMIT];         /* whether a process has noted the variable in this call */
+};
+
+/* The bindings that one unification makes, in order. */
+struct changes {
+    unsigned count;
+    uint16_t variable[RISSOBARM_ARITY_LIMIT];
+    uint32_t term[RISSOBARM_ARITY_LIMIT];
+};
+
+/* A literal found: an equation of outputs has its terms here, any other in the image. */
+struct literal {
+    unsigned relation, arity;
+    uint32_t term[RISSOBARM_ARITY_LIMIT];
+};
+
+static inline unsigned word(const uint8_t *at)
+{
+    return at[0] | (unsigned)at[1] << 8;
+}
+
+static inline void put_word(uint8_t *at, unsigned word)
+{
+    at[0] = (uint8_t)word;
+    at[1] = (uint8_t)(word >> 8);
+}
+
+static inline uint8_t *row(const struct run *r, size_t process)
+{
+    return r->procs + process * RISSOBARM_PROCESS_ROW;
+}
+
+/* ---- the image, which was accepted ---- */
+
+/* A goal behind so many output equations; answers the byte behind it. */
+static const uint8_t *index_goal(struct run *r, const uint8_t *at, struct goal *goal, unsigned outputs)
+{
+    unsigned s, k, n = outputs, stages = *at++;
+
+    memset(goal->relation, RISSOBARM_EQUALITY, outputs);
+    goal->start[0] = 0;
+    for (s = 0; s < stages; s++) {
+        for (k = *at++; k > 0; k--) {
+            goal->relation[n] = at[0];
+            goal->literal[n++] = (uint16_t)(at - r->image);
+            at += 2 + 2 * at[1];
+        }
+        goal->start[s + 1] = (uint8_t)n;
+    }
+    if (stages == 0 && outputs > 0)
+        goal->start[++stages] = (uint8_t)outputs;
+    goal->stages = (uint8_t)stages;
+    return at;
+}
+
+static void index_relation(struct run *r, const uint8_t *at)
+{
+    struct relation *relation = &r->relation[r->relations++];
+
+    relation->arity = at[0];
+    relation->blocks = 0;
+    relation->first[0] = 0;
+    memcpy(relation->output, at + 1, at[0]);
+}
+
+static void index_clause(struct run *r, const uint8_t *at)
+{
+    struct clause *clause = &r->clause[r->clauses];
+    struct relation *relation = &r->relation[at[0]];
+    unsigned k;
+
+    clause->relation = at[0];
+    clause->own = at[3];
+    clause->outputs = 0;
+    for (k = 0; k < at[1]; k++)
+        clause->outputs = (uint8_t)(clause->outputs + relation->output[k]);
+    clause->size = (uint8_t)(clause->own + clause->outputs);
+    if (relation->blocks == 0 || at[2] == 1)
+        relation->first[relation->blocks++] = (uint8_t)r->clauses;
+    clause->block = (uint8_t)(relation->blocks - 1);
+    relation->first[relation->blocks] = (uint8_t)++r->clauses;
+    clause->head = (uint16_t)(at + 4 - r->image);
+    at = index_goal(r, at + 4 + 2 * at[1], &clause->sides[0], 0);
+    index_goal(r, at, &clause->sides[1], clause->outputs);
+}
+
+static void index_image(struct run *r, const uint8_t *image, size_t length)
+{
+    size_t at;
+
+    r->image = image;
+    r->relations = r->clauses = 0;
+    for (at = 0; at < length; at += word(image + at)) {
+        if (image[at + 2] == RISSOBARM_RECORD_RELATION)
+            index_relation(r, image + at + RISSOBARM_RECORD_HEAD);
+        else if (image[at + 2] == RISSOBARM_RECORD_CLAUSE)
+            index_clause(r, image + at + RISSOBARM_RECORD_HEAD);
+        else {
+            r->goal_variables = image[at + RISSOBARM_RECORD_HEAD];
+            index_goal(r, image + at + RISSOBARM_RECORD_HEAD + 1, &r->goal, 0);
+        }
+    }
+}
+
+/* ---- goals and literals of rows ---- */
+
+static inline const struct goal *goal_at(const struct run *r, unsigned kind, unsigned clause)
+{
+    return kind == RISSOBARM_GOAL_IMAGE ? &r->goal : &r->clause[clause].sides[kind - 1];
+}
+
+static inline const struct goal *goal_of(const struct run *r, const uint8_t *me)
+{
+    return goal_at(r, me[RISSOBARM_ROW_KIND], me[RISSOBARM_ROW_CLAUSE]);
+}
+
+static inline unsigned stage_size(const struct goal *goal, unsigned stage)
+{
+    return (unsigned)(goal->start[stage + 1] - goal->start[stage]);
+}
+
+/* A term of the image, its variables counted on from the first of their block. */
+static inline uint32_t term_at(const struct run *r, unsigned at, unsigned first)
+{
+    unsigned term = word(r->image + at);
+
+    return term < RISSOBARM_TERM_VARIABLE ? term : (term - RISSOBARM_TERM_VARIABLE + first) | IS_VARIABLE;
+}
+
+/* The relation of a row's literal. */
+static inline unsigned relation_of(const struct run *r, const uint8_t *me)
+{
+    const struct goal *goal = goal_of(r, me);
+
+    return goal->relation[goal->start[me[RISSOBARM_ROW_STAGE]] + me[RISSOBARM_ROW_LITERAL]];
+}
+
+/* The equation for an output argument: its head term, and its new variable. */
+static struct literal output_equation(const struct run *r, const struct clause *clause, unsigned first, unsigned number)
+{
+    const uint8_t *output = r->relation[clause->relation].output;
+    struct literal found = { RISSOBARM_EQUALITY, 2, { 0, 0, 0, 0 } };
+    unsigned k = 0, left = number;
+
+    while (!output[k] || left-- > 0)
+        k++;
+    found.term[0] = term_at(r, clause->head + 2 * k, first);
+    found.term[1] = (first + clause->own + number) | IS_VARIABLE;
+    return found;
+}
+
+static struct literal literal_of(const struct run *r, const uint8_t *me)
+{
+    const struct goal *goal = goal_of(r, me);
+    unsigned number = goal->start[me[RISSOBARM_ROW_STAGE]] + me[RISSOBARM_ROW_LITERAL], at, k;
+    struct literal found;
+
+    if (me[RISSOBARM_ROW_KIND] == RISSOBARM_GOAL_BODY && number < r->clause[me[RISSOBARM_ROW_CLAUSE]].outputs)
+        return output_equation(r, &r->clause[me[RISSOBARM_ROW_CLAUSE]], word(me + RISSOBARM_ROW_BASE), number);
+    at = goal->literal[number];
+    found.relation = goal->relation[number];
+    found.arity = r->image[at + 1];
+    for (k = 0; k < found.arity; k++)
+        found.term[k] = term_at(r, at + 2 + 2 * k, word(me + RISSOBARM_ROW_BASE));
+    return found;
+}
+
+static unsigned literal_tag(unsigned relation)
+{
+    return relation == RISSOBARM_EQUALITY ? RISSOBARM_TAG_EQUATE : RISSOBARM_TAG_OR_PAR;
+}
+
+static unsigned stage_tag(const struct goal *goal, unsigned stage)
+{
+    return stage_size(goal, stage) > 1 ? (unsigned)RISSOBARM_TAG_AND_PAR : literal_tag(goal->relation[goal->start[stage]]);
+}
+
+static unsigned goal_tag(const struct goal *goal)
+{
+    return goal->stages == 1 ? stage_tag(goal, 0) : (unsigned)RISSOBARM_TAG_AND_SEQ;
+}
+
+/* ---- the table rules ---- */
+
+static int variables_good(const struct run *r)
+{
+    unsigned k;
+
+    for (k = 0; k < r->variables; k++) {
+        const uint8_t *at = r->vars + RISSOBARM_VARIABLE_ROW * k;
+        unsigned number = word(at + RISSOBARM_CELL_NUMBER) | (unsigned)at[RISSOBARM_CELL_NUMBER + 2] << 16;
+
+        if (at[RISSOBARM_CELL_SORT] >= RISSOBARM_SORT_COUNT ||
+            (at[RISSOBARM_CELL_SORT] == RISSOBARM_SORT_UNBOUND && number != 0) ||
+            (at[RISSOBARM_CELL_SORT] == RISSOBARM_SORT_CONSTANT && number > RISSOBARM_CONSTANT_LIMIT) ||
+            (at[RISSOBARM_CELL_SORT] == RISSOBARM_SORT_VARIABLE && number >= k))
+            return 0;
+    }
+    return 1;
+}
+
+/* The tags of a literal, of a stage and of a goal, a bit each. */
+enum {
+    LITERALS = 1 << RISSOBARM_TAG_OR_PAR | 1 << RISSOBARM_TAG_EQUATE,
+    STAGES = LITERALS | 1 << RISSOBARM_TAG_AND_PAR,
+    GOALS = STAGES | 1 << RISSOBARM_TAG_AND_SEQ
+};
+
+/* For each tag the tags that its rules make. */
+static const uint16_t makes[RISSOBARM_TAG_COUNT] = {
+    [RISSOBARM_TAG_AND_PAR] = LITERALS,
+    [RISSOBARM_TAG_AND_SEQ] = STAGES,
+    [RISSOBARM_TAG_OR_PAR] = GOALS | 1 << RISSOBARM_TAG_SEQ_SEARCH,
+    [RISSOBARM_TAG_SEQ_SEARCH] = 1 << RISSOBARM_TAG_OR_SEARCH,
+    [RISSOBARM_TAG_OR_SEARCH] = 1 << RISSOBARM_TAG_TRY_CLAUSE,
+    [RISSOBARM_TAG_TRY_CLAUSE] = 1 << RISSOBARM_TAG_INPUT_MATCH | 1 << RISSOBARM_TAG_GUARD_EVAL,
+    [RISSOBARM_TAG_GUARD_EVAL] = GOALS
+};
+
+/* No relation, and no equality either. */
+enum { NONE = 256 };
+
+static inline int clause_good(const struct run *r, unsigned clause, unsigned first)
+{
+    return clause < r->clauses && first + r->clause[clause].size <= r->variables;
+}
+
+static inline int goal_good(const struct run *r, const uint8_t *me)
+{
+    return me[RISSOBARM_ROW_KIND] == RISSOBARM_GOAL_IMAGE
+               ? word(me + RISSOBARM_ROW_BASE) == 0
+               : clause_good(r, me[RISSOBARM_ROW_CLAUSE], word(me + RISSOBARM_ROW_BASE));
+}
+
+/* The relation of the literal that a row names; NONE where it names none. */
+static inline unsigned relation_named(const struct run *r, const uint8_t *me)
+{
+    const struct goal *goal;
+
+    if (!goal_good(r, me))
+        return NONE;
+    goal = goal_of(r, me);
+    if (me[RISSOBARM_ROW_STAGE] >= goal->stages || me[RISSOBARM_ROW_LITERAL] >= stage_size(goal, me[RISSOBARM_ROW_STAGE]))
+        return NONE;
+    return goal->relation[goal->start[me[RISSOBARM_ROW_STAGE]] + me[RISSOBARM_ROW_LITERAL]];
+}
+
+static int found_good(const struct run *r, const uint8_t *me)
+{
+    return clause_good(r, me[RISSOBARM_ROW_FOUND], word(me + RISSOBARM_ROW_FIRST));
+}
+
+static int searcher_good(const struct run *r, const uint8_t *me)
+{
+    unsigned relation = relation_named(r, me);
+
+    if (relation >= RISSOBARM_EQUALITY)
+        return 0;
+    if ((me[RISSOBARM_ROW_TAG] == RISSOBARM_TAG_OR_SEARCH || me[RISSOBARM_ROW_MODE] == RISSOBARM_MODE_WAITING) &&
+        me[RISSOBARM_ROW_BLOCK] >= r->relation[relation].blocks)
+        return 0;
+    return me[RISSOBARM_ROW_MODE] != RISSOBARM_MODE_REPORTING ||
+           me[RISSOBARM_ROW_RESULT] != RISSOBARM_RESULT_SUCCESS || found_good(r, me);
+}
+
+static int places_good(const struct run *r, const uint8_t *me)
+{
+    switch (me[RISSOBARM_ROW_TAG]) {
+    case RISSOBARM_TAG_AND_PAR:
+        return goal_good(r, me) && me[RISSOBARM_ROW_STAGE] < goal_of(r, me)->stages;
+    case RISSOBARM_TAG_AND_SEQ:
+        return goal_good(r, me) && me[RISSOBARM_ROW_STAGE] + (me[RISSOBARM_ROW_MODE] == RISSOBARM_MODE_WAITING) <=
+                                       goal_of(r, me)->stages;
+    case RISSOBARM_TAG_OR_PAR:
+        return relation_named(r, me) < RISSOBARM_EQUALITY;
+    case RISSOBARM_TAG_SEQ_SEARCH:
+    case RISSOBARM_TAG_OR_SEARCH:
+        return searcher_good(r, me);
+    case RISSOBARM_TAG_TRY_CLAUSE:
+    case RISSOBARM_TAG_INPUT_MATCH:
+        return found_good(r, me) && r->clause[me[RISSOBARM_ROW_FOUND]].relation == relation_named(r, me);
+    case RISSOBARM_TAG_GUARD_EVAL:
+        return found_good(r, me);
+    default: /* equate */
+        return relation_named(r, me) == RISSOBARM_EQUALITY;
+    }
+}
+
+static int notes_good(const struct run *r, const uint8_t *me)
+{
+    unsigned k;
+
+    if (me[RISSOBARM_ROW_MODE] != RISSOBARM_MODE_SUSPENDED)
+        return 1;
+    for (k = 0; k < me[RISSOBARM_ROW_NOTE_COUNT]; k++)
+        if (k == RISSOBARM_NOTE_LIMIT || word(me + RISSOBARM_ROW_NOTES + 2 * k) >= r->variables)
+            return 0;
+    return 1;
+}
+
+static int process_good(const struct run *r, unsigned process)
+{
+    const uint8_t *me = row(r, process);
+    unsigned parent = word(me + RISSOBARM_ROW_PARENT);
+
+    if (me[RISSOBARM_ROW_TAG] >= RISSOBARM_TAG_COUNT || me[RISSOBARM_ROW_MODE] >= RISSOBARM_MODE_COUNT ||
+        me[RISSOBARM_ROW_RESULT] >= RISSOBARM_RESULT_COUNT || me[RISSOBARM_ROW_KIND] >= RISSOBARM_GOAL_COUNT)
+        return 0;
+    if (me[RISSOBARM_ROW_MODE] == RISSOBARM_MODE_REPORTING && me[RISSOBARM_ROW_RESULT] == RISSOBARM_RESULT_NONE)
+        return 0;
+    if (process == 0) {
+        if (parent != 0 || me[RISSOBARM_ROW_KIND] != RISSOBARM_GOAL_IMAGE ||
+            me[RISSOBARM_ROW_TAG] != goal_tag(&r->goal) ||
+            (me[RISSOBARM_ROW_MODE] == RISSOBARM_MODE_DORMANT && me[RISSOBARM_ROW_RESULT] == RISSOBARM_RESULT_NONE))
+            return 0;
+    } else if (parent >= process || !(makes[row(r, parent)[RISSOBARM_ROW_TAG]] >> me[RISSOBARM_ROW_TAG] & 1)) {
+        return 0;
+    }
+    return notes_good(r, me) && places_good(r, me);
+}
+
+static int tables_good(const struct run *r)
+{
+    unsigned k;
+
+    if (r->count < 1 || r->count > RISSOBARM_PROCESS_LIMIT || r->variables < r->goal_variables ||
+        r->variables > RISSOBARM_VARIABLE_LIMIT || r->last >= r->count || !variables_good(r))
+        return 0;
+    for (k = 0; k < r->count; k++)
+        if (!process_good(r, k))
+            return 0;
+    return 1;
+}
+
+/* ---- whose turn it is ---- */
+
+/* What a waiting process waits for, by its tag. */
+enum { NOTHING, ALL_SUCCEED_OR_ONE_FAILS, ONE_SUCCEEDS_OR_ALL_FAIL, LATEST_REPORTS };
+
+static const uint8_t waits_for[RISSOBARM_TAG_COUNT] = {
+    [RISSOBARM_TAG_AND_PAR] = ALL_SUCCEED_OR_ONE_FAILS,
+    [RISSOBARM_TAG_AND_SEQ] = LATEST_REPORTS,
+    [RISSOBARM_TAG_OR_PAR] = LATEST_REPORTS,
+    [RISSOBARM_TAG_SEQ_SEARCH] = LATEST_REPORTS,
+    [RISSOBARM_TAG_OR_SEARCH] = ONE_SUCCEEDS_OR_ALL_FAIL,
+    [RISSOBARM_TAG_TRY_CLAUSE] = ALL_SUCCEED_OR_ONE_FAILS,
+    [RISSOBARM_TAG_GUARD_EVAL] = LATEST_REPORTS
+};
+
+static inline int some_note_bound(const struct run *r, const uint8_t *me)
+{
+    unsigned k;
+
+    for (k = 0; k < me[RISSOBARM_ROW_NOTE_COUNT]; k++)
+        if (r->vars[RISSOBARM_VARIABLE_ROW * word(me + RISSOBARM_ROW_NOTES + 2 * k)] != RISSOBARM_SORT_UNBOUND)
+            return 1;
+    return 0;
+}
+
+/* Whether a waiting process has heard what it waits for. */
+static int heard(const struct run *r, unsigned process)
+{
+    const struct node *node = &r->node[process];
+
+    switch (waits_for[row(r, process)[RISSOBARM_ROW_TAG]]) {
+    case ALL_SUCCEED_OR_ONE_FAILS:
+        return node->silent == 0 || node->said & SOME_FAILURE;
+    case ONE_SUCCEEDS_OR_ALL_FAIL:
+        return node->silent == 0 || node->said & SOME_SUCCESS;
+    case LATEST_REPORTS:
+        return node->child != 0 && row(r, node->child)[RISSOBARM_ROW_MODE] == RISSOBARM_MODE_REPORTING;
+    default:
+        return 0;
+    }
+}
+
+static int can_move(const struct run *r, unsigned process)
+{
+    const uint8_t *me = row(r, process);
+
+    switch (me[RISSOBARM_ROW_MODE]) {
+    case RISSOBARM_MODE_READY:
+    case RISSOBARM_MODE_STARTING:
+        return 1;
+    case RISSOBARM_MODE_WAITING:
+        return heard(r, process);
+    case RISSOBARM_MODE_REPORTING:
+        return process == 0;
+    case RISSOBARM_MODE_SUSPENDED:
+        return some_note_bound(r, me);
+    default:
+        return 0;
+    }
+}
+
+static inline void put_in(uint64_t *set, unsigned process)
+{
+    set[process / WORD_BITS] |= (uint64_t)1 << process % WORD_BITS;
+}
+
+static inline void take_out(uint64_t *set, unsigned process)
+{
+    set[process / WORD_BITS] &= ~((uint64_t)1 << process % WORD_BITS);
+}
+
+/* Looks anew whether a process can move. */
+static inline void look_at(struct run *r, unsigned process)
+{
+    if (can_move(r, process))
+        put_in(r->ready, process);
+    else
+        take_out(r->ready, process);
+}
+
+/* The lowest number in a set from there on; the process limit for none. */
+static unsigned lowest_from(const uint64_t *set, unsigned from)
+{
+    unsigned k = from / WORD_BITS;
+    uint64_t bits;
+
+    if (k == SET_WORDS)
+        return RISSOBARM_PROCESS_LIMIT;
+    bits = set[k] >> from % WORD_BITS << from % WORD_BITS;
+    while (bits == 0) {
+        if (++k == SET_WORDS)
+            return RISSOBARM_PROCESS_LIMIT;
+        bits = set[k];
+    }
+    return k * WORD_BITS + (unsigned)__builtin_ctzll(bits);
+}
+
+/* The lowest that can move behind the last one stepped, or else at all; the process limit for none. */
+static unsigned next_in_turn(const struct run *r)
+{
+    unsigned behind = lowest_from(r->ready, r->last + 1);
+
+    return behind < RISSOBARM_PROCESS_LIMIT ? behind : lowest_from(r->ready, 0);
+}
+
+/* A process takes its place behind its parent's other children. */
+static inline void place_child(struct run *r, unsigned process, unsigned parent)
+{
+    const uint8_t *above = row(r, parent);
+    struct node *node = &r->node[process], *of = &r->node[parent];
+
+    node->parent = (uint16_t)parent;
+    node->sibling = of->child;
+    of->child = (uint16_t)process;
+    node->older = (uint16_t)(above[RISSOBARM_ROW_TAG] == RISSOBARM_TAG_TRY_CLAUSE ? word(above + RISSOBARM_ROW_FIRST)
+                                                                                  : of->older);
+    of->silent++;
+    node->child = node->silent = node->said = 0;
+}
+
+/* A child that did not report before does now. */
+static inline void hear_report(struct run *r, unsigned child)
+{
+    struct node *of = &r->node[r->node[child].parent];
+
+    of->silent--;
+    of->said |= row(r, child)[RISSOBARM_ROW_RESULT] == RISSOBARM_RESULT_SUCCESS ? SOME_SUCCESS : SOME_FAILURE;
+}
+
+/* A suspended process waits for its notes. */
+static inline void note_down(struct run *r, unsigned process)
+{
+    const uint8_t *me = row(r, process);
+    unsigned k;
+
+    put_in(r->suspended, process);
+    for (k = 0; k < me[RISSOBARM_ROW_NOTE_COUNT]; k++)
+        r->noted[word(me + RISSOBARM_ROW_NOTES + 2 * k)] = 1;
+}
+
+/* What the rows say at the beginning of a run call. */
+static void gather(struct run *r)
+{
+    const uint8_t *me;
+    unsigned k;
+
+    memset(r->ready, 0, sizeof r->ready);
+    memset(r->suspended, 0, sizeof r->suspended);
+    memset(r->noted, 0, sizeof r->noted);
+    memset(r->node, 0, sizeof r->node[0]);
+    for (k = 1; k < r->count; k++) {
+        me = row(r, k);
+        place_child(r, k, word(me + RISSOBARM_ROW_PARENT));
+        if (me[RISSOBARM_ROW_MODE] == RISSOBARM_MODE_REPORTING)
+            hear_report(r, k);
+    }
+    for (k = 0; k < r->count; k++) {
+        if (row(r, k)[RISSOBARM_ROW_MODE] == RISSOBARM_MODE_SUSPENDED)
+            note_down(r, k);
+        if (can_move(r, k))
+            put_in(r->ready, k);
+    }
+}
+
+/* ---- unifying ---- */
+
+/* The value under the bindings and, before them, the changes. */
+static uint32_t value(const struct run *r, const struct changes *c, uint32_t term)
+{
+    while (term & IS_VARIABLE) {
+        unsigned variable = term & ~IS_VARIABLE, k = 0;
+        const uint8_t *at = r->vars + RISSOBARM_VARIABLE_ROW * variable;
+
+        while (k < c->count && c->variable[k] != variable)
+            k++;
+        if (k < c->count)
+            term = c->term[k];
+        else if (at[RISSOBARM_CELL_SORT] == RISSOBARM_SORT_UNBOUND)
+            return term;
+        else
+            term = word(at + RISSOBARM_CELL_NUMBER) |
+                   (at[RISSOBARM_CELL_SORT] == RISSOBARM_SORT_VARIABLE ? IS_VARIABLE : 0);
+    }
+    return term;
+}
+
+/* Adds at most one change; 0 where two constants clash. */
+static int unify(const struct run *r, struct changes *c, uint32_t left, uint32_t right)
+{
+    uint32_t a = value(r, c, left), b = value(r, c, right), bound = a > b ? a : b;
+
+    if (a == b)
+        return 1;
+    /* a variable is above every constant, and the higher of two variables is the one to be bound */
+    if (!(bound & IS_VARIABLE))
+        return 0;
+    c->variable[c->count] = (uint16_t)(bound & ~IS_VARIABLE);
+    c->term[c->count++] = a > b ? b : a;
+    return 1;
+}
+
+static void bind(struct run *r, const struct changes *c)
+{
+    unsigned k;
+
+    for (k = 0; k < c->count; k++) {
+        uint8_t *at = r->vars + RISSOBARM_VARIABLE_ROW * c->variable[k];
+
+        at[RISSOBARM_CELL_SORT] = c->term[k] & IS_VARIABLE ? RISSOBARM_SORT_VARIABLE : RISSOBARM_SORT_CONSTANT;
+        put_word(at + RISSOBARM_CELL_NUMBER, c->term[k] & 65535);
+        at[RISSOBARM_CELL_NUMBER + 2] = 0;
+    }
+}
+
+/* ---- moves; each answers 0 where there is no room ---- */
+
+static int room(const struct run *r, unsigned processes, unsigned variables)
+{
+    return r->count + processes <= RISSOBARM_PROCESS_LIMIT && r->variables + variables <= RISSOBARM_VARIABLE_LIMIT;
+}
+
+static uint8_t *add(struct run *r, unsigned parent, unsigned tag, unsigned mode)
+{
+    uint8_t *child = row(r, r->count);
+
+    memset(child, 0, RISSOBARM_PROCESS_ROW);
+    child[RISSOBARM_ROW_TAG] = (uint8_t)tag;
+    child[RISSOBARM_ROW_MODE] = (uint8_t)mode;
+    put_word(child + RISSOBARM_ROW_PARENT, parent);
+    put_in(r->ready, r->count);
+    place_child(r, r->count++, parent);
+    return child;
+}
+
+/* The goal, stage and literal that a row names, for a row that names the same. */
+static void copy_call(uint8_t *to, const uint8_t *from)
+{
+    memcpy(to + RISSOBARM_ROW_KIND, from + RISSOBARM_ROW_KIND, RISSOBARM_ROW_LITERAL + 1 - RISSOBARM_ROW_KIND);
+}
+
+static void copy_found(uint8_t *to, const uint8_t *from)
+{
+    memcpy(to + RISSOBARM_ROW_FOUND, from + RISSOBARM_ROW_FOUND, RISSOBARM_ROW_NOTES - RISSOBARM_ROW_FOUND);
+}
+
+/*
+ * All that is below becomes dormant, for good: there is nothing to be done there any more. Children come before siblings, which are
+ * put by for later: calls within calls would return slowly out of a deep tree.
+ */
+static void put_to_sleep(struct run *r, unsigned process)
+{
+    uint16_t put_by[RISSOBARM_PROCESS_LIMIT];
+    unsigned count = 0, next = r->node[process].child, k;
+
+    r->node[process].child = 0;
+    while (next != 0) {
+        k = next;
+        row(r, k)[RISSOBARM_ROW_MODE] = RISSOBARM_MODE_DORMANT;
+        take_out(r->ready, k);
+        take_out(r->suspended, k);
+        if (r->node[k].sibling != 0)
+            put_by[count++] = r->node[k].sibling;
+        next = r->node[k].child;
+        r->node[k].child = 0;
+        if (next == 0 && count > 0)
+            next = put_by[--count];
+    }
+}
+
+static int report(struct run *r, unsigned process, unsigned result)
+{
+    uint8_t *me = row(r, process);
+
+    me[RISSOBARM_ROW_MODE] = RISSOBARM_MODE_REPORTING;
+    me[RISSOBARM_ROW_RESULT] = (uint8_t)result;
+    put_to_sleep(r, process);
+    if (process != 0) {
+        hear_report(r, process);
+        look_at(r, r->node[process].parent);
+    }
+    return 1;
+}
+
+static int start_and_par(struct run *r, unsigned process)
+{
+    uint8_t *me = row(r, process), *child;
+    const struct goal *goal = goal_of(r, me);
+    const uint8_t *relation = goal->relation + goal->start[me[RISSOBARM_ROW_STAGE]];
+    unsigned size = stage_size(goal, me[RISSOBARM_ROW_STAGE]), k;
+
+    if (!room(r, size, 0))
+        return 0;
+    for (k = 0; k < size; k++) {
+        child = add(r, process, literal_tag(relation[k]), RISSOBARM_MODE_READY);
+        copy_call(child, me);
+        child[RISSOBARM_ROW_LITERAL] = (uint8_t)k;
+    }
+    me[RISSOBARM_ROW_MODE] = RISSOBARM_MODE_WAITING;
+    return 1;
+}
+
+static int start_and_seq(struct run *r, unsigned process)
+{
+    uint8_t *me = row(r, process), *child;
+    const struct goal *goal = goal_of(r, me);
+
+    if (me[RISSOBARM_ROW_STAGE] == goal->stages)
+        return report(r, process, RISSOBARM_RESULT_SUCCESS);
+    if (!room(r, 1, 0))
+        return 0;
+    child = add(r, process, stage_tag(goal, me[RISSOBARM_ROW_STAGE]), RISSOBARM_MODE_STARTING);
+    copy_call(child, me);
+    child[RISSOBARM_ROW_LITERAL] = 0;
+    me[RISSOBARM_ROW_MODE] = RISSOBARM_MODE_WAITING;
+    return 1;
+}
+
+static int start_or_par(struct run *r, unsigned process)
+{
+    uint8_t *me = row(r, process);
+
+    if (!room(r, 1, 0))
+        return 0;
+    copy_call(add(r, process, RISSOBARM_TAG_SEQ_SEARCH, RISSOBARM_MODE_STARTING), me);
+    me[RISSOBARM_ROW_MODE] = RISSOBARM_MODE_WAITING;
+    return 1;
+}
+
+/* An or-search for a block, which the search then waits for. */
+static int open_block(struct run *r, unsigned process, unsigned block)
+{
+    uint8_t *me = row(r, process), *child;
+
+    if (!room(r, 1, 0))
+        return 0;
+    child = add(r, process, RISSOBARM_TAG_OR_SEARCH, RISSOBARM_MODE_STARTING);
+    copy_call(child, me);
+    child[RISSOBARM_ROW_BLOCK] = me[RISSOBARM_ROW_BLOCK] = (uint8_t)block;
+    me[RISSOBARM_ROW_MODE] = RISSOBARM_MODE_WAITING;
+    return 1;
+}
+
+static int start_or_search(struct run *r, unsigned process)
+{
+    uint8_t *me = row(r, process);
+    const struct relation *relation = &r->relation[relation_of(r, me)];
+    unsigned from = relation->first[me[RISSOBARM_ROW_BLOCK]], to = relation->first[me[RISSOBARM_ROW_BLOCK] + 1];
+    unsigned variables = 0, c;
+
+    for (c = from; c < to; c++)
+        variables += r->clause[c].size;
+    if (!room(r, to - from, variables))
+        return 0;
+    for (c = from; c < to; c++) {
+        uint8_t *child = add(r, process, RISSOBARM_TAG_TRY_CLAUSE, RISSOBARM_MODE_READY);
+
+        copy_call(child, me);
+        child[RISSOBARM_ROW_FOUND] = (uint8_t)c;
+        put_word(child + RISSOBARM_ROW_FIRST, r->variables);
+        memset(r->vars + RISSOBARM_VARIABLE_ROW * r->variables, 0,
+               (unsigned)RISSOBARM_VARIABLE_ROW * r->clause[c].size);
+        r->variables += r->clause[c].size;
+    }
+    me[RISSOBARM_ROW_MODE] = RISSOBARM_MODE_WAITING;
+    return 1;
+}
+
+static int start_try_clause(struct run *r, unsigned process)
+{
+    uint8_t *me = row(r, process), *child;
+
+    if (!room(r, 2, 0))
+        return 0;
+    child = add(r, process, RISSOBARM_TAG_INPUT_MATCH, RISSOBARM_MODE_READY);
+    copy_call(child, me);
+    copy_found(child, me);
+    copy_found(add(r, process, RISSOBARM_TAG_GUARD_EVAL, RISSOBARM_MODE_READY), me);
+    me[RISSOBARM_ROW_MODE] = RISSOBARM_MODE_WAITING;
+    return 1;
+}
+
+/* A starting child for a guard or a committed body. */
+static void add_goal(struct run *r, unsigned parent, unsigned kind, unsigned clause, unsigned first)
+{
+    uint8_t *child = add(r, parent, goal_tag(goal_at(r, kind, clause)), RISSOBARM_MODE_STARTING);
+
+    child[RISSOBARM_ROW_KIND] = (uint8_t)kind;
+    child[RISSOBARM_ROW_CLAUSE] = (uint8_t)clause;
+    put_word(child + RISSOBARM_ROW_BASE, first);
+}
+
+static int start_guard_eval(struct run *r, unsigned process)
+{
+    uint8_t *me = row(r, process);
+
+    if (r->clause[me[RISSOBARM_ROW_FOUND]].sides[0].stages == 0)
+        return report(r, process, RISSOBARM_RESULT_SUCCESS);
+    if (!room(r, 1, 0))
+        return 0;
+    add_goal(r, process, RISSOBARM_GOAL_GUARD, me[RISSOBARM_ROW_FOUND], word(me + RISSOBARM_ROW_FIRST));
+    me[RISSOBARM_ROW_MODE] = RISSOBARM_MODE_WAITING;
+    return 1;
+}
+
+/* Those that noted a variable which is bound now can move. */
+static void wake(struct run *r, const struct changes *c)
+{
+    unsigned k, process;
+
+    for (k = 0; k < c->count; k++)
+        if (r->noted[c->variable[k]])
+            break;
+    if (k == c->count)
+        return;
+    for (process = lowest_from(r->suspended, 0); process < RISSOBARM_PROCESS_LIMIT;
+         process = lowest_from(r->suspended, process + 1))
+        look_at(r, process);
+}
+
+/* Reports, or suspends on the notes, or binds. */
+static int conclude(struct run *r, unsigned process, const struct changes *c, unsigned count, const uint16_t *notes)
+{
+    uint8_t *me = row(r, process);
+    unsigned k;
+
+    if (count == 0) {
+        bind(r, c);
+        wake(r, c);
+        return report(r, process, RISSOBARM_RESULT_SUCCESS);
+    }
+    me[RISSOBARM_ROW_MODE] = RISSOBARM_MODE_SUSPENDED;
+    me[RISSOBARM_ROW_NOTE_COUNT] = (uint8_t)count;
+    memset(me + RISSOBARM_ROW_NOTES, 0, 2 * RISSOBARM_NOTE_LIMIT);
+    for (k = 0; k < count; k++)
+        put_word(me + RISSOBARM_ROW_NOTES + 2 * k, notes[k]);
+    note_down(r, process);
+    return 1;
+}
+
+static int start_input_match(struct run *r, unsigned process)
+{
+    const uint8_t *me = row(r, process);
+    const struct clause *clause = &r->clause[me[RISSOBARM_ROW_FOUND]];
+    const uint8_t *output = r->relation[clause->relation].output;
+    const struct changes none = { 0, { 0 }, { 0 } };
+    struct changes c = { 0, { 0 }, { 0 } };
+    struct literal call = literal_of(r, me);
+    unsigned first = word(me + RISSOBARM_ROW_FIRST), fresh = first + clause->own, count = 0, k, i;
+    uint16_t notes[RISSOBARM_NOTE_LIMIT];
+
+    for (k = 0; k < call.arity; k++) {
+        uint32_t head = output[k] ? fresh++ | IS_VARIABLE : term_at(r, clause->head + 2 * k, first);
+
+        if (!unify(r, &c, call.term[k], head))
+            return report(r, process, RISSOBARM_RESULT_FAILURE);
+    }
+    for (i = 0; i < c.count; i++)
+        for (k = 0; k < call.arity; k++)
+            if (!output[k] && value(r, &none, call.term[k]) == (c.variable[i] | IS_VARIABLE)) {
+                notes[count++] = c.variable[i];
+                break;
+            }
+    return conclude(r, process, &c, count, notes);
+}
+
+static int start_equate(struct run *r, unsigned process)
+{
+    struct literal equation = literal_of(r, row(r, process));
+    struct changes c = { 0, { 0 }, { 0 } };
+
+    if (!unify(r, &c, equation.term[0], equation.term[1]))
+        return report(r, process, RISSOBARM_RESULT_FAILURE);
+    return conclude(r, process, &c, c.count > 0 && c.variable[0] < r->node[process].older, c.variable);
+}
+
+static int start(struct run *r, unsigned process)
+{
+    switch (row(r, process)[RISSOBARM_ROW_TAG]) {
+    case RISSOBARM_TAG_AND_PAR:
+        return start_and_par(r, process);
+    case RISSOBARM_TAG_AND_SEQ:
+        return start_and_seq(r, process);
+    case RISSOBARM_TAG_OR_PAR:
+        return start_or_par(r, process);
+    case RISSOBARM_TAG_SEQ_SEARCH:
+        if (r->relation[relation_of(r, row(r, process))].blocks == 0)
+            return report(r, process, RISSOBARM_RESULT_FAILURE);
+        return open_block(r, process, 0);
+    case RISSOBARM_TAG_OR_SEARCH:
+        return start_or_search(r, process);
+    case RISSOBARM_TAG_TRY_CLAUSE:
+        return start_try_clause(r, process);
+    case RISSOBARM_TAG_INPUT_MATCH:
+        return start_input_match(r, process);
+    case RISSOBARM_TAG_GUARD_EVAL:
+        return start_guard_eval(r, process);
+    default:
+        return start_equate(r, process);
+    }
+}
+
+/* The lowest child that reports success gives its clause. */
+static int commit(struct run *r, unsigned process)
+{
+    const uint8_t *child, *found = NULL;
+    unsigned k;
+
+    for (k = r->node[process].child; k != 0; k = r->node[k].sibling) {
+        child = row(r, k);
+        if (child[RISSOBARM_ROW_MODE] == RISSOBARM_MODE_REPORTING &&
+            child[RISSOBARM_ROW_RESULT] == RISSOBARM_RESULT_SUCCESS)
+            found = child;
+    }
+    if (found == NULL)
+        return report(r, process, RISSOBARM_RESULT_FAILURE);
+    copy_found(row(r, process), found);
+    return report(r, process, RISSOBARM_RESULT_SUCCESS);
+}
+
+static int spawn(struct run *r, unsigned process, uint8_t *child)
+{
+    if (child[RISSOBARM_ROW_TAG] != RISSOBARM_TAG_SEQ_SEARCH)
+        return report(r, process, RISSOBARM_RESULT_SUCCESS);
+    if (!room(r, 1, 0))
+        return 0;
+    child[RISSOBARM_ROW_MODE] = RISSOBARM_MODE_DORMANT;
+    add_goal(r, process, RISSOBARM_GOAL_BODY, child[RISSOBARM_ROW_FOUND], word(child + RISSOBARM_ROW_FIRST));
+    return 1;
+}
+
+static int next_block(struct run *r, unsigned process, uint8_t *child)
+{
+    uint8_t *me = row(r, process);
+
+    if (me[RISSOBARM_ROW_BLOCK] + 1u >= r->relation[relation_of(r, me)].blocks)
+        return report(r, process, RISSOBARM_RESULT_FAILURE);
+    if (!room(r, 1, 0))
+        return 0;
+    child[RISSOBARM_ROW_MODE] = RISSOBARM_MODE_DORMANT;
+    return open_block(r, process, me[RISSOBARM_ROW_BLOCK] + 1u);
+}
+
+/* The tags that hear their latest child alone. */
+static int hear_latest(struct run *r, unsigned process)
+{
+    uint8_t *me = row(r, process), *child = row(r, r->node[process].child);
+
+    if (child[RISSOBARM_ROW_RESULT] == RISSOBARM_RESULT_FAILURE)
+        return me[RISSOBARM_ROW_TAG] == RISSOBARM_TAG_SEQ_SEARCH ? next_block(r, process, child)
+                                                                 : report(r, process, RISSOBARM_RESULT_FAILURE);
+    switch (me[RISSOBARM_ROW_TAG]) {
+    case RISSOBARM_TAG_AND_SEQ:
+        me[RISSOBARM_ROW_STAGE]++;
+        child[RISSOBARM_ROW_MODE] = RISSOBARM_MODE_DORMANT;
+        me[RISSOBARM_ROW_MODE] = RISSOBARM_MODE_STARTING;
+        return 1;
+    case RISSOBARM_TAG_OR_PAR:
+        return spawn(r, process, child);
+    case RISSOBARM_TAG_SEQ_SEARCH:
+        copy_found(me, child);
+        break;
+    default:
+        break;
+    }
+    return report(r, process, RISSOBARM_RESULT_SUCCESS);
+}
+
+static int hear(struct run *r, unsigned process)
+{
+    switch (row(r, process)[RISSOBARM_ROW_TAG]) {
+    case RISSOBARM_TAG_AND_PAR:
+    case RISSOBARM_TAG_TRY_CLAUSE:
+        return report(r, process,
+                      r->node[process].said & SOME_FAILURE ? RISSOBARM_RESULT_FAILURE : RISSOBARM_RESULT_SUCCESS);
+    case RISSOBARM_TAG_OR_SEARCH:
+        return commit(r, process);
+    default:
+        return hear_latest(r, process);
+    }
+}
+
+/* Makes the move of a process that can move. */
+static int move(struct run *r, unsigned process)
+{
+    uint8_t *me = row(r, process);
+
+    switch (me[RISSOBARM_ROW_MODE]) {
+    case RISSOBARM_MODE_READY:
+        me[RISSOBARM_ROW_MODE] = RISSOBARM_MODE_STARTING;
+        return 1;
+    case RISSOBARM_MODE_STARTING:
+        return start(r, process);
+    case RISSOBARM_MODE_WAITING:
+        return hear(r, process);
+    case RISSOBARM_MODE_SUSPENDED:
+        take_out(r->suspended, process);
+        me[RISSOBARM_ROW_MODE] = RISSOBARM_MODE_STARTING;
+        me[RISSOBARM_ROW_NOTE_COUNT] = 0;
+        memset(me + RISSOBARM_ROW_NOTES, 0, 2 * RISSOBARM_NOTE_LIMIT);
+        return 1;
+    default:
+        me[RISSOBARM_ROW_MODE] = RISSOBARM_MODE_DORMANT;
+        return 1;
+    }
+}
+
+/* ---- the run ---- */
+
+static unsigned go(struct run *r, unsigned limit, unsigned *made)
+{
+    unsigned process;
+
+    for (*made = 0;; ++*made) {
+        if (r->procs[RISSOBARM_ROW_MODE] == RISSOBARM_MODE_DORMANT)
+            return r->procs[RISSOBARM_ROW_RESULT] == RISSOBARM_RESULT_SUCCESS ? RISSOBARM_END_SUCCESS
+                                                                              : RISSOBARM_END_FAILURE;
+        process = next_in_turn(r);
+        if (process == RISSOBARM_PROCESS_LIMIT)
+            return RISSOBARM_END_WAITING;
+        if (*made == limit)
+            return RISSOBARM_END_BUDGET;
+        if (!move(r, process))
+            return RISSOBARM_END_ROOM;
+        look_at(r, process);
+        r->last = process;
+        r->steps += r->steps != UINT32_MAX;
+    }
+}
+
+/* The tests of every call: the image, the sizes, the table rules. Accepted, or the refusal. */
+static uint64_t enter(struct run *r, const uint8_t *image, size_t image_len, const uint8_t *head, size_t head_len,
+                      size_t procs_len, size_t vars_len)
+{
+    uint64_t loaded = checker_load(image, image_len);
+
+    if ((loaded & 255) != RISSOBARM_ACCEPTED)
+        return loaded;
+    if (head_len != RISSOBARM_HEAD_SIZE || procs_len != RISSOBARM_PROCS_SIZE || vars_len != RISSOBARM_VARS_SIZE)
+        return RISSOBARM_STATE;
+    index_image(r, image, image_len);
+    r->count = word(head + RISSOBARM_HEAD_PROCS);
+    r->variables = word(head + RISSOBARM_HEAD_VARS);
+    r->last = word(head + RISSOBARM_HEAD_LAST);
+    r->steps = word(head + RISSOBARM_HEAD_STEPS) | (uint32_t)word(head + RISSOBARM_HEAD_STEPS + 2) << 16;
+    return tables_good(r) ? RISSOBARM_ACCEPTED : RISSOBARM_STATE;
+}
+
+uint64_t quick_run(const uint8_t *image, size_t image_len, uint8_t *head, size_t head_len,
+                   uint8_t *procs, size_t procs_len, uint8_t *vars, size_t vars_len,
+                   uint16_t limit)
+{
+    struct run r;
+    uint64_t refusal;
+    unsigned end, made;
+
+    r.procs = procs;
+    r.vars = vars;
+    refusal = enter(&r, image, image_len, head, head_len, procs_len, vars_len);
+    if (refusal != RISSOBARM_ACCEPTED)
+        return refusal;
+    gather(&r);
+    end = go(&r, limit, &made);
+    put_word(head + RISSOBARM_HEAD_PROCS, r.count);
+    put_word(head + RISSOBARM_HEAD_VARS, r.variables);
+    put_word(head + RISSOBARM_HEAD_LAST, r.last);
+    put_word(head + RISSOBARM_HEAD_STEPS, r.steps & 65535);
+    put_word(head + RISSOBARM_HEAD_STEPS + 2, r.steps >> 16);
+    return (uint64_t)end << 8 | (uint64_t)made << 32;
+}
+
+/* ---- the supply ---- */
+
+uint64_t quick_supply(const uint8_t *image, size_t image_len, const uint8_t *head, size_t head_len,
+                      const uint8_t *procs, size_t procs_len, uint8_t *vars, size_t vars_len,
+                      uint32_t variable, uint32_t constant)
+{
+    struct run r;
+    struct changes c = { 0, { 0 }, { 0 } };
+    uint64_t refusal;
+    uint32_t found;
+
+    r.procs = (uint8_t *)procs; /* no process is written */
+    r.vars = vars;
+    refusal = enter(&r, image, image_len, head, head_len, procs_len, vars_len);
+    if (refusal != RISSOBARM_ACCEPTED)
+        return refusal;
+    if (variable >= r.goal_variables)
+        return RISSOBARM_NOVAR;
+    if (constant > RISSOBARM_CONSTANT_LIMIT)
+        return RISSOBARM_CONST;
+    found = value(&r, &c, variable | IS_VARIABLE);
+    if (!(found & IS_VARIABLE))
+        return RISSOBARM_BOUND;
+    unify(&r, &c, found, constant);
+    bind(&r, &c);
+    return RISSOBARM_ACCEPTED;
+}
