@@ -7,4 +7,10 @@ use Rattle.capi.proofs.rissobarm_run.Tie as tie
 pub rissobarm-run-spec : {M : Type 1} → statement M
 rissobarm-run-spec =
     tie.close
-    (tie.spec (λ c κs. search needs) (λ c κs. run-fit _ _ _ _ (c .before .before .before .before .before .before .run .ensures) (omega arith)) (λ c. search needs) (λ c. search needs) (λ c. search needs) (λ c. run-tells _ _ _ _ (c .before .before .before .before .before .before .before .run .ensures) (c .run-word .ensures)))
+    (tie.spec
+    (λ c κs. search needs)
+    (λ c κs. run-fit _ _ _ _ (c .before .before .before .before .before .before .run .ensures) (omega arith))
+    (λ c. search needs)
+    (λ c. search needs)
+    (λ c. search needs)
+    (λ c. run-tells _ _ _ _ (c .before .before .before .before .before .before .before .run .ensures) (c .run-word .ensures)))

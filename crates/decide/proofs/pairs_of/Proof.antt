@@ -17,6 +17,12 @@ pairs-of-spec =
     (λ c κs. omega arith)
     (λ c κs. (lit< tt, c .before .before .before .pre .3, c .before .before .before .pre .4, c .before .before .before .pre .5, c .before .before .before .pre .0 0 (lit< tt), c .before .before .before .pre .1 0 (lit< tt), omega arith))
     (λ c κs. (lit< tt, c .before .before .before .before .pre .3, c .before .before .before .before .pre .4, c .before .before .before .before .pre .5, c .before .before .before .before .pre .0 1 (lit< tt), c .before .before .before .before .pre .1 1 (lit< tt), omega arith))
-    (λ c κs. (lit< tt, c .before .before .before .before .before .pre .3, c .before .before .before .before .before .pre .4, c .before .before .before .before .before .pre .5, c .before .before .before .before .before .pre .0 2 (lit< tt), c .before .before .before .before .before .pre .1 2 (lit< tt), omega arith))
-    (λ c κs. (lit< tt, c .before .before .before .before .before .before .pre .3, c .before .before .before .before .before .before .pre .4, c .before .before .before .before .before .before .pre .5, c .before .before .before .before .before .before .pre .0 3 (lit< tt), c .before .before .before .before .before .before .pre .1 3 (lit< tt), omega arith))
-    (λ c. let p = (c .before .before .before .before .before .before .before .pre) in pairs-four _ _ _ _ _ _ (p .3) (p .4) (p .5) (c .before .before .before .before .before .before .out-after .ensures .0) (c .before .before .before .before .before .out-after2 .ensures .0) (c .before .before .before .before .out-after3 .ensures .0) (c .before .before .before .pair-at .ensures) (c .before .before .pair-at2 .ensures) (c .before .pair-at3 .ensures) (c .pair-at4 .ensures)))
+    (λ c κs. let c1 = c .before .before .before .before .before in
+    (lit< tt, c1 .pre .3, c1 .pre .4, c1 .pre .5, c1 .pre .0 2 (lit< tt), c1 .pre .1 2 (lit< tt), omega arith))
+    (λ c κs. let c1 = c .before .before .before .before .before .before in
+    (lit< tt, c1 .pre .3, c1 .pre .4, c1 .pre .5, c1 .pre .0 3 (lit< tt), c1 .pre .1 3 (lit< tt), omega arith))
+    (λ c. let c1 = c .before .before .before .before in
+    let c2 = c1 .before in
+    let c3 = c2 .before in
+    let c4 = c3 .before in
+    let p = (c4 .pre) in pairs-four _ _ _ _ _ _ (p .3) (p .4) (p .5) (c3 .out-after .ensures .0) (c2 .out-after2 .ensures .0) (c1 .out-after3 .ensures .0) (c .before .before .before .pair-at .ensures) (c .before .before .pair-at2 .ensures) (c .before .pair-at3 .ensures) (c .pair-at4 .ensures)))

@@ -17,4 +17,8 @@ begin-spec =
     (λ c. search needs)
     (λ c. search needs)
     (λ c. search needs)
-    (λ c. begun _ small-usable _ (c .before .before .before .before .before .before .before .before .before .before .before .before .goal-vars .ensures .0) (c .before .before .before .before .before .before .before .before .before .before .before .before .goal-vars .ensures .1) _ _ _ _ (c .before .before .put-head .ensures) (c .before .before .before .before .before .before .before .before .before .before .begin-procs .ensures) (c .before .before .before .before .before .before .before .before .before .before .before .before .before .before .before .before .before .pre .4) (c .before .before .before .before .before .before .wipe .ensures)))
+    (λ c. let c1 = c .before .before .before .before .before .before in
+    let c2 = c1 .before .before .before .before in
+    let c3 = c2 .before .before in
+    let c4 = c3 .before .before .before .before .before in
+    begun _ small-usable _ (c3 .goal-vars .ensures .0) (c3 .goal-vars .ensures .1) _ _ _ _ (c .before .before .put-head .ensures) (c2 .begin-procs .ensures) (c4 .pre .4) (c1 .wipe .ensures)))

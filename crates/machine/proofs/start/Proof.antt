@@ -20,4 +20,7 @@ start-spec =
     (λ c. search needs)
     (λ c. search needs)
     (λ c. search needs)
-    (λ c. start-begun _ _ _ (c .before .before .before .before .before .before .before .before .before .before .before .before .before .startable .ensures) (c .before .before .before .before .before .before .before .before .before .before .before .a .given .1) (c .before .before .before .before .before .before .begin .ensures)))
+    (λ c. let c1 = c .before .before .before .before .before .before in
+    let c2 = c1 .before .before .before .before .before in
+    let c3 = c2 .before .before in
+    start-begun _ _ _ (c3 .startable .ensures) (c2 .a .given .1) (c1 .begin .ensures)))

@@ -15,4 +15,7 @@ literal-here-spec =
     (λ c κs. search needs)
     (λ c κs. search needs)
     (λ c κs. search needs)
-    (λ c. (lit-here (c .before .before .before .before .before .before .before .args .s .now) _ (c .before .before .before .before .before .byte-at .ensures .0) (c .before .before .before .before .byte-at2 .ensures .0) (c .before .before .before .term-of .ensures) (c .before .before .term-of2 .ensures) (c .before .term-of3 .ensures) (c .term-of4 .ensures), c .before .before .before .before .before .byte-at .ensures .1)))
+    (λ c. let c1 = c .before .before .before .before in
+    let c2 = c1 .before in
+    let c3 = c2 .before .before in
+    (lit-here (c3 .args .s .now) _ (c2 .byte-at .ensures .0) (c1 .byte-at2 .ensures .0) (c .before .before .before .term-of .ensures) (c .before .before .term-of2 .ensures) (c .before .term-of3 .ensures) (c .term-of4 .ensures), c2 .byte-at .ensures .1)))

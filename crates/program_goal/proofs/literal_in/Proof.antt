@@ -13,8 +13,13 @@ literal-in-spec =
     (λ c κs. search needs)
     (λ c κs. tt)
     (λ c κs. tt)
-    (λ c. ((c .none2 .ensures .0) ∙ in-past (c .before .before .before .before .before .before .args .s .now) _ _ _ (c .before .before .before .before .if1 .left) (c .before .before .before .stages-end .ensures .0) (c .before .before .byte-at .ensures .0) _ (c .before .if2 .taken), c .none2 .ensures .1))
+    (λ c. let c1 = c .before .before .before .before in
+    let c2 = c1 .before .before in
+    ((c .none2 .ensures .0) ∙ in-past (c2 .args .s .now) _ _ _ (c1 .if1 .left) (c .before .before .before .stages-end .ensures .0) (c .before .before .byte-at .ensures .0) _ (c .before .if2 .taken), c .none2 .ensures .1))
     (λ c. search needs)
     (λ c κs. search needs)
     (λ c κs. search needs)
-    (λ c. ((c .literal-here .ensures .0) ∙ in-here (c .before .before .before .before .before .before .before .args .s .now) _ _ _ (c .before .before .before .before .before .if1 .left) (c .before .before .before .before .stages-end .ensures .0) (c .before .before .before .byte-at .ensures .0) _ (c .before .before .if2 .left) (c .before .literals-end .ensures .0), c .literal-here .ensures .1)))
+    (λ c. let c1 = c .before .before .before .before in
+    let c2 = c1 .before in
+    let c3 = c2 .before .before in
+    ((c .literal-here .ensures .0) ∙ in-here (c3 .args .s .now) _ _ _ (c2 .if1 .left) (c1 .stages-end .ensures .0) (c .before .before .before .byte-at .ensures .0) _ (c .before .before .if2 .left) (c .before .literals-end .ensures .0), c .literal-here .ensures .1)))

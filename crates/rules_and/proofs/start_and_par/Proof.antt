@@ -15,4 +15,6 @@ start-and-par-spec =
     (λ c κs. tt)
     (λ c κs. tt)
     (λ c κs. search needs)
-    (λ c. (par-starts _ _ _ _ _ (c .before .before .before .before .before .before .stage-size .ensures .0) (c .before .before .before .before .members .ensures) ((c .before .before .with-mode .ensures) waiting refl) (c .before .touched .ensures) (c .make .ensures .0), (c .make .ensures .1), (c .make .ensures .2))))
+    (λ c. let c1 = c .before .before .before .before in
+    let c2 = c1 .before .before in
+    (par-starts _ _ _ _ _ (c2 .stage-size .ensures .0) (c1 .members .ensures) ((c .before .before .with-mode .ensures) waiting refl) (c .before .touched .ensures) (c .make .ensures .0), (c .make .ensures .1), (c .make .ensures .2))))

@@ -15,4 +15,6 @@ start-try-clause-spec =
     (λ c κs. search needs)
     (λ c κs. tt)
     (λ c κs. tt)
-    (λ c. (try-starts _ _ _ (c .before .before .before .before .before .try-spot .ensures) (c .before .before .before .before .new-process .ensures) (c .before .before .before .guard-spot .ensures) (c .before .before .new-process2 .ensures) ((c .before .with-mode .ensures) waiting refl) (c .with-children .ensures .0), (c .with-children .ensures .1), (c .with-children .ensures .2))))
+    (λ c. let c1 = c .before .before .before .before in
+    let c2 = c1 .before in
+    (try-starts _ _ _ (c2 .try-spot .ensures) (c1 .new-process .ensures) (c .before .before .before .guard-spot .ensures) (c .before .before .new-process2 .ensures) ((c .before .with-mode .ensures) waiting refl) (c .with-children .ensures .0), (c .with-children .ensures .1), (c .with-children .ensures .2))))

@@ -32,17 +32,45 @@ going-spec =
     (λ c. omega (arith, (c .before .before .before .before .before .before .before .before .before .loop .inv .inside .head), (c .before .before .before .before .before .before .before .before .before .before .before .before .before .before .pre .0 .head)))
     (λ c. omega (arith, (c .before .before .before .before .before .before .before .before .before .loop .inv .inside .procs-size), (c .before .before .before .before .before .before .before .before .before .before .before .before .before .before .pre .0 .procs-size)))
     (λ c. omega (arith, (c .before .before .before .before .before .before .before .before .before .loop .inv .inside .vars-size), (c .before .before .before .before .before .before .before .before .before .before .before .before .before .before .pre .0 .vars-size)))
-    (λ c. going-spent _ _ _ _ _ _ (c .before .before .before .before .before .before .before .before .before .before .before .before .before .before .pre .0) _ _ (c .before .before .before .before .before .before .before .before .before .loop .inv) (c .before .before .before .before .look .ensures) (c .before .before .f .given .1) (c .if1 .taken))
-    (λ c κs. ((c .before .before .before .before .before .before .before .before .before .before .before .before .loop .inv .inside), look-below _ (c .before .before .before .before .before .before .before .look .ensures) (c .before .before .before .before .before .f .given .1), λ w. (c .before .before .before .before .before .before .before .look .ensures .told) _ (c .before .before .before .before .before .f .given .1)))
+    (λ c. let c1 = c .before .before .before .before in
+    let c2 = c1 .before .before .before .before .before in
+    let c3 = c2 .before .before .before .before .before in
+    going-spent _ _ _ _ _ _ (c3 .pre .0) _ _ (c2 .loop .inv) (c1 .look .ensures) (c .before .before .f .given .1) (c .if1 .taken))
+    (λ c κs. let c1 = c .before .before .before .before .before in
+    let c2 = c1 .before .before in
+    let c3 = c2 .before .before .before .before .before in
+    ((c3 .loop .inv .inside), look-below _ (c2 .look .ensures) (c1 .f .given .1), λ w. (c2 .look .ensures .told) _ (c1 .f .given .1)))
     (λ c. search needs)
     (λ c. search needs)
-    (λ c. omega (arith, (c .before .before .before .before .before .before .before .head .given), (c .before .before .before .before .before .before .before .before .before .before .before .before .before .before .before .before .before .before .before .before .before .loop .inv .inside .head), (c .before .before .before .before .before .before .before .before .before .before .before .before .before .before .before .before .before .before .before .before .before .before .before .before .before .before .pre .0 .head)))
-    (λ c. omega (arith, (c .before .before .before .before .before .procs .given), (c .before .before .before .before .before .before .before .before .before .before .before .before .before .before .before .before .before .before .before .before .before .loop .inv .inside .procs-size), (c .before .before .before .before .before .before .before .before .before .before .before .before .before .before .before .before .before .before .before .before .before .before .before .before .before .before .pre .0 .procs-size)))
-    (λ c. omega (arith, (c .before .before .before .vars .given), (c .before .before .before .before .before .before .before .before .before .before .before .before .before .before .before .before .before .before .before .before .before .loop .inv .inside .vars-size), (c .before .before .before .before .before .before .before .before .before .before .before .before .before .before .before .before .before .before .before .before .before .before .before .before .before .before .pre .0 .vars-size)))
-    (λ c. going-room _ _ _ _ _ _ (c .before .before .before .before .before .before .before .before .before .before .before .before .before .before .before .before .before .before .before .before .before .before .before .before .before .before .pre .0) _ _ (c .before .before .before .before .before .before .before .before .before .before .before .before .before .before .before .before .before .before .before .before .before .loop .inv) (c .before .before .before .before .before .before .before .before .before .before .before .before .before .before .before .before .look .ensures) (c .before .before .before .before .before .before .before .before .before .before .before .before .before .before .f .given .1) (c .before .before .before .before .before .before .before .before .before .before .before .before .if1 .left) (c .before .before .before .before .before .before .before .before .stepped .ensures) (c .enum-told3 .given .1))
-    (λ c. omega (arith, (c .before .before .before .before .before .before .before .before .before .before .before .before .before .before .before .before .before .before .before .before .loop-test .taken), (c .before .before .before .before .before .before .before .before .before .before .before .before .before .before .before .before .before .before .before .before .before .before .before .before .before .before .pre .1)))
+    (λ c. let c1 = c .before .before .before .before .before .before .before in
+    let c2 = c1 .before .before .before .before .before .before .before .before .before .before .before .before .before .before in
+    let c3 = c2 .before .before .before .before .before in
+    omega (arith, (c1 .head .given), (c2 .loop .inv .inside .head), (c3 .pre .0 .head)))
+    (λ c. let c1 = c .before .before .before .before .before in
+    let c2 = c1 .before .before .before .before .before .before .before .before .before .before .before .before .before .before .before .before in
+    let c3 = c2 .before .before .before .before .before in
+    omega (arith, (c1 .procs .given), (c2 .loop .inv .inside .procs-size), (c3 .pre .0 .procs-size)))
+    (λ c. let c1 = c .before .before .before .before .before .before .before .before .before .before .before .before .before .before .before .before .before .before .before .before .before in
+    let c2 = c1 .before .before .before .before .before in
+    omega (arith, (c .before .before .before .vars .given), (c1 .loop .inv .inside .vars-size), (c2 .pre .0 .vars-size)))
+    (λ c. let c1 = c .before .before .before .before .before .before .before .before in
+    let c2 = c1 .before .before .before .before in
+    let c3 = c2 .before .before in
+    let c4 = c3 .before .before in
+    let c5 = c4 .before .before .before .before .before in
+    let c6 = c5 .before .before .before .before .before in
+    going-room _ _ _ _ _ _ (c6 .pre .0) _ _ (c5 .loop .inv) (c4 .look .ensures) (c3 .f .given .1) (c2 .if1 .left) (c1 .stepped .ensures) (c .enum-told3 .given .1))
+    (λ c. let c1 = c .before .before .before .before .before .before .before .before .before .before .before .before .before .before .before .before .before .before .before .before in
+    let c2 = c1 .before .before .before .before .before .before in
+    omega (arith, (c1 .loop-test .taken), (c2 .pre .1)))
     (λ c. omega (arith, (c .before .before .before .before .before .before .before .before .before .before .before .before .before .before .before .before .before .before .before .before .loop-test .taken)))
-    (λ c. going-on _ _ _ _ _ _ (c .before .before .before .before .before .before .before .before .before .before .before .before .before .before .before .before .before .before .before .before .before .before .before .before .before .before .pre .0) _ _ (c .before .before .before .before .before .before .before .before .before .before .before .before .before .before .before .before .before .before .before .before .before .loop .inv) (c .before .before .before .before .before .before .before .before .before .before .before .before .before .before .before .before .look .ensures) (c .before .before .before .before .before .before .before .before .before .before .before .before .before .before .f .given .1) (c .before .before .before .before .before .before .before .before .before .before .before .before .if1 .left) (c .before .before .before .before .before .before .before .before .stepped .ensures) (c .enum-told2 .given .1))
+    (λ c. let c1 = c .before .before .before .before .before .before .before .before in
+    let c2 = c1 .before .before .before .before in
+    let c3 = c2 .before .before in
+    let c4 = c3 .before .before in
+    let c5 = c4 .before .before .before .before .before in
+    let c6 = c5 .before .before .before .before .before in
+    going-on _ _ _ _ _ _ (c6 .pre .0) _ _ (c5 .loop .inv) (c4 .look .ensures) (c3 .f .given .1) (c2 .if1 .left) (c1 .stepped .ensures) (c .enum-told2 .given .1))
     (λ c. omega (arith, (c .before .loop .inv .inside .head), (c .before .before .before .before .before .before .pre .0 .head)))
     (λ c. omega (arith, (c .before .loop .inv .inside .procs-size), (c .before .before .before .before .before .before .pre .0 .procs-size)))
     (λ c. omega (arith, (c .before .loop .inv .inside .vars-size), (c .before .before .before .before .before .before .pre .0 .vars-size)))

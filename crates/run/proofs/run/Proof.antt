@@ -21,4 +21,7 @@ run-spec =
     (λ c. search needs)
     (λ c. search needs)
     (λ c. search needs)
-    (λ c. run-ran _ _ _ (c .before .before .before .before .before .before .before .before .before .before .before .before .before .enter .ensures) _ (c .before .before .before .before .before .before .before .before .before .before .before .e .given .1) (c .before .before .before .before .before .before .going .ensures)))
+    (λ c. let c1 = c .before .before .before .before .before .before in
+    let c2 = c1 .before .before .before .before .before in
+    let c3 = c2 .before .before in
+    run-ran _ _ _ (c3 .enter .ensures) _ (c2 .e .given .1) (c1 .going .ensures)))

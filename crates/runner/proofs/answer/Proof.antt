@@ -14,10 +14,17 @@ answer-spec =
     (λ c κs. search needs)
     (λ c κs. search needs)
     (λ c. search needs)
-    (λ c. told-refused _ _ (c .before .before .before .before .before .before .before .load .ensures .0) (c .before .before .before .before .before .enum-told .given .1) (c .before .before .before .before .refusal .ensures) (c .before .before .before .before .before .before .before .before .before .before .pre) (c .before .before .refused .ensures))
+    (λ c. let c1 = c .before .before .before .before in
+    let c2 = c1 .before in
+    let c3 = c2 .before .before in
+    let c4 = c3 .before .before .before in
+    told-refused _ _ (c3 .load .ensures .0) (c2 .enum-told .given .1) (c1 .refusal .ensures) (c4 .pre) (c .before .before .refused .ensures))
     (λ c. search needs)
     (λ c. search needs)
     (λ c. search needs)
-    (λ c κs. (sym (c .before .before .before .before .before .before .before .load .ensures .0) ∙ (c .before .before .before .before .before .l .given .1), (rw (c .before .before .before .before .before .l .given .1) at (c .before .before .before .before .before .before .before .load .ensures .1)) .0, (rw (c .before .before .before .before .before .l .given .1) at (c .before .before .before .before .before .before .before .load .ensures .1)) .1, refl, refl, refl, (c .before .before .before .before .before .before .before .before .before .before .pre)))
+    (λ c κs. let c1 = c .before .before .before .before .before in
+    let c2 = c1 .before .before in
+    let c3 = c2 .before .before .before in
+    (sym (c2 .load .ensures .0) ∙ (c1 .l .given .1), (rw (c1 .l .given .1) at (c2 .load .ensures .1)) .0, (rw (c1 .l .given .1) at (c2 .load .ensures .1)) .1, refl, refl, refl, (c3 .pre)))
     (λ c. search needs)
     (λ c. search needs))

@@ -12,7 +12,9 @@ behind-call-spec =
     (λ c κs. tt)
     (λ c κs. search needs)
     (λ c. search needs)
-    (λ c. let s = c .before .before .before .before .before .before in call-block (programOf (s .args .image .now) (s .args .rels) (s .args .clauses)) (s .args .n) (s .args .z) (s .args .rel) (s .args .waits) (s .args .t) (c .before .before .before .before .and .ensures) (c .before .before .before .or .ensures) (c .before .before .if1 .taken) (c .before .block-count .ensures .0))
+    (λ c. let c1 = c .before .before .before .before in
+    let c2 = c1 .before .before in
+    let s = c2 in call-block (programOf (s .args .image .now) (s .args .rels) (s .args .clauses)) (s .args .n) (s .args .z) (s .args .rel) (s .args .waits) (s .args .t) (c1 .and .ensures) (c .before .before .before .or .ensures) (c .before .before .if1 .taken) (c .before .block-count .ensures .0))
     (λ c. let s = c .before .before .before .before .before in call-none (programOf (s .args .image .now) (s .args .rels) (s .args .clauses)) (s .args .n) (s .args .z) (s .args .rel) (s .args .waits) (s .args .t) (c .before .before .before .and .ensures) (c .before .before .or .ensures) (c .before .if1 .left) (c .if2 .taken))
     (λ c κs. search needs)
     (λ c. search needs)

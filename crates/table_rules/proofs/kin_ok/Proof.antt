@@ -18,4 +18,6 @@ kin-ok-spec =
     (λ c. let s = c .before .before .before .before .before in kin-none (programOf (s .args .image .now) (s .args .rels) (s .args .clauses)) (procsOf (s .args .procs .now) (s .args .count)) (s .args .x) (c .before .before .if1 .left) (c .if2 .taken))
     (λ c κs. search needs)
     (λ c κs. tt)
-    (λ c. let s = c .before .before .before .before .before .before .before in kin-made (programOf (s .args .image .now) (s .args .rels) (s .args .clauses)) (procsOf (s .args .procs .now) (s .args .count)) (s .args .x) (c .before .before .before .before .if1 .left) (c .before .before .if2 .left) (c .before .tag-at .ensures) (c .makes .ensures)))
+    (λ c. let c1 = c .before .before .before .before in
+    let c2 = c1 .before .before .before in
+    let s = c2 in kin-made (programOf (s .args .image .now) (s .args .rels) (s .args .clauses)) (procsOf (s .args .procs .now) (s .args .count)) (s .args .x) (c1 .if1 .left) (c .before .before .if2 .left) (c .before .tag-at .ensures) (c .makes .ensures)))

@@ -11,4 +11,7 @@ own-ok-spec =
     (λ c κs. tt)
     (λ c κs. tt)
     (λ c κs. tt)
-    (λ c. let s = c .before .before .before .before .before .before in own-is (s .args .n) (s .args .i) (s .args .x) (c .before .before .before .before .before .known .ensures) (c .before .before .before .before .result-ok .ensures) (c .before .before .notes-ok .ensures) (c .before .and .ensures) (c .and2 .ensures)))
+    (λ c. let c1 = c .before .before .before .before in
+    let c2 = c1 .before in
+    let c3 = c2 .before in
+    let s = c3 in own-is (s .args .n) (s .args .i) (s .args .x) (c2 .known .ensures) (c1 .result-ok .ensures) (c .before .before .notes-ok .ensures) (c .before .and .ensures) (c .and2 .ensures)))
