@@ -15,6 +15,4 @@ decide-spec =
     (λ c κs. (search needs, search needs, search needs, search needs, (c .before .before .before .before .pre .6), omega arith, (c .before .before .unify .ensures .2), made-there _ _ _ _ _ (c .before .before .unify .ensures .0) (not-false _ (c .if1 .left)) (omega arith) (c .before .before .unify .ensures .2) (search needs) (c .before .before .before .before .pre .3)))
     (λ c. way-suspends _ _ _ _ (c .before .before .before .before .before .unify .ensures .0) (c .before .before .before .before .before .unify .ensures .2) (not-false _ (c .before .before .before .if1 .left)) (omega arith) (c .before .before .needed .ensures) (c .if2 .taken))
     (λ c κs. tt)
-    (λ c. let c1 = c .before .before .before .before in
-    let c2 = c1 .before .before in
-    way-binds _ _ _ _ (c2 .unify .ensures .0) (c2 .unify .ensures .2) (not-false _ (c1 .if1 .left)) (omega arith) (c .before .before .before .needed .ensures) (c .unnoted2 .ensures) (c .before .if2 .left)))
+    (λ c. way-binds _ _ _ _ (c .before .before .before .before .before .before .unify .ensures .0) (c .before .before .before .before .before .before .unify .ensures .2) (not-false _ (c .before .before .before .before .if1 .left)) (omega arith) (c .before .before .before .needed .ensures) (c .unnoted2 .ensures) (c .before .if2 .left)))

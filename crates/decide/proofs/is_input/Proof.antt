@@ -30,10 +30,7 @@ is-input-spec =
     (λ c κs. (search needs, top-shifted _ _ _ (c .shift .ensures) ((c .before .before .before .before .before .pre .4) (c .before .before .before .loop .i) (c .before .before .loop-test .taken))))
     (λ c κs. tt)
     (λ c κs. tt)
-    (λ c. let c1 = c .before .before .before .before in
-    let c2 = c1 .before .before in
-    let c3 = c2 .before in
-    input-hit _ _ _ _ _ _ _ (omega arith) (omega arith) (c2 .loop-test .taken) (c1 .shift .ensures) (c .before .before .before .value-of .ensures) (c .before .before .is-var .ensures) (c .before .and .ensures) (c .if1 .taken) ∙ (c3 .loop .inv .3))
+    (λ c. input-hit _ _ _ _ _ _ _ (omega arith) (omega arith) (c .before .before .before .before .before .before .loop-test .taken) (c .before .before .before .before .shift .ensures) (c .before .before .before .value-of .ensures) (c .before .before .is-var .ensures) (c .before .and .ensures) (c .if1 .taken) ∙ (c .before .before .before .before .before .before .before .loop .inv .3))
     (λ c. search needs)
     (λ c. search needs)
     (λ c. (search needs, search needs, search needs, input-miss _ _ _ _ _ _ _ (omega arith) (omega arith) (c .before .before .before .before .before .before .loop-test .taken) (c .before .before .before .before .shift .ensures) (c .before .before .before .value-of .ensures) (c .before .before .is-var .ensures) (c .before .and .ensures) (c .if1 .left) ∙ (c .before .before .before .before .before .before .before .loop .inv .3)))

@@ -17,10 +17,8 @@ pairs-of-spec =
     (λ c κs. omega arith)
     (λ c κs. (lit< tt, c .before .before .before .pre .3, c .before .before .before .pre .4, c .before .before .before .pre .5, c .before .before .before .pre .0 0 (lit< tt), c .before .before .before .pre .1 0 (lit< tt), omega arith))
     (λ c κs. (lit< tt, c .before .before .before .before .pre .3, c .before .before .before .before .pre .4, c .before .before .before .before .pre .5, c .before .before .before .before .pre .0 1 (lit< tt), c .before .before .before .before .pre .1 1 (lit< tt), omega arith))
-    (λ c κs. let c1 = c .before .before .before .before .before in
-    (lit< tt, c1 .pre .3, c1 .pre .4, c1 .pre .5, c1 .pre .0 2 (lit< tt), c1 .pre .1 2 (lit< tt), omega arith))
-    (λ c κs. let c1 = c .before .before .before .before .before .before in
-    (lit< tt, c1 .pre .3, c1 .pre .4, c1 .pre .5, c1 .pre .0 3 (lit< tt), c1 .pre .1 3 (lit< tt), omega arith))
+    (λ c κs. (lit< tt, c .before .before .before .before .before .pre .3, c .before .before .before .before .before .pre .4, c .before .before .before .before .before .pre .5, c .before .before .before .before .before .pre .0 2 (lit< tt), c .before .before .before .before .before .pre .1 2 (lit< tt), omega arith))
+    (λ c κs. (lit< tt, c .before .before .before .before .before .before .pre .3, c .before .before .before .before .before .before .pre .4, c .before .before .before .before .before .before .pre .5, c .before .before .before .before .before .before .pre .0 3 (lit< tt), c .before .before .before .before .before .before .pre .1 3 (lit< tt), omega arith))
     (λ c. let c1 = c .before .before .before .before in
     let c2 = c1 .before in
     let c3 = c2 .before in

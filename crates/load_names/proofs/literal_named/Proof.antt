@@ -15,6 +15,4 @@ literal-named-spec =
     (λ c. let a = (c .before .before .before .before .before .args) in literal-fault (a .s .now) (a .rels) (a .vars) (a .at) (c .before .before .before .byte-in .result) (c .before .before .byte-in2 .result) (c .before .before .before .byte-in .ensures .0) (c .before .before .byte-in2 .ensures .0) (rw (c .before .relation-called .ensures) at (not-true (c .before .relation-called .result) (c .if1 .taken))))
     (λ c. search needs)
     (λ c κs. search needs)
-    (λ c. let c1 = c .before .before .before .before in
-    let c2 = c1 .before .before in
-    let a = (c2 .args) in rw (← literal-right (a .s .now) (a .rels) (a .vars) (a .at) (c1 .byte-in .result) (c .before .before .before .byte-in2 .result) (c1 .byte-in .ensures .0) (c .before .before .before .byte-in2 .ensures .0) (rw (c .before .before .relation-called .ensures) at (not-false (c .before .before .relation-called .result) (c .before .if1 .left)))) (c .terms-named .ensures)))
+    (λ c. let a = (c .before .before .before .before .before .before .args) in rw (← literal-right (a .s .now) (a .rels) (a .vars) (a .at) (c .before .before .before .before .byte-in .result) (c .before .before .before .byte-in2 .result) (c .before .before .before .before .byte-in .ensures .0) (c .before .before .before .byte-in2 .ensures .0) (rw (c .before .before .relation-called .ensures) at (not-false (c .before .before .relation-called .result) (c .before .if1 .left)))) (c .terms-named .ensures)))

@@ -14,7 +14,4 @@ begin-procs-spec =
     (λ c κs. search needs)
     (λ c κs. search needs)
     (λ c. search needs)
-    (λ c. let c1 = c .before .before .before .before .before .before in
-    let c2 = c1 .before .before in
-    let c3 = c2 .before .before .before in
-    begun-procs _ small-usable _ _ _ _ (c3 .pre .2) (c1 .wipe .ensures) (c2 .goal-process .ensures) (c .before .before .append .ensures) (λ b. omega (arith, (c .slice-known3 .given) b))))
+    (λ c. begun-procs _ small-usable _ _ _ _ (c .before .before .before .before .before .before .before .before .before .before .before .pre .2) (c .before .before .before .before .before .before .wipe .ensures) (c .before .before .before .before .before .before .before .before .goal-process .ensures) (c .before .before .append .ensures) (λ b. omega (arith, (c .slice-known3 .given) b))))

@@ -12,6 +12,5 @@ look-spec =
     (λ c κs. tt)
     (λ c. look-none _ _ _ (c .before .before .goal-vars .ensures .0) (c .before .if1 .taken) (c .refusal .ensures))
     (λ c κs. search needs)
-    (λ c κs. let c1 = c .before .before .before .before .before .before in
-    (omega (arith, (c .var-count .ensures .0), (c1 .pre .3)), var-top _ _ _ (c .before .if1 .left) (omega (arith, (c .before .before .goal-vars .ensures .0), (c .var-count .ensures .0), (c1 .pre .4)))))
+    (λ c κs. (omega (arith, (c .var-count .ensures .0), (c .before .before .before .before .before .before .pre .3)), var-top _ _ _ (c .before .if1 .left) (omega (arith, (c .before .before .goal-vars .ensures .0), (c .var-count .ensures .0), (c .before .before .before .before .before .before .pre .4)))))
     (λ c. look-some _ _ _ (c .before .before .before .goal-vars .ensures .0) (c .before .before .if1 .left) (rw (c .before .var-count .ensures .0) at (c .value-of .ensures))))

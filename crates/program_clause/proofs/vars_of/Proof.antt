@@ -18,7 +18,4 @@ vars-of-spec =
     (λ c. search needs)
     (λ c κs. tt)
     (λ c. search needs)
-    (λ c. let c1 = c .before .before .before .before in
-    let c2 = c1 .before in
-    let c3 = c2 .before .before in
-    (all-vars (c3 .args .s .now) _ _ _ (c2 .if1 .left) (c1 .record-at .ensures .0) (c .before .before .before .byte-at .ensures .0) _ _ (c .before .before .modes-of .ensures .0) (c .before .outs-of .ensures .0) (c .byte-at2 .ensures .0), omega arith)))
+    (λ c. (all-vars (c .before .before .before .before .before .before .before .args .s .now) _ _ _ (c .before .before .before .before .before .if1 .left) (c .before .before .before .before .record-at .ensures .0) (c .before .before .before .byte-at .ensures .0) _ _ (c .before .before .modes-of .ensures .0) (c .before .outs-of .ensures .0) (c .byte-at2 .ensures .0), omega arith)))

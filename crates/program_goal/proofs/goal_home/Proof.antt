@@ -20,6 +20,4 @@ goal-home-spec =
     (λ c κs. search needs)
     (λ c κs. tt)
     (λ c. search needs)
-    (λ c. let c1 = c .before .before .before .before in
-    let c2 = c1 .before .before in
-    (home-clause (c2 .args .s .now) _ _ _ (c1 .if1 .left) (c .before .before .before .if2 .left) (c .before .before .record-at2 .ensures .0) (c .before .part-place .ensures .0) (c .byte-at2 .ensures .0), (omega arith, omega arith, omega arith))))
+    (λ c. (home-clause (c .before .before .before .before .before .before .args .s .now) _ _ _ (c .before .before .before .before .if1 .left) (c .before .before .before .if2 .left) (c .before .before .record-at2 .ensures .0) (c .before .part-place .ensures .0) (c .byte-at2 .ensures .0), (omega arith, omega arith, omega arith))))

@@ -17,8 +17,6 @@ literal-at-spec =
     (λ c κs. tt)
     (λ c. search needs)
     (λ c κs. search needs)
-    (λ c. let c1 = c .before .before .before .before in
-    let c2 = c1 .before .before in
-    let a = (c2 .args) in ((c .equation .ensures .0) ∙ rw (c .before .before .term-at .ensures .0, c .before .byte-at .ensures .0) (lit-first (a .s .now) _ (a .h) _ (c1 .outs-before .ensures .0) _ (c .before .before .before .if1 .taken) ((c1 .outs-before .ensures .1) (c .before .before .before .if1 .taken))), c .equation .ensures .1))
+    (λ c. let a = (c .before .before .before .before .before .before .args) in ((c .equation .ensures .0) ∙ rw (c .before .before .term-at .ensures .0, c .before .byte-at .ensures .0) (lit-first (a .s .now) _ (a .h) _ (c .before .before .before .before .outs-before .ensures .0) _ (c .before .before .before .if1 .taken) ((c .before .before .before .before .outs-before .ensures .1) (c .before .before .before .if1 .taken))), c .equation .ensures .1))
     (λ c κs. search needs)
     (λ c. let a = (c .before .before .before .before .args) in ((c .literal-in .ensures .0) ∙ lit-second (a .s .now) _ (a .h) _ (c .before .before .outs-before .ensures .0) _ (c .before .if1 .left), c .literal-in .ensures .1)))

@@ -18,8 +18,4 @@ outs-before-spec =
     (λ c κs. search needs)
     (λ c κs. tt)
     (λ c κs. search needs)
-    (λ c. let c1 = c .before .before .before .before in
-    let c2 = c1 .before in
-    let c3 = c2 .before in
-    let c4 = c3 .before .before in
-    let a = (c4 .args) in let e = not-false _ (c2 .if1 .left) in (before-count (a .h .body) _ (a .s .now) _ _ (c3 .and .ensures) e (c1 .byte-at .ensures .0) (c .before .before .before .byte-at2 .ensures .0) _ _ (c .before .before .modes-of .ensures .0) (c .before .least .ensures .0) (c .outs-of .ensures .0), before-item (a .h .body) _ (a .s .now) _ _ (c3 .and .ensures) e (c1 .byte-at .ensures .0) (c .before .before .before .byte-at2 .ensures .0) _ _ (c .before .before .modes-of .ensures .0) (c .before .least .ensures .0) _ (c .outs-of .ensures .0) (c .outs-of .ensures .1), omega arith, omega arith)))
+    (λ c. let a = (c .before .before .before .before .before .before .before .before .args) in let e = not-false _ (c .before .before .before .before .before .if1 .left) in (before-count (a .h .body) _ (a .s .now) _ _ (c .before .before .before .before .before .before .and .ensures) e (c .before .before .before .before .byte-at .ensures .0) (c .before .before .before .byte-at2 .ensures .0) _ _ (c .before .before .modes-of .ensures .0) (c .before .least .ensures .0) (c .outs-of .ensures .0), before-item (a .h .body) _ (a .s .now) _ _ (c .before .before .before .before .before .before .and .ensures) e (c .before .before .before .before .byte-at .ensures .0) (c .before .before .before .byte-at2 .ensures .0) _ _ (c .before .before .modes-of .ensures .0) (c .before .least .ensures .0) _ (c .outs-of .ensures .0) (c .outs-of .ensures .1), omega arith, omega arith)))

@@ -42,17 +42,9 @@ going-spec =
     ((c3 .loop .inv .inside), look-below _ (c2 .look .ensures) (c1 .f .given .1), λ w. (c2 .look .ensures .told) _ (c1 .f .given .1)))
     (λ c. search needs)
     (λ c. search needs)
-    (λ c. let c1 = c .before .before .before .before .before .before .before in
-    let c2 = c1 .before .before .before .before .before .before .before .before .before .before .before .before .before .before in
-    let c3 = c2 .before .before .before .before .before in
-    omega (arith, (c1 .head .given), (c2 .loop .inv .inside .head), (c3 .pre .0 .head)))
-    (λ c. let c1 = c .before .before .before .before .before in
-    let c2 = c1 .before .before .before .before .before .before .before .before .before .before .before .before .before .before .before .before in
-    let c3 = c2 .before .before .before .before .before in
-    omega (arith, (c1 .procs .given), (c2 .loop .inv .inside .procs-size), (c3 .pre .0 .procs-size)))
-    (λ c. let c1 = c .before .before .before .before .before .before .before .before .before .before .before .before .before .before .before .before .before .before .before .before .before in
-    let c2 = c1 .before .before .before .before .before in
-    omega (arith, (c .before .before .before .vars .given), (c1 .loop .inv .inside .vars-size), (c2 .pre .0 .vars-size)))
+    (λ c. omega (arith, (c .before .before .before .before .before .before .before .head .given), (c .before .before .before .before .before .before .before .before .before .before .before .before .before .before .before .before .before .before .before .before .before .loop .inv .inside .head), (c .before .before .before .before .before .before .before .before .before .before .before .before .before .before .before .before .before .before .before .before .before .before .before .before .before .before .pre .0 .head)))
+    (λ c. omega (arith, (c .before .before .before .before .before .procs .given), (c .before .before .before .before .before .before .before .before .before .before .before .before .before .before .before .before .before .before .before .before .before .loop .inv .inside .procs-size), (c .before .before .before .before .before .before .before .before .before .before .before .before .before .before .before .before .before .before .before .before .before .before .before .before .before .before .pre .0 .procs-size)))
+    (λ c. omega (arith, (c .before .before .before .vars .given), (c .before .before .before .before .before .before .before .before .before .before .before .before .before .before .before .before .before .before .before .before .before .loop .inv .inside .vars-size), (c .before .before .before .before .before .before .before .before .before .before .before .before .before .before .before .before .before .before .before .before .before .before .before .before .before .before .pre .0 .vars-size)))
     (λ c. let c1 = c .before .before .before .before .before .before .before .before in
     let c2 = c1 .before .before .before .before in
     let c3 = c2 .before .before in
@@ -60,9 +52,7 @@ going-spec =
     let c5 = c4 .before .before .before .before .before in
     let c6 = c5 .before .before .before .before .before in
     going-room _ _ _ _ _ _ (c6 .pre .0) _ _ (c5 .loop .inv) (c4 .look .ensures) (c3 .f .given .1) (c2 .if1 .left) (c1 .stepped .ensures) (c .enum-told3 .given .1))
-    (λ c. let c1 = c .before .before .before .before .before .before .before .before .before .before .before .before .before .before .before .before .before .before .before .before in
-    let c2 = c1 .before .before .before .before .before .before in
-    omega (arith, (c1 .loop-test .taken), (c2 .pre .1)))
+    (λ c. omega (arith, (c .before .before .before .before .before .before .before .before .before .before .before .before .before .before .before .before .before .before .before .before .loop-test .taken), (c .before .before .before .before .before .before .before .before .before .before .before .before .before .before .before .before .before .before .before .before .before .before .before .before .before .before .pre .1)))
     (λ c. omega (arith, (c .before .before .before .before .before .before .before .before .before .before .before .before .before .before .before .before .before .before .before .before .loop-test .taken)))
     (λ c. let c1 = c .before .before .before .before .before .before .before .before in
     let c2 = c1 .before .before .before .before in

@@ -13,6 +13,5 @@ whose-spec =
     (λ c κs. search needs)
     (λ c κs. search needs)
     (λ c κs. search needs)
-    (λ c κs. let c1 = c .before .before .before .before .before .before in
-    (omega (arith, (c1 .pre .rows), (c .before .before .proc-count .ensures .0)), omega (arith, (c1 .pre .procs-most), (c .before .before .proc-count .ensures .0)), omega (arith, (c1 .pre .cells), (c .before .var-count .ensures .0)), rw ((c .before .before .proc-count .ensures .0)) (c1 .pre .falls), omega (arith, (c1 .pre .last), (c .before .before .proc-count .ensures .0), (c .marker-last .ensures .0))))
+    (λ c κs. (omega (arith, (c .before .before .before .before .before .before .pre .rows), (c .before .before .proc-count .ensures .0)), omega (arith, (c .before .before .before .before .before .before .pre .procs-most), (c .before .before .proc-count .ensures .0)), omega (arith, (c .before .before .before .before .before .before .pre .cells), (c .before .var-count .ensures .0)), rw ((c .before .before .proc-count .ensures .0)) (c .before .before .before .before .before .before .pre .falls), omega (arith, (c .before .before .before .before .before .before .pre .last), (c .before .before .proc-count .ensures .0), (c .marker-last .ensures .0))))
     (λ c. whose-is _ _ _ (c .before .before .before .proc-count .ensures .0) (c .before .before .var-count .ensures .0) (c .before .marker-last .ensures .0) (c .next .ensures .0) (c .next .ensures .1)))

@@ -22,9 +22,6 @@ answer-spec =
     (λ c. search needs)
     (λ c. search needs)
     (λ c. search needs)
-    (λ c κs. let c1 = c .before .before .before .before .before in
-    let c2 = c1 .before .before in
-    let c3 = c2 .before .before .before in
-    (sym (c2 .load .ensures .0) ∙ (c1 .l .given .1), (rw (c1 .l .given .1) at (c2 .load .ensures .1)) .0, (rw (c1 .l .given .1) at (c2 .load .ensures .1)) .1, refl, refl, refl, (c3 .pre)))
+    (λ c κs. (sym (c .before .before .before .before .before .before .before .load .ensures .0) ∙ (c .before .before .before .before .before .l .given .1), (rw (c .before .before .before .before .before .l .given .1) at (c .before .before .before .before .before .before .before .load .ensures .1)) .0, (rw (c .before .before .before .before .before .l .given .1) at (c .before .before .before .before .before .before .before .load .ensures .1)) .1, refl, refl, refl, (c .before .before .before .before .before .before .before .before .before .before .pre)))
     (λ c. search needs)
     (λ c. search needs))

@@ -21,8 +21,7 @@ lines-spec =
     (λ c. omega arith)
     (λ c. omega (arith, (c .before .loop .inv .some), (c .before .before .before .before .pre .2)))
     (λ c κs. ((c .before .before .before .before .pre .0), var-top _ (c .before .before .before .before .args .goal) _ (omega (arith, (c .before .loop .inv .some))) (c .before .before .before .before .pre .1)))
-    (λ c κs. let c1 = c .before .before .before .before .before .before in
-    (omega (arith, (c .before .before .before .loop .inv .near), (c .before .before .before .loop .inv .some), (c .before .before .loop-test .taken), (c1 .pre .2)), omega (arith, (c .before .before .before .loop .inv .lower), (c .before .before .before .loop .inv .size), (c1 .pre .3))))
+    (λ c κs. (omega (arith, (c .before .before .before .loop .inv .near), (c .before .before .before .loop .inv .some), (c .before .before .loop-test .taken), (c .before .before .before .before .before .before .pre .2)), omega (arith, (c .before .before .before .loop .inv .lower), (c .before .before .before .loop .inv .size), (c .before .before .before .before .before .before .pre .3))))
     (λ c. omega arith)
     (λ c. list-on _ _ _ _ _ _ (c .before .before .before .before .before .before .loop .inv) _ _ (c .before .before .before .before .before .loop-test .taken) (c .before .before .before .before .value-of .ensures) (c .before .before .line .ensures))
     (λ c. (c .before .loop .inv .size))

@@ -27,10 +27,7 @@ stepped-spec =
     let c2 = c1 .before .before in
     let c3 = c2 .before .before .before .before .before .before in
     stepped-still _ _ _ _ _ (c3 .pre .0) _ (c3 .pre .1) (c2 .proc-count .ensures .0) (c1 .var-count .ensures .0) _ (c .before .before .before .rule-of .ensures .0) (not-true _ (c .before .if1 .taken)) (c .refusal .ensures))
-    (λ c κs. let c1 = c .before .before .before .before .before in
-    let c2 = c1 .before .before in
-    let c3 = c2 .before .before .before .before .before .before in
-    let w = fits-asks _ _ _ _ _ (c3 .pre .0) (c2 .proc-count .ensures .0) (c1 .var-count .ensures .0) in (omega (arith, w .0), omega (arith, w .1)))
+    (λ c κs. let w = fits-asks _ _ _ _ _ (c .before .before .before .before .before .before .before .before .before .before .before .before .before .pre .0) (c .before .before .before .before .before .before .before .proc-count .ensures .0) (c .before .before .before .before .before .var-count .ensures .0) in (omega (arith, w .0), omega (arith, w .1)))
     (λ c κs. search needs)
     (λ c. search needs)
     (λ c. search needs)
@@ -48,12 +45,8 @@ stepped-spec =
     let c4 = c3 .before .before .before .before .before in
     let c5 = c4 .before .before .before .before .before .before in
     write-asks _ _ _ _ _ (c5 .pre .0) _ (c5 .pre .1) _ _ (c4 .proc-count .ensures .0) _ (c2 .fits2 .ensures) (not-false _ (c1 .if2 .left)) small-rows (c3 .rule-of .ensures .1) (c3 .rule-of .ensures .2) (c3 .rule-of .ensures .3))
-    (λ c. let c1 = c .before .before .before .before .before .before .before .before .before .before .before .before in
-    let c2 = c1 .before in
-    let w = room-for small _ _ _ (c2 .fits2 .ensures) (not-false _ (c1 .if2 .left)) in omega (arith, w .0))
-    (λ c. let c1 = c .before .before .before .before .before .before .before .before .before .before .before .before .before in
-    let c2 = c1 .before in
-    let w = room-for small _ _ _ (c2 .fits2 .ensures) (not-false _ (c1 .if2 .left)) in omega (arith, w .1))
+    (λ c. let w = room-for small _ _ _ (c .before .before .before .before .before .before .before .before .before .before .before .before .before .fits2 .ensures) (not-false _ (c .before .before .before .before .before .before .before .before .before .before .before .before .if2 .left)) in omega (arith, w .0))
+    (λ c. let w = room-for small _ _ _ (c .before .before .before .before .before .before .before .before .before .before .before .before .before .before .fits2 .ensures) (not-false _ (c .before .before .before .before .before .before .before .before .before .before .before .before .before .if2 .left)) in omega (arith, w .1))
     (λ c κs. let c1 = c .before .before .before .before .before .before .before .before .before .before .before .before .before in
     let c2 = c1 .before in
     let c3 = c2 .before .before .before .before .before .before .before .before in
@@ -62,16 +55,4 @@ stepped-spec =
     (λ c. search needs)
     (λ c. search needs)
     (λ c. search needs)
-    (λ c. let c1 = c .before .before .before .before .before .before in
-    let c2 = c1 .before .before in
-    let c3 = c2 .before .before in
-    let c4 = c3 .before .before .before in
-    let c5 = c4 .before in
-    let c6 = c5 .before .before in
-    let c7 = c6 .before in
-    let c8 = c7 .before in
-    let c9 = c8 .before .before in
-    let c10 = c9 .before .before .before in
-    let c11 = c10 .before .before in
-    let c12 = c11 .before .before .before .before .before .before in
-    stepped-moved _ _ _ _ _ (c12 .pre .0) _ (c12 .pre .1) (c11 .proc-count .ensures .0) (c10 .var-count .ensures .0) _ (c9 .rule-of .ensures .0) (not-false _ (c8 .if1 .left)) (c7 .fits2 .ensures) (not-false _ (c6 .if2 .left)) (c5 .marker-steps .ensures) (c4 .count .ensures) (c3 .write .ensures .0) (c3 .write .ensures .1) (c .before .before .put-head .ensures) refl (λ b. omega (arith, (c2 .slice-known4 .given) b)) (λ b. omega (arith, (c1 .slice-known5 .given) b))))
+    (λ c. stepped-moved _ _ _ _ _ (c .before .before .before .before .before .before .before .before .before .before .before .before .before .before .before .before .before .before .before .before .before .before .before .before .before .before .before .before .before .before .before .pre .0) _ (c .before .before .before .before .before .before .before .before .before .before .before .before .before .before .before .before .before .before .before .before .before .before .before .before .before .before .before .before .before .before .before .pre .1) (c .before .before .before .before .before .before .before .before .before .before .before .before .before .before .before .before .before .before .before .before .before .before .before .before .before .proc-count .ensures .0) (c .before .before .before .before .before .before .before .before .before .before .before .before .before .before .before .before .before .before .before .before .before .before .before .var-count .ensures .0) _ (c .before .before .before .before .before .before .before .before .before .before .before .before .before .before .before .before .before .before .before .before .rule-of .ensures .0) (not-false _ (c .before .before .before .before .before .before .before .before .before .before .before .before .before .before .before .before .before .before .if1 .left)) (c .before .before .before .before .before .before .before .before .before .before .before .before .before .before .before .before .before .fits2 .ensures) (not-false _ (c .before .before .before .before .before .before .before .before .before .before .before .before .before .before .before .before .if2 .left)) (c .before .before .before .before .before .before .before .before .before .before .before .before .before .before .marker-steps .ensures) (c .before .before .before .before .before .before .before .before .before .before .before .before .before .count .ensures) (c .before .before .before .before .before .before .before .before .before .before .write .ensures .0) (c .before .before .before .before .before .before .before .before .before .before .write .ensures .1) (c .before .before .put-head .ensures) refl (λ b. omega (arith, (c .before .before .before .before .before .before .before .before .slice-known4 .given) b)) (λ b. omega (arith, (c .before .before .before .before .before .before .slice-known5 .given) b))))

@@ -24,8 +24,7 @@ pass-spec =
     (tie.spec
     Inv-loop
     μ-loop
-    (λ c. let c1 = c .before .before .before .before .before .before in
-    (omega arith, (c1 .pre .4), (c1 .pre .5), (c1 .pre .6), (c1 .pre .7), (c1 .pre .8), sweep-start _ (c1 .args .n) (c1 .args .last)))
+    (λ c. (omega arith, (c .before .before .before .before .before .before .pre .4), (c .before .before .before .before .before .before .pre .5), (c .before .before .before .before .before .before .pre .6), (c .before .before .before .before .before .before .pre .7), (c .before .before .before .before .before .before .pre .8), sweep-start _ (c .before .before .before .before .before .before .args .n) (c .before .before .before .before .before .before .args .last)))
     (λ c. omega arith)
     (λ c. omega arith)
     (λ c. omega arith)
@@ -46,5 +45,4 @@ pass-spec =
     (λ c. search needs)
     (λ c. search needs)
     (λ c. search needs)
-    (λ c. let c1 = c .before .before .before .before .before .before .before .before .before in
-    (sweep-end _ (c1 .args .n) (c1 .args .last) _ (c .before .before .loop .behind) (c .before .before .loop .round) (omega arith) (c .before .before .loop .inv .6) (c .first-below .ensures), (c .before .before .loop .inv .1), (c .before .before .loop .inv .2), (c .before .before .loop .inv .3), (c .before .before .loop .inv .4), all-end _ _ _ _ _ _ _ _ (omega arith) (c .before .before .loop .inv .5))))
+    (λ c. (sweep-end _ (c .before .before .before .before .before .before .before .before .before .args .n) (c .before .before .before .before .before .before .before .before .before .args .last) _ (c .before .before .loop .behind) (c .before .before .loop .round) (omega arith) (c .before .before .loop .inv .6) (c .first-below .ensures), (c .before .before .loop .inv .1), (c .before .before .loop .inv .2), (c .before .before .loop .inv .3), (c .before .before .loop .inv .4), all-end _ _ _ _ _ _ _ _ (omega arith) (c .before .before .loop .inv .5))))
