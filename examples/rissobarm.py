@@ -25,6 +25,8 @@ class Plan:
         self.call('start')
 
     def call(self, name, *numbers):
+        if not all(0 <= number < 2 ** 32 for number in numbers):
+            raise ValueError('not a number of 32 bits: ctypes would cut it, and another one be taken')
         function = getattr(LIBRARY, 'rissobarm_' + name)
         function.restype = ctypes.c_uint64
         word = function(*self.lent, *map(ctypes.c_uint32, numbers))

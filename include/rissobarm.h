@@ -364,7 +364,7 @@ static inline uint32_t rissobarm_steps(uint64_t answer)
 
 /*
  * Binds the value of a goal variable to a constant, between any two steps; it is no step, so that head and processes stay
- * as they are. Accepted: 0. Refused: 1 to 8, 12, 14, 13, tested in this order.
+ * as they are. Accepted: 0. Refused: 1 to 8; then 12, 14 and 13 are tested, in this order.
  */
 uint64_t rissobarm_supply(const uint8_t *image, size_t image_len, const uint8_t *head, size_t head_len,
                           const uint8_t *procs, size_t procs_len, uint8_t *vars, size_t vars_len,

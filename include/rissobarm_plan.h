@@ -8,7 +8,8 @@
  *   while (rissobarm_end(rissobarm_plan_run(&run, 50)) == RISSOBARM_END_BUDGET)
  *       look_around();
  *
- * Every rissobarm_plan_ call answers the word of the call that it is named after, to be taken apart as rissobarm.h says.
+ * From rissobarm_plan_start to rissobarm_plan_watch each answers the word of the call that it is named after, to be taken
+ * apart as rissobarm.h says.
  */
 #ifndef RISSOBARM_PLAN_H
 #define RISSOBARM_PLAN_H
