@@ -53,7 +53,7 @@ module _ (rows : List ℕ) where
       by-lowest : (f : Found) → lowest waits n ≡ f → Watched rows w
       by-lowest Nothing e =
           let q : w ≡ word (watchNumbers Nothing) = meets .contract ∙ rw (watch-is, e) in
-          none-waits (λ j h. not-waits j h (lowest-none waits n j e h)) (rw q (first-of (watchNumbers Nothing) (omega arith) (omega arith) (omega arith)))
+          none-waits (λ j h. not-waits j h (lowest-none waits n j e h)) (rw q (first-of (watchNumbers Nothing) (omega arith) (omega arith) (omega arith))) (rw q (large-of (watchNumbers Nothing) (omega arith) (omega arith) (omega arith)))
       by-lowest (At i) e =
           let r = lowest-at waits n i e in
           let h : i < n = r .there in

@@ -121,4 +121,4 @@ pub record Sees (l : Lent) (v w : ℕ) : Type 0 where
 pub data Watched (rows : List ℕ) (w : ℕ) : Type 0 where
   one-waits : {i : ℕ} → i < length rows / rowSize → processAt rows i .mode ≡ modeCode suspended → ((j : ℕ) → j < i → processAt rows j .mode ≢ modeCode suspended)
       → firstIn w ≡ 1 → largeIn w ≡ i → Watched rows w
-  none-waits : ((j : ℕ) → j < length rows / rowSize → processAt rows j .mode ≢ modeCode suspended) → firstIn w ≡ 0 → Watched rows w
+  none-waits : ((j : ℕ) → j < length rows / rowSize → processAt rows j .mode ≢ modeCode suspended) → firstIn w ≡ 0 → largeIn w ≡ 0 → Watched rows w

@@ -13,11 +13,11 @@ cutsAndKinds = (refl, refl, refl, refl, refl, refl, refl, refl, refl, refl)
 
 pub bodies : BodiesRefused
 unfolding opened emptyGoal times
-bodies = (refl, refl, refl, refl, refl, refl, refl, refl, refl, refl, refl, refl, refl, refl, refl, refl, refl, refl, refl)
+bodies = (refl, refl, refl, refl, refl, refl, refl, refl, refl, refl, refl, refl, refl, refl, refl, refl, refl, refl, refl, refl, refl, refl, refl, refl, refl)
 
 pub names : NamesRefused
 unfolding opened emptyGoal times
-names = (refl, refl, refl, refl, refl, refl, refl, refl, refl, refl, refl)
+names = (refl, refl, refl, refl, refl, refl, refl, refl, refl, refl, refl, refl, refl, refl)
 
 pub many : ManyRefused
 unfolding opened emptyGoal times
@@ -47,7 +47,7 @@ numbers = (refl, refl, refl, refl, refl, refl, refl, refl, refl)
 
 pub rows : RowsTested
 unfolding opened
-rows = (refl, refl, refl, refl, refl, refl)
+rows = (refl, refl, refl, refl, refl, refl, refl)
 
 pub places : PlacesTested
 unfolding opened

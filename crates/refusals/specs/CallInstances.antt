@@ -1,4 +1,4 @@
--- Refusals 8 to 14 computed from bytes: each once at least, each table rule broken by one byte, limits at and past them, a row's bytes and words.
+-- Refusals 8 to 14 computed from bytes: each once at least, table rules broken by one byte (all but 3g and parts of 3h), limits at and past them, a row's bytes and words.
 use mathlib.Core.Path.{_≡_}
 use mathlib.Core.List.{[], _++_, _∷_, List}
 use Prim.Native.Nat.{_*_, _+_, ℕ}
@@ -106,6 +106,7 @@ RowsTested =
     × Breaks (inRow 0 1 0)
     × Breaks (inRow 0 4 1)
     × Breaks (inRow 0 0 1)
+    × Breaks (inRow 0 6 1)
     × Breaks (inRow 4 4 4)
     × Breaks (inRow 4 4 2)
 

@@ -1,4 +1,4 @@
--- Refusals computed from bytes: each from 1 to 14 once at least, each limit at and past it, their order, offsets, a row's bytes and words.
+-- Refusals computed from bytes: each from 1 to 14 once at least, limits at and past them, their order, offsets, a row's bytes and words.
 -- What is computed here is the load and the calls; for 1 to 8 the relations say the same (proofs/Exactly, proofs/RuledExactly).
 use mathlib.Core.Path.{_≡_}
 use mathlib.Core.List.{[], _++_, _∷_, List}
@@ -67,7 +67,7 @@ CutsAndKindsRefused =
     × RefusedWith (relationP ++ factP) 7 15
     × RefusedWith [] 7 0
 
--- Refusals 4: BODY, each range at its limit and past it, and fields that end before or behind the record's end
+-- Refusals 4: BODY, in a relation, a clause and a goal: ranges at their limits and past them, and fields that end before or behind the record's end
 abbrev pub BodiesRefused : Type 0
 BodiesRefused =
     AcceptedWith (relationWith (0 ∷ 1 ∷ 1 ∷ 0 ∷ []) ++ emptyGoal) 1 0
@@ -89,8 +89,14 @@ BodiesRefused =
     × RefusedWith (relationWith (0 ∷ 0 ∷ 0 ∷ 0 ∷ []) ++ goalWith 0 (1 ∷ 1 ∷ 0 ∷ 5 ∷ times 10 (0 ∷ []))) 4 9
     × RefusedWith (goalWith 0 (0 ∷ 0 ∷ [])) 4 0
     × RefusedWith (goalWith 0 (1 ∷ 1 ∷ 255 ∷ 2 ∷ 0 ∷ 0 ∷ 0 ∷ [])) 4 0
+    × AcceptedWith (relationWith (0 ∷ 0 ∷ 0 ∷ 0 ∷ []) ++ recordOf 2 (0 ∷ 4 ∷ 0 ∷ 0 ∷ times 8 (0 ∷ []) ++ 0 ∷ 0 ∷ []) ++ emptyGoal) 1 1
+    × RefusedWith (relationWith (0 ∷ 0 ∷ 0 ∷ 0 ∷ []) ++ recordOf 2 (0 ∷ 5 ∷ 0 ∷ 0 ∷ times 10 (0 ∷ []) ++ 0 ∷ 0 ∷ []) ++ emptyGoal) 4 9
+    × RefusedWith (relationP ++ recordOf 2 (0 ∷ 0 ∷ 0 ∷ 0 ∷ 9 ∷ times 9 (1 ∷ callP) ++ 0 ∷ []) ++ emptyGoal) 4 5
+    × RefusedWith (relationP ++ recordOf 2 (0 ∷ 0 ∷ 0 ∷ 0 ∷ 0 ∷ 9 ∷ times 9 (1 ∷ callP)) ++ emptyGoal) 4 5
+    × RefusedWith (relationP ++ recordOf 2 (times 7 (0 ∷ [])) ++ emptyGoal) 4 5
+    × RefusedWith (recordOf 1 (0 ∷ 0 ∷ []) ++ emptyGoal) 4 0
 
--- Refusals 5: NAME: relations, arities, equality, variables at their count and below, the order of clauses, and the mark of a relation's first clause
+-- Refusals 5: NAME, in a goal, a head, a guard and a body: relations, arities, equality, variables at their count and below, the order of clauses, and the mark of a relation's first clause
 abbrev pub NamesRefused : Type 0
 NamesRefused =
     RefusedWith (goalWith 0 (1 ∷ 1 ∷ callP)) 5 0
@@ -104,6 +110,9 @@ NamesRefused =
     × RefusedWith (times 3 relationP ++ factOf 2 0 0 ++ factOf 0 0 0 ++ emptyGoal) 5 25
     × RefusedWith (relationP ++ factOf 0 1 0 ++ emptyGoal) 5 5
     × RefusedWith (times 2 relationP ++ factP ++ factOf 1 1 0 ++ emptyGoal) 5 20
+    × RefusedWith (relationWith (0 ∷ []) ++ recordOf 2 (0 ∷ 1 ∷ 0 ∷ 1 ∷ 1 ∷ 128 ∷ 0 ∷ 0 ∷ []) ++ emptyGoal) 5 6
+    × RefusedWith (relationP ++ recordOf 2 (0 ∷ 0 ∷ 0 ∷ 0 ∷ 1 ∷ 1 ∷ 1 ∷ 0 ∷ 0 ∷ []) ++ emptyGoal) 5 5
+    × RefusedWith (relationP ++ recordOf 2 (0 ∷ 0 ∷ 0 ∷ 0 ∷ 0 ∷ 1 ∷ 1 ∷ 1 ∷ 0 ∷ []) ++ emptyGoal) 5 5
 
 -- Refusals 6: MANY: 32 relations and one more, 64 clauses and one more, 8 clauses of a block and one more, also of a later block
 abbrev pub ManyRefused : Type 0
