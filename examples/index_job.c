@@ -72,20 +72,23 @@ static unsigned record_of(const struct job *job, unsigned process)
 
 /* ---- what is told ---- */
 
-/* Tells each place that has come out since the last look. */
+/* Tells each place that has come out since the last look: one call gives the values of all goal variables. */
 static void tell_places(struct job *job)
 {
+    uint8_t values[RISSOBARM_VALUES_SIZE];
+    uint64_t answer = rissobarm_plan_values(&job->run, values, sizeof values);
+    uint32_t count = rissobarm_values_count(answer);
     unsigned r;
 
+    if (rissobarm_refusal(answer) != RISSOBARM_ACCEPTED)
+        return;
     for (r = 0; r < job->records; r++) {
-        uint64_t value = rissobarm_plan_value(&job->run, FIELDS * r + PLACE);
+        unsigned variable = FIELDS * r + PLACE;
 
-        if (job->placed[r] || rissobarm_refusal(value) != RISSOBARM_ACCEPTED)
-            continue;
-        if (rissobarm_value_sort(value) != RISSOBARM_SORT_CONSTANT)
+        if (job->placed[r] || variable >= count || rissobarm_sort_at(values, variable) != RISSOBARM_SORT_CONSTANT)
             continue;
         job->placed[r] = 1;
-        printf("step %u: record %u has place %u\n", steps_made(job), r + 1, (unsigned)rissobarm_value_number(value));
+        printf("step %u: record %u has place %u\n", steps_made(job), r + 1, (unsigned)rissobarm_number_at(values, variable));
     }
 }
 

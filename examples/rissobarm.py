@@ -4,6 +4,7 @@ import ctypes
 LIMIT = 65535  # of one run call
 ENDS = {1: 'success', 2: 'failure', 3: 'waiting', 4: 'room', 5: 'budget'}
 ROWS = (10, 12288, 4096)  # bytes of head, processes and variables
+VALUES = 64  # bytes for the values of all goal variables
 LIBRARY = ctypes.CDLL('librissobarm.so.0')
 
 
@@ -24,12 +25,13 @@ class Plan:
         self.lent = [part for pair in zip(rows, sizes) for part in pair]
         self.call('start')
 
-    def call(self, name, *numbers):
+    def call(self, name, *numbers, row=()):
+        """A call by its name; row is what it is lent behind the tables, and its length."""
         if not all(0 <= number < 2 ** 32 for number in numbers):
             raise ValueError('not a number of 32 bits: ctypes would cut it, and another one be taken')
         function = getattr(LIBRARY, 'rissobarm_' + name)
         function.restype = ctypes.c_uint64
-        word = function(*self.lent, *map(ctypes.c_uint32, numbers))
+        word = function(*self.lent, *row, *map(ctypes.c_uint32, numbers))
         if word & 255:
             raise Refused(word)
         return word
@@ -51,3 +53,10 @@ class Plan:
         """A constant, or None where it is open."""
         word = self.call('value', variable)
         return word >> 32 if word >> 8 & 255 == 1 else None
+
+    def values(self):
+        """The values of all goal variables: constants, or None where one is open."""
+        row = ctypes.create_string_buffer(VALUES)
+        count = self.call('values', row=(row, ctypes.c_size_t(VALUES))) >> 32
+        cells = [row.raw[4 * k:4 * k + 4] for k in range(count)]
+        return [int.from_bytes(cell[1:], 'little') if cell[0] == 1 else None for cell in cells]

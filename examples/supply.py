@@ -5,19 +5,6 @@ import sys
 from rissobarm import Plan, Refused
 
 LIMIT = 100000
-NOVAR = 12
-
-
-def values(plan):
-    """The values of the goal's variables, from 0 up to the first that is refused."""
-    found = []
-    try:
-        while True:
-            found.append(plan.value(len(found)))
-    except Refused as refused:
-        if refused.number != NOVAR:
-            raise
-    return found
 
 
 def main():
@@ -36,7 +23,7 @@ def main():
         end, more = plan.run(LIMIT)
         steps += more
     print('%d steps: %s' % (steps, end))
-    for variable, value in enumerate(values(plan)):
+    for variable, value in enumerate(plan.values()):
         print('variable %d is %s' % (variable, 'open' if value is None else value))
 
 

@@ -4,7 +4,8 @@
  *
  * A plan is an image, a row of bytes. A run of it lives in three byte rows that the caller lends to each call: a head, the
  * process table and the variable table (docs/LAYOUT.md has every byte). Between two calls the rows are the whole run: a
- * copy of them is a copy of the run. Calls take what they are lent in the order image, head, procs, vars, then numbers.
+ * copy of them is a copy of the run. Calls take what they are lent in the order image, head, procs, vars, further rows, then
+ * numbers.
  *
  * A byte row is lent as a pointer and its length. The pointer is never null, not even for a length of 0, and the row
  * is readable (and writable where it is not const) over the whole length. Rows lent to one call do not overlap.
@@ -67,6 +68,11 @@ enum {
     RISSOBARM_HEAD_SIZE = 10,        /* bytes of the head */
     RISSOBARM_PROCS_SIZE = RISSOBARM_PROCESS_LIMIT * RISSOBARM_PROCESS_ROW,
     RISSOBARM_VARS_SIZE = RISSOBARM_VARIABLE_LIMIT * RISSOBARM_VARIABLE_ROW
+};
+
+/* Bytes that are always enough for the further row of a call; any length is taken that has room for what is written. */
+enum {
+    RISSOBARM_VALUES_SIZE = RISSOBARM_OWN_LIMIT * RISSOBARM_VARIABLE_ROW /* of rissobarm_values */
 };
 
 /* ---- images ---- */
@@ -163,7 +169,7 @@ enum {
     RISSOBARM_CELL_NUMBER = 1 /* of the constant or variable, 3 bytes; 0 when unbound */
 };
 
-/* Sorts: what a variable row holds, and what the value of a variable is. */
+/* Sorts: what a variable row holds, and what the value of a variable is, as a word or as such a row. */
 enum {
     RISSOBARM_SORT_UNBOUND = 0,  /* of a row alone */
     RISSOBARM_SORT_CONSTANT = 1, /* a constant */
@@ -185,7 +191,7 @@ enum {
     RISSOBARM_STATE = 8,    /* the tables break a table rule, or a lent row has another length */
     RISSOBARM_NODE = 9,     /* there is no such process */
     RISSOBARM_STILL = 10,   /* it has nothing to do */
-    RISSOBARM_ROOM = 11,    /* its move does not fit into the tables any more */
+    RISSOBARM_ROOM = 11,    /* its move does not fit into the tables any more, or a further row has no room for what is written */
     RISSOBARM_NOVAR = 12,   /* the goal has no such variable */
     RISSOBARM_BOUND = 13,   /* the value of that variable is a constant already */
     RISSOBARM_CONST = 14,   /* the value supplied is above RISSOBARM_CONSTANT_LIMIT */
@@ -260,6 +266,9 @@ enum {
  * Every call that takes an image tests it first, as the load does, and may refuse with 1 to 7. Then come the lent rows:
  * 8 when one is not of its full length or, in every call but the start, when the tables break a table rule. Tables that
  * keep the rules are taken, whether a run makes them or not.
+ *
+ * A further row may have any length. Where it is shorter than what the call writes into it, the call is refused 11, which is
+ * tested last; bytes behind what is written stay.
  */
 
 /* The refusal number of any answer; RISSOBARM_ACCEPTED for none. */
@@ -360,7 +369,7 @@ static inline uint32_t rissobarm_steps(uint64_t answer)
     return (uint32_t)(answer >> 32);
 }
 
-/* ---- supply and value ---- */
+/* ---- supply, value and values ---- */
 
 /*
  * Binds the value of a goal variable to a constant, between any two steps; it is no step, so that head and processes stay
@@ -386,6 +395,21 @@ static inline unsigned rissobarm_value_sort(uint64_t answer)
 
 /* The constant or variable of an accepted value. */
 static inline uint32_t rissobarm_value_number(uint64_t answer)
+{
+    return (uint32_t)(answer >> 32);
+}
+
+/*
+ * Gives the values of all goal variables at once, in the order of their numbers: each as a variable row of
+ * RISSOBARM_VARIABLE_ROW bytes, with the sort that rissobarm_value tells and the number. Accepted: how many they are in bits
+ * 32-63. Refused: 1 to 8, then 11 when values has no room for all.
+ */
+uint64_t rissobarm_values(const uint8_t *image, size_t image_len, const uint8_t *head, size_t head_len,
+                          const uint8_t *procs, size_t procs_len, const uint8_t *vars, size_t vars_len,
+                          uint8_t *values, size_t values_len);
+
+/* How many values an accepted call has written. */
+static inline uint32_t rissobarm_values_count(uint64_t answer)
 {
     return (uint32_t)(answer >> 32);
 }

@@ -43,7 +43,7 @@ static inline const char *rissobarm_refusal_text(unsigned refusal)
         "STATE: the tables break a table rule, or a lent row has another size",
         "NODE: there is no such process",
         "STILL: no rule applies",
-        "ROOM: the move needs more rows than are left",
+        "ROOM: the move needs more rows than are left, or a further row is too short",
         "NOVAR: the goal has no such variable",
         "BOUND: its value is a constant already",
         "CONST: the value supplied is over 32,767"
@@ -173,6 +173,12 @@ static inline uint64_t rissobarm_plan_value(const struct rissobarm_plan *plan, u
     return rissobarm_value(RISSOBARM_PLAN_LENT(plan), variable);
 }
 
+/* Writes the values of all goal variables; RISSOBARM_VALUES_SIZE bytes are always enough. */
+static inline uint64_t rissobarm_plan_values(const struct rissobarm_plan *plan, uint8_t *values, size_t values_len)
+{
+    return rissobarm_values(RISSOBARM_PLAN_LENT(plan), values, values_len);
+}
+
 /* The lowest suspended process from a number on, told by its own number. */
 static inline uint64_t rissobarm_plan_watch(const struct rissobarm_plan *plan, uint32_t from)
 {
@@ -185,12 +191,26 @@ static inline uint64_t rissobarm_plan_watch(const struct rissobarm_plan *plan, u
     return rissobarm_watch_found(answer) ? answer + ((uint64_t)from << 32) : answer;
 }
 
-/* ---- what the head of a run tells; these answer the number itself ---- */
+/* ---- what rows tell; these answer the number itself ---- */
 
 /* A number of two bytes, the low one in front. */
 static inline unsigned rissobarm_word_at(const uint8_t *bytes)
 {
     return bytes[0] + 256u * bytes[1];
+}
+
+/* The sort of one of the values that were written. */
+static inline unsigned rissobarm_sort_at(const uint8_t *values, uint32_t variable)
+{
+    return values[variable * RISSOBARM_VARIABLE_ROW + RISSOBARM_CELL_SORT];
+}
+
+/* The constant or variable that it is. */
+static inline uint32_t rissobarm_number_at(const uint8_t *values, uint32_t variable)
+{
+    const uint8_t *number = values + variable * RISSOBARM_VARIABLE_ROW + RISSOBARM_CELL_NUMBER;
+
+    return rissobarm_word_at(number) + 65536u * number[2];
 }
 
 /* The processes made so far. */

@@ -7,12 +7,16 @@
 #include "machine.h"
 #include "tablerules.h"
 
-enum { FAULT_ROOM = 400 };
+enum { FAULT_ROOM = 400, UNTOLD = ROW_ROOM + 1 };
 
 struct bed {
     struct row image;              /* the archive's */
     struct row lent[LENT_ROWS];    /* the archive's */
     struct row wide;               /* rows of processes to be watched, more than a table has */
+    struct row further;            /* what a call is lent behind the tables, the archive's */
+    uint8_t beside[ROW_ROOM];      /* the reference's */
+    size_t further_length;         /* of the next call, where it was told */
+    unsigned calls;                /* made so far */
     struct rows ours;              /* the reference's */
     struct rows before;            /* both sides' before the last call */
     size_t sizes[LENT_ROWS];       /* the lengths that the next call is lent */

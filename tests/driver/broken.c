@@ -11,7 +11,7 @@ static bool go_table_call(struct journey *journey)
     struct random *random = journey->random;
     uint32_t count = process_count(&journey->bed->ours);
 
-    switch (random_below(random, 5)) {
+    switch (random_below(random, 6)) {
     case 0:
         return go(journey, STEPS, random_below(random, count + 1), 0);
     case 1:
@@ -20,6 +20,8 @@ static bool go_table_call(struct journey *journey)
         return go(journey, RUNS, random_below(random, 4), 0);
     case 3:
         return go(journey, SUPPLIES, random_below(random, 4), random_below(random, 4));
+    case 4:
+        return go_values(journey);
     default:
         return go(journey, VALUES, random_below(random, 4), 0);
     }

@@ -10,6 +10,9 @@
     (bed)->source->bytes, (bed)->source->length, (bed)->ours.head, (bed)->sizes[THE_HEAD], (bed)->ours.procs, \
         (bed)->sizes[THE_PROCS], (bed)->ours.vars, (bed)->sizes[THE_VARS]
 
+#define OUR_FURTHER(bed) (bed)->beside, (bed)->further.length
+#define THEIR_FURTHER(bed) (bed)->further.bytes, (bed)->further.length
+
 #define ROW(bed, row) row_of_length(&(bed)->lent[row], (bed)->sizes[row]), (bed)->sizes[row]
 
 #define THEIRS(bed) \
@@ -60,6 +63,8 @@ uint64_t call_reference(struct bed *bed, const struct event *event)
         return reference_supply(OURS(bed), event->a, event->b);
     case VALUES:
         return reference_value(OURS(bed), event->a);
+    case ALL_VALUES:
+        return reference_values(OURS(bed), OUR_FURTHER(bed));
     default: /* WATCHES */
         return reference_watch(event->b == 0 ? bed->ours.procs : wide_rows(event), event->a);
     }
@@ -82,6 +87,8 @@ uint64_t call_archive(struct bed *bed, const struct event *event)
         return rissobarm_supply(THEIRS(bed), event->a, event->b);
     case VALUES:
         return rissobarm_value(THEIRS(bed), event->a);
+    case ALL_VALUES:
+        return rissobarm_values(THEIRS(bed), THEIR_FURTHER(bed));
     default: /* WATCHES */
         return watch_archive(bed, event);
     }
@@ -91,4 +98,9 @@ uint64_t call_turn(const struct bed *bed, struct rows *rows)
 {
     return rissobarm_turn(bed->image.bytes, bed->image.length, rows->head, RISSOBARM_HEAD_SIZE, rows->procs,
                           RISSOBARM_PROCS_SIZE, rows->vars, RISSOBARM_VARS_SIZE);
+}
+
+uint64_t call_value(const struct bed *bed, uint32_t variable)
+{
+    return rissobarm_value(THEIRS(bed), variable);
 }

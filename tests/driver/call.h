@@ -10,4 +10,7 @@ uint64_t call_archive(struct bed *bed, const struct event *event);
 /* A turn of the archive on rows in plain memory. */
 uint64_t call_turn(const struct bed *bed, struct rows *rows);
 
+/* The archive's value of one variable. */
+uint64_t call_value(const struct bed *bed, uint32_t variable);
+
 #endif

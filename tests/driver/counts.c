@@ -77,6 +77,8 @@ static const char *const features[FEATURES] = {
     "turns in which all were watched",
     "plans whose records were all placed",
     "calls let in with tables of pure chance",
+    "further rows that are too short",
+    "further rows with no byte to spare",
 };
 
 /* A line of the table; false where nothing was seen. */

@@ -28,6 +28,8 @@ enum feature {
     SERVED,
     RECORDS_PLACED,
     CHANCE_LET_IN,
+    SHORT_ROW,
+    JUST_ENOUGH,
     FEATURES
 };
 

@@ -110,6 +110,27 @@ static bool go_size(struct journey *journey)
     return go_row(journey, SIZES, row, sizes[random_below(journey->random, 6)], 0);
 }
 
+/* Now and then tells how long the next further row is: about what is needed, or any length. */
+static bool go_length(struct journey *journey, uint32_t need)
+{
+    uint32_t lengths[6] = { 0, need, need + 1 };
+
+    if (random_once(journey->random, 2))
+        return true;
+    lengths[3] = need > 0 ? need - 1 : 0;
+    lengths[4] = random_below(journey->random, need + 1);
+    lengths[5] = need + random_below(journey->random, 4 * need + 64);
+    return go_row(journey, SIZES, THE_FURTHER, lengths[random_below(journey->random, 6)], 0);
+}
+
+bool go_values(struct journey *journey)
+{
+    uint32_t count = bed_accepts(journey->bed) ? journey->bed->program.goal_variables : 0;
+
+    return go_length(journey, count * RISSOBARM_VARIABLE_ROW) &&
+           go(journey, ALL_VALUES, 0, random_once(journey->random, 4));
+}
+
 static bool go_run(struct journey *journey)
 {
     uint32_t limit = draw_limit(journey);
@@ -151,7 +172,7 @@ bool go_anywhere(struct journey *journey)
     case 4:
         return go_supply(journey);
     case 5:
-        return go(journey, VALUES, draw_variable(journey), 0);
+        return random_once(journey->random, 2) ? go_values(journey) : go(journey, VALUES, draw_variable(journey), 0);
     case 6:
         return go_watch(journey);
     default:
@@ -168,6 +189,7 @@ static bool go_aside(struct journey *journey)
     case 1:
         return go_anywhere(journey);
     case 2:
+        return go_values(journey);
     case 3:
         return go(journey, VALUES, draw_variable(journey), 0);
     case 4:
@@ -208,7 +230,7 @@ static bool look_round(struct journey *journey)
     for (v = 0; v < journey->bed->program.goal_variables; v++)
         if (!go(journey, VALUES, v, 0))
             return false;
-    return go(journey, TURNS, 0, 0) && go(journey, WATCHES, RISSOBARM_PROCS_SIZE, 0);
+    return go_values(journey) && go(journey, TURNS, 0, 0) && go(journey, WATCHES, RISSOBARM_PROCS_SIZE, 0);
 }
 
 bool drive(struct journey *journey, unsigned temper, unsigned events)

@@ -3,9 +3,9 @@
 
 #include <stdio.h>
 
-static const char *const names[EVENT_KINDS] = { "load",  "start", "step", "turn", "run",   "supply",
-                                                "value", "watch", "size", "poke", "legal", "scatter" };
-static const char *const rows[] = { "head", "procs", "vars" };
+static const char *const names[EVENT_KINDS] = { "load",  "start",  "step", "turn", "run",   "supply", "value",
+                                                "watch", "values", "size", "poke", "legal", "scatter" };
+static const char *const rows[] = { "head", "procs", "vars", "further" };
 
 const char *event_name(unsigned kind)
 {
@@ -28,6 +28,7 @@ void event_print(const struct event *event)
     case WATCHES:
     case LEGALS:
     case SCATTERS:
+    case ALL_VALUES:
         printf("  %s %u %u\n", name, event->a, event->b);
         break;
     case STEPS:

@@ -8,7 +8,7 @@
 #include <stdbool.h>
 #include <stdint.h>
 
-/* The eight calls, then what changes the tables on both sides alike without a call. */
+/* The calls, then what changes the tables on both sides alike without a call. */
 enum event_kind {
     LOADS,
     STARTS,
@@ -18,6 +18,7 @@ enum event_kind {
     SUPPLIES, /* a the variable, b the value */
     VALUES,   /* a the variable */
     WATCHES,  /* a the length of the row: the process table or, with b, rows by chance from the seed b */
+    ALL_VALUES, /* b whether each is asked for alone too */
     CALLS,
     SIZES = CALLS, /* the next call is lent a row with the length a */
     POKES,    /* the byte at a of a row becomes b */

@@ -29,6 +29,9 @@ enum temper {
 /* Drives the run by so many events, and looks at every goal variable at the end. */
 bool drive(struct journey *journey, unsigned temper, unsigned events);
 
+/* The values of all variables, into a row of any length. */
+bool go_values(struct journey *journey);
+
 /* One call of any kind with numbers by chance. */
 bool go_anywhere(struct journey *journey);
 

@@ -38,7 +38,7 @@ struct entry entry_of(struct bed *bed, const struct event *event)
     return entry;
 }
 
-/* The refusal that the event's own numbers come to, before anything else of the call is looked at. */
+/* The refusal that the event's own numbers and lengths come to, before anything else of the call is looked at. */
 static unsigned numbers_refused(const struct bed *bed, const struct event *event)
 {
     switch (event->kind) {
@@ -50,6 +50,9 @@ static unsigned numbers_refused(const struct bed *bed, const struct event *event
         return event->b > RISSOBARM_CONSTANT_LIMIT ? RISSOBARM_CONST : RISSOBARM_ACCEPTED;
     case VALUES:
         return event->a >= bed->program.goal_variables ? RISSOBARM_NOVAR : RISSOBARM_ACCEPTED;
+    case ALL_VALUES:
+        return bed->further.length < bed->program.goal_variables * (size_t)RISSOBARM_VARIABLE_ROW ? RISSOBARM_ROOM
+                                                                                                  : RISSOBARM_ACCEPTED;
     default:
         return RISSOBARM_ACCEPTED;
     }

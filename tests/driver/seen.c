@@ -2,6 +2,7 @@
 #include "seen.h"
 
 #include "counts.h"
+#include "further.h"
 
 /* The most that one move makes: children for a committed body's literals, variables for the clauses of a block. */
 enum {
@@ -91,6 +92,7 @@ static void seen_refusal(const struct bed *bed, const struct event *event, const
     counts.refusals[refusal]++;
     if (refusal == RISSOBARM_ROOM)
         seen_room(bed, event);
+    counts.features[SHORT_ROW] += refusal == RISSOBARM_ROOM && event->kind == ALL_VALUES;
     if (refusal == RISSOBARM_STATE && entry->broken == 1)
         counts.broken[entry->first]++;
 }
@@ -109,6 +111,9 @@ static void seen_accepted(const struct bed *bed, const struct event *event)
     case SUPPLIES:
         counts.features[SUPPLY_AT_END] += bed->ours.procs[RISSOBARM_ROW_MODE] == RISSOBARM_MODE_DORMANT;
         counts.features[WOKEN_BY_SUPPLY] += wakes_somebody(bed);
+        break;
+    case ALL_VALUES:
+        counts.features[JUST_ENOUGH] += bed->further.length == further_written(bed, event);
         break;
     default:
         break;

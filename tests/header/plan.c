@@ -71,6 +71,22 @@ static void try_waiting(void)
     hold("turn refused", rissobarm_refusal(rissobarm_plan_turn(&run)) == RISSOBARM_STILL);
 }
 
+/* The values of all variables, written as rows: open, then a constant; a row that is too short is left as it is. */
+static void try_values(void)
+{
+    uint8_t values[RISSOBARM_VALUES_SIZE] = { 9, 9, 9, 9, 9 };
+
+    rissobarm_plan_start(&run, waits, sizeof waits);
+    hold("values: too short", rissobarm_refusal(rissobarm_plan_values(&run, values, 3)) == RISSOBARM_ROOM && values[0] == 9);
+    hold("values", rissobarm_values_count(rissobarm_plan_values(&run, values, sizeof values)) == 1);
+    hold("values: open", rissobarm_sort_at(values, 0) == RISSOBARM_SORT_VARIABLE && rissobarm_number_at(values, 0) == 0);
+    hold("values: the byte behind", values[4] == 9);
+    rissobarm_plan_supply(&run, 0, RISSOBARM_CONSTANT_LIMIT);
+    hold("values: just enough", rissobarm_values_count(rissobarm_plan_values(&run, values, 4)) == 1);
+    hold("values: a constant", rissobarm_sort_at(values, 0) == RISSOBARM_SORT_CONSTANT);
+    hold("values: its number", rissobarm_number_at(values, 0) == RISSOBARM_CONSTANT_LIMIT);
+}
+
 static void try_room(void)
 {
     rissobarm_plan_start(&run, fills, sizeof fills);
@@ -89,6 +105,7 @@ static void try_refused(void)
     hold("turn refused too", rissobarm_plan_turn(&run) == answer);
     hold("supply refused", rissobarm_plan_supply(&run, 0, 1) == answer);
     hold("value refused", rissobarm_plan_value(&run, 0) == answer);
+    hold("values refused", rissobarm_plan_values(&run, other.vars, 0) == answer);
 }
 
 /* The long run by the calls themselves, a thousand steps at a time. */
@@ -140,6 +157,7 @@ static void try_long(void)
 int main(void)
 {
     try_waiting();
+    try_values();
     try_room();
     try_refused();
     try_long();

@@ -11,9 +11,10 @@
 #include <ucontext.h>
 
 enum { STACK_ROOM = 262144, PAINT = 0xA5, IMAGES = 20, LARGE_RUN = 5000 };
-enum deed { NOTHING, LOAD, START, STEP, TURN, RUN, SUPPLY, VALUE, WATCH, DEEDS };
+enum deed { NOTHING, LOAD, START, STEP, TURN, RUN, SUPPLY, VALUE, WATCH, VALUES, DEEDS };
 
-static const char *const names[DEEDS] = { "nothing", "load", "start", "step", "turn", "run", "supply", "value", "watch" };
+static const char *const names[DEEDS] = { "nothing", "load",   "start", "step",  "turn",
+                                          "run",     "supply", "value", "watch", "values" };
 
 static uint8_t stack[STACK_ROOM];
 static ucontext_t here, there;
@@ -21,6 +22,7 @@ static struct rissobarm_plan plan;
 static struct image image;
 static enum deed next;
 static uint64_t answer;
+static uint8_t further[RISSOBARM_VALUES_SIZE];
 static size_t most[DEEDS];
 
 /* Makes the call that is next; the same frame for each, so that what nothing takes can be taken off. */
@@ -34,6 +36,7 @@ static void make(void)
     case RUN: answer = rissobarm_run(RISSOBARM_PLAN_LENT(&plan), LARGE_RUN); break;
     case SUPPLY: answer = rissobarm_supply(RISSOBARM_PLAN_LENT(&plan), 0, 1); break;
     case VALUE: answer = rissobarm_value(RISSOBARM_PLAN_LENT(&plan), 0); break;
+    case VALUES: answer = rissobarm_values(RISSOBARM_PLAN_LENT(&plan), further, sizeof further); break;
     case WATCH: answer = rissobarm_watch(plan.procs, sizeof plan.procs); break;
     default: break;
     }
@@ -64,6 +67,7 @@ static void measure_all(void)
     measure(NOTHING);
     measure(LOAD);
     measure(VALUE);
+    measure(VALUES);
     measure(WATCH);
     measure(STEP);
     measure(SUPPLY);

@@ -235,6 +235,7 @@ const struct literal *ref_literal_at(const struct program *program, const struct
 bool ref_full_size(const struct lent *lent);
 void ref_decode(const struct lent *lent, struct tables *tables);
 void ref_encode(const struct tables *tables, const struct lent *lent);
+void ref_encode_variable(struct term binding, uint8_t *row);
 bool ref_keeps_rules(const struct program *program, const struct tables *tables);
 
 /* unify.c */

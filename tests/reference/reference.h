@@ -48,6 +48,11 @@ uint64_t reference_value(const uint8_t *image, size_t image_len, uint8_t *head, 
                          uint8_t *procs, size_t procs_len, uint8_t *vars, size_t vars_len,
                          uint32_t variable);
 
+/* Accepted: a variable row (sort and number) for the value of each goal variable, how many in bits 32-63. */
+uint64_t reference_values(const uint8_t *image, size_t image_len, uint8_t *head, size_t head_len,
+                          uint8_t *procs, size_t procs_len, uint8_t *vars, size_t vars_len,
+                          uint8_t *values, size_t values_len);
+
 /* Refuses nothing: 1 in bits 8-15 when some row is suspended, the lowest such number in bits 32-63. */
 uint64_t reference_watch(const uint8_t *procs, size_t procs_len);
 

@@ -1,4 +1,4 @@
-/* The calls on a run: step, turn, run, supply, value, watch. */
+/* The calls on a run: step, turn, run, supply, value, values, watch. */
 #include "machine.h"
 #include "reference.h"
 
@@ -178,6 +178,25 @@ uint64_t reference_value(const uint8_t *image, size_t image_len, uint8_t *head, 
         return ref_refused(REFUSED_NOVAR, 0);
     value = variable_value(&tables, variable);
     return ref_accepted(value.sort, 0, value.number);
+}
+
+uint64_t reference_values(const uint8_t *image, size_t image_len, uint8_t *head, size_t head_len,
+                          uint8_t *procs, size_t procs_len, uint8_t *vars, size_t vars_len,
+                          uint8_t *values, size_t values_len)
+{
+    struct lent lent = { head, head_len, procs, procs_len, vars, vars_len };
+    struct program program;
+    struct tables tables;
+    struct verdict verdict = open_run(image, image_len, &lent, &program, &tables);
+    unsigned k;
+
+    if (verdict.refusal != ACCEPTED)
+        return ref_refused(verdict.refusal, verdict.offset);
+    if (values_len < program.goal_variables * (size_t)REFERENCE_VARIABLE_ROW)
+        return ref_refused(REFUSED_ROOM, 0);
+    for (k = 0; k < program.goal_variables; k++)
+        ref_encode_variable(variable_value(&tables, k), values + k * REFERENCE_VARIABLE_ROW);
+    return ref_accepted(0, 0, program.goal_variables);
 }
 
 /* Looks at the mode byte alone, since any row will do. */

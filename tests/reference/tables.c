@@ -123,7 +123,7 @@ static void encode_process(const struct process *process, uint8_t *row)
         put16(row + 16 + 2 * k, process->notes[k]);
 }
 
-static void encode_variable(struct term binding, uint8_t *row)
+void ref_encode_variable(struct term binding, uint8_t *row)
 {
     row[0] = binding.sort;
     put16(row + 1, binding.number & 65535);
@@ -143,7 +143,7 @@ void ref_encode(const struct tables *tables, const struct lent *lent)
     for (k = 0; k < tables->process_count; k++)
         encode_process(&tables->processes[k], lent->procs + k * REFERENCE_PROCESS_ROW);
     for (k = 0; k < tables->variable_count; k++)
-        encode_variable(tables->variables[k], lent->vars + k * REFERENCE_VARIABLE_ROW);
+        ref_encode_variable(tables->variables[k], lent->vars + k * REFERENCE_VARIABLE_ROW);
 }
 
 /* The start. */

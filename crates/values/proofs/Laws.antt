@@ -20,6 +20,7 @@ use Rattle.parlog.proofs.Rows.{build-snoc, rows-byte, rows-length, written-in}
 use Rattle.parlog.proofs.Scans.{build-at, build-length}
 use Rattle.parlog.specs.Limits.{Limits}
 use Rattle.parlog.specs.Load.{refusal}
+use Rattle.parlog.specs.Orders.{KeepRules}
 use Rattle.parlog.specs.Program.{programOf}
 use Rattle.parlog.specs.Sane.{termIn}
 use Rattle.parlog.specs.Scan.{build, every}
@@ -34,7 +35,7 @@ use Rattle.parlog.specs.declared.Refusal.{Refusal}
 use Rattle.parlog.specs.declared.Term.{Term}
 use Rattle.parlog.specs.declared.Term.the-variants.{Const, Var}
 use Rattle.unify.specs.Pending.{top}
-use Rattle.values.specs.Values.{gathered, GatherSays, Ruled, valueIn, valuesBytes, valuesCall, ValuesSays}
+use Rattle.values.specs.Values.{gathered, GatherSays, valueIn, valuesBytes, valuesCall, ValuesSays}
 use Rattle.values.specs.declared.Gathered.{Gathered}
 use Rattle.values.specs.declared.Gathered.the-variants.{Ungathered, Values}
 use Rattle.vars.proofs.Laws.{cell-length}
@@ -81,7 +82,7 @@ unfolding top
 var-top v g n h k = omega arith
 
 -- the number of a value has three bytes
-pub value-small : (vs : List Binding) → Ruled vs → (v g : ℕ) → v < g → g ≤ 255 → {t : Term} → t ≡ value vs (Var v) → numberCode (Bound t) < 16777216
+pub value-small : (vs : List Binding) → KeepRules vs → (v g : ℕ) → v < g → g ≤ 255 → {t : Term} → t ≡ value vs (Var v) → numberCode (Bound t) < 16777216
 value-small vs ok v g h few {t} e = go t (rw (← e) at (value-in vs (bindings-facts vs ok) g (Var v) (lt-ltb v g h)))
   where
     go : (x : Term) → termIn g x ≡ true → numberCode (Bound x) < 16777216
@@ -118,7 +119,7 @@ module _ (lim : Limits) (s : List ℕ) (l : Lent) (row : List ℕ) {a : Loaded} 
   values-gathered e g = record { answer = rw (told .entry, e) (g .answer); row-is = rw (told .entry, e) (g .row-is) }
 
 -- a call that was let in has bindings that keep the rules
-pub inside-ruled : (lim : Limits) (s : List ℕ) (r c : ℕ) (l : Lent) → Inside lim s r c l → Ruled (varsIn (l .vars) (varCount (l .head)))
+pub inside-ruled : (lim : Limits) (s : List ℕ) (r c : ℕ) (l : Lent) → Inside lim s r c l → KeepRules (varsIn (l .vars) (varCount (l .head)))
 unfolding lentOk tablesIn
 inside-ruled lim s r c l i =
     let a = and-true (fullSize lim l) (every (cellKnown (l .vars)) (varCount (l .head)) && tablesOk lim (programOf s r c) (tablesIn l)) (i .good) in

@@ -9,8 +9,7 @@ use Rattle.parlog.specs.Calls.{enter, entered, Entry, turned-away}
 use Rattle.parlog.specs.Limits.{Limits}
 use Rattle.parlog.specs.Load.{refusal}
 use Rattle.parlog.specs.Numbers.{Numbers, refusedAs}
-use Rattle.parlog.specs.Scan.{build, every}
-use Rattle.parlog.specs.TableRules.{varOk}
+use Rattle.parlog.specs.Scan.{build}
 use Rattle.parlog.specs.Tables.{bindingBytes, cellSize, Lent, rowsBytes, written}
 use Rattle.parlog.specs.Unify.{value}
 use Rattle.parlog.specs.declared.Binding.{Binding}
@@ -56,10 +55,6 @@ valuesNumbers (Values n) = record { refused = 0; a = 0; b = 0; c = n }
 valuesNumbers (Ungathered r) = refusedAs r
 
 -- ---- contracts
-
--- Tables 3i: these bindings keep the table rules
-abbrev pub Ruled : List Binding → Type 0
-Ruled vs = every (varOk vs) (length vs) ≡ true
 
 -- what the rest of the call promises, once it was let in
 pub record GatherSays (n : ℕ) (vs : List Binding) (row : List ℕ) (r : Gathered) (after : List ℕ) : Type 0 where

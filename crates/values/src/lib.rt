@@ -9,7 +9,8 @@ ghost use lib.ListN.{length};
 ghost use Rattle.parlog.specs.Limits.{small};
 ghost use Rattle.parlog.specs.Program.{programOf};
 ghost use Rattle.parlog.specs.Tables.{cellSize, headSize, lent, varCount, varsIn, written};
-ghost use Rattle.values.specs.Values.{GatherSays, Ruled, ValuesSays, valuesBytes};
+ghost use Rattle.parlog.specs.Orders.{KeepRules};
+ghost use Rattle.values.specs.Values.{GatherSays, ValuesSays, valuesBytes};
 
 // The answer of a look at all goal variables: how many they are.
 pub enum Gathered {
@@ -19,7 +20,7 @@ pub enum Gathered {
 
 // The values of the first `goal` variables, one row behind the other.
 fn write(vars: &[u8], n: usize, goal: usize, values: &mut [u8])
-    requires { ⌜ (n * cellSize ≤ length (now vars)) × (goal ≤ n) × (goal ≤ 255) × (goal * cellSize ≤ length (now values)) × Ruled (varsIn (now vars) n) ⌝ }
+    requires { ⌜ (n * cellSize ≤ length (now vars)) × (goal ≤ n) × (goal ≤ 255) × (goal * cellSize ≤ length (now values)) × KeepRules (varsIn (now vars) n) ⌝ }
     ensures { λ _. ⌜ now (values .exit) ≡ written (valuesBytes (varsIn (now (vars .entry)) n) goal) (now (values .entry)) ⌝ }
 {
     let mut v: u32 = 0;
@@ -39,7 +40,7 @@ fn gather(
     vars: &[u8],
     values: &mut [u8],
 ) -> Gathered
-    requires { ⌜ (rels ≤ 32) × (clauses ≤ 64) × (headSize ≤ length (now head)) × (varCount (now head) * cellSize ≤ length (now vars)) × (programOf (now image) rels clauses .goalVars ≤ varCount (now head)) × Ruled (varsIn (now vars) (varCount (now head))) ⌝ }
+    requires { ⌜ (rels ≤ 32) × (clauses ≤ 64) × (headSize ≤ length (now head)) × (varCount (now head) * cellSize ≤ length (now vars)) × (programOf (now image) rels clauses .goalVars ≤ varCount (now head)) × KeepRules (varsIn (now vars) (varCount (now head))) ⌝ }
     ensures { λ r. ⌜ GatherSays (programOf (now (image .entry)) rels clauses .goalVars) (varsIn (now (vars .entry)) (varCount (now (head .entry)))) (now (values .entry)) r (now (values .exit)) ⌝ }
 {
     let goal = program_clause::goal_vars(image, rels, clauses);
