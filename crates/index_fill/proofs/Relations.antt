@@ -70,17 +70,23 @@ module _ (s : List ℕ) (r c k : ℕ) (h : k < c) {q : ℕ} (eq : q ≡ byteAt s
   first-own = ((λ i a l. absurd (omega arith)), omega arith)
 
   pub first-other : (j : ℕ) → (q ≡ j → ⊥) → (x : ℕ) → First pr c (k + 1) j x → First pr c k j x
-  first-other j ne x old = ((λ i a l. split (eqb i k)
-      (λ b. rw (eqb-true i k b) (other j ne))
-      (λ b. let n = eqb-false i k b in old .0 i (omega (arith, n)) l)), old .1)
+  first-other j ne x old = (
+    (λ i a l. split (eqb i k)
+        (λ b. rw (eqb-true i k b) (other j ne))
+        (λ b. let n = eqb-false i k b in old .0 i (omega (arith, n)) l)),
+    old .1,
+  )
 
   pub behind-own : Last pr (k + 1) q (k + 1)
   behind-own = ((λ i a l. absurd (omega arith)), omega arith)
 
   pub behind-other : (j : ℕ) → (q ≡ j → ⊥) → (x : ℕ) → Last pr k j x → Last pr (k + 1) j x
-  behind-other j ne x old = ((λ i a l. split (eqb i k)
-      (λ b. rw (eqb-true i k b) (other j ne))
-      (λ b. let n = eqb-false i k b in old .0 i a (omega (arith, n)))), let f = old .1 in omega arith)
+  behind-other j ne x old = (
+    (λ i a l. split (eqb i k)
+        (λ b. rw (eqb-true i k b) (other j ne))
+        (λ b. let n = eqb-false i k b in old .0 i a (omega (arith, n)))),
+    let f = old .1 in omega arith,
+  )
 
 -- ---- before the first clause, and when all are read
 

@@ -19,24 +19,24 @@ abbrev μ-loop : tie.MeasureT-loop
 μ-loop s rels clauses ix₀ n last₀ k₀ ix last k = clauses - k
 
 relation-at-requires : tie.Need-relation-at-requires Inv-loop μ-loop
-relation-at-requires c κs = let h = (c .before .before .before .before .pre .0 .relations) in let g = (c .before .before .before .before .pre .0 .clauses) in 
+relation-at-requires c κs = let h = (c .before .before .before .before .pre .0 .relations) in let g = (c .before .before .before .before .pre .0 .clauses) in
     (omega arith, omega (arith, c .before .loop-test .taken), placed-kept (c .before .before .before .before .args .s .now) (c .before .before .before .before .args .rels + c .before .before .before .before .args .clauses) (omega arith) (c .before .before .loop .inv .2) (c .before .before .before .before .pre .1))
 
 add-byte-at : tie.Need-add-byte-at Inv-loop μ-loop
-add-byte-at c = let h = (c .before .before .before .before .before .before .before .pre .0 .relations) in let g = (c .before .before .before .before .before .before .before .pre .0 .clauses) in 
+add-byte-at c = let h = (c .before .before .before .before .before .before .before .pre .0 .relations) in let g = (c .before .before .before .before .before .before .before .pre .0 .clauses) in
     let p = placed-kept (c .before .before .before .before .before .before .before .args .s .now) (c .before .before .before .before .before .before .before .args .rels + c .before .before .before .before .before .before .before .args .clauses) (omega arith) (c .before .before .before .before .before .loop .inv .2) (c .before .before .before .before .before .before .before .pre .1) in
     let e = p (c .before .before .before .before .before .before .before .args .rels + c .before .before .before .before .before .loop .k) (omega (arith, c .before .before .before .before .loop-test .taken)) in
     omega (arith, e .1, c .wide-u16 .ensures)
 
 count-block-requires : tie.Need-count-block-requires Inv-loop μ-loop
-count-block-requires c κs = let h = (c .before .before .before .before .before .before .before .before .before .before .pre .0 .relations) in let g = (c .before .before .before .before .before .before .before .before .before .before .pre .0 .clauses) in 
+count-block-requires c κs = let h = (c .before .before .before .before .before .before .before .before .before .before .pre .0 .relations) in let g = (c .before .before .before .before .before .before .before .before .before .before .pre .0 .clauses) in
     let q = named-in (c .before .before .before .before .before .before .before .before .before .before .args .s .now) _ (c .before .before .before .before .before .before .before .before .before .before .pre .0) _ (c .before .before .before .before .before .before .before .loop-test .taken) (c .before .before .before .before .before .relation-at .ensures .0) in
     let o = c .before .before .before .before .before .before .before .before .loop .inv .1 (c .before .before .before .before .before .relation-at .result) q in
     (omega (arith, c .before .before .before .before .before .before .before .before .loop .inv .2 .size, c .before .before .before .before .before .before .before .before .before .before .pre .2), omega (arith, q), omega (arith, o .1, c .before .before .before .before .before .before .before .before .loop .inv .0))
 
 loop-again : tie.Need-loop-again Inv-loop μ-loop
 loop-again c = let a = c .before .before .before .before .before .before .before .before .before .before .before .args in
-    let h = (c .before .before .before .before .before .before .before .before .before .before .before .pre .0 .relations) in let g = (c .before .before .before .before .before .before .before .before .before .before .before .pre .0 .clauses) in 
+    let h = (c .before .before .before .before .before .before .before .before .before .before .before .pre .0 .relations) in let g = (c .before .before .before .before .before .before .before .before .before .before .before .pre .0 .clauses) in
     let p = c .before .before .before .before .before .before .before .before .before .loop in
     let l = c .before .before .before .before .before .before .before .before .loop-test .taken in
     let i = c .before .before .before .before .before .before .before .before .before .before .before .pre .0 in
@@ -53,7 +53,7 @@ loop-again c = let a = c .before .before .before .before .before .before .before
 
 returns : tie.Need-returns Inv-loop μ-loop
 returns c = let a = c .before .before .before .args in
-    let h = (c .before .before .before .pre .0 .relations) in let g = (c .before .before .before .pre .0 .clauses) in 
+    let h = (c .before .before .before .pre .0 .relations) in let g = (c .before .before .before .pre .0 .clauses) in
     let p = c .before .loop in
     let z : p .k ≡ a .clauses = omega arith in
     ((λ q h. let b = rw z at (p .inv .1 q h) in (blocks-end (a .s .now) (a .rels) (a .clauses) q b, omega (arith, b .1))), p .inv .2)
