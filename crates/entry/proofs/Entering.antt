@@ -7,8 +7,8 @@ use lib.Dec.{ltb}
 use lib.ListN.{length}
 use borrow.Author.Tests.{ltb-true}
 use native.Mathlib.Omega.{arith}
+use Rattle.entry.specs.Entered.{EnterSays, IndexedOf, Inside}
 use Rattle.load.specs.Bounds.{Bounded}
-use Rattle.entry.specs.Entered.{EnterSays, Inside}
 use Rattle.parlog.proofs.Assume.{assume-counts, full-sizes}
 use Rattle.parlog.proofs.Bools.{and-true}
 use Rattle.parlog.specs.Calls.{enter}
@@ -21,6 +21,7 @@ use Rattle.parlog.specs.Tables.{Lent, markerLast, procCount, tablesIn, varCount
 use Rattle.parlog.specs.declared.Loaded.{Loaded}
 use Rattle.parlog.specs.declared.Loaded.the-variants.{Accepted, Refused}
 use Rattle.parlog.specs.declared.Refusal.{Refusal}
+use Rattle.program_index.specs.Indexed.{Indexed}
 use Rattle.rows.proofs.Tables.{procs-length}
 use Rattle.vars.proofs.Tables.{vars-length}
 
@@ -73,3 +74,12 @@ module _ (lim : Limits) (s : List ℕ) (l : Lent) {a : Loaded} (is : a ≡ loadO
 -- what a call knows that was let in
 pub inside-of : (lim : Limits) (s : List ℕ) (l : Lent) {a : Loaded} {r c : ℕ} → EnterSays lim s l a → a ≡ Accepted r c → Inside lim s r c l
 inside-of lim s l h e = rw e at (h .inside)
+
+pub indexed-of : (s ix : List ℕ) {a : Loaded} {r c : ℕ} → IndexedOf a s ix → a ≡ Accepted r c → Indexed s r c ix
+indexed-of s ix h e = rw e at h
+
+pub indexed-none : (s ix : List ℕ) {a : Loaded} {f : Refusal} → a ≡ Refused f → IndexedOf a s ix
+indexed-none s ix e = rw e tt
+
+pub indexed-some : (s ix : List ℕ) {a : Loaded} {r c : ℕ} → a ≡ Accepted r c → Indexed s r c ix → IndexedOf a s ix
+indexed-some s ix e i = rw e i

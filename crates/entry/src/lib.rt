@@ -6,7 +6,8 @@ ghost use mathlib.Core.Path.{_≡_};
 ghost use Rattle.parlog.specs.Limits.{small};
 ghost use Rattle.parlog.specs.Load.{refusal};
 ghost use Rattle.parlog.specs.Tables.{lent};
-ghost use Rattle.entry.specs.Entered.{EnterSays};
+ghost use lib.ListN.{length};
+ghost use Rattle.entry.specs.Entered.{EnterSays, IndexedOf};
 
 // The limits of a run.
 pub const PROCS: usize = codes::MOST_PROCS;
@@ -23,15 +24,24 @@ pub fn refusal(number: u8) -> Refusal
     }
 }
 
-// The image first, then the table rules: the counts of the program, or the refusal.
-pub fn enter(image: &[u8], head: &[u8], procs: &[u8], vars: &[u8]) -> Loaded
+// The image first, then the table rules: the counts of the program with its index, or the refusal.
+pub fn enter(
+    image: &[u8],
+    head: &[u8],
+    procs: &[u8],
+    vars: &[u8],
+    ix: &mut [u16; program_index::SIZE],
+) -> Loaded
+    requires { ⌜ length (now ix) ≡ 321 ⌝ }
     ensures { λ r. ⌜ EnterSays small (now (image .entry)) (lent (now (head .entry)) (now (procs .entry)) (now (vars .entry))) r ⌝ }
+    ensures { λ r. ⌜ IndexedOf r (now (image .entry)) (now (ix .exit)) ⌝ }
 {
     let l = load::load(image);
     let Loaded::Accepted(rels, clauses) = l else {
         return l;
     };
-    if !table_rules::lent_ok(image, rels, clauses, head, procs, vars, PROCS, VARS) {
+    index_fill::fill(image, rels, clauses, ix);
+    if !table_rules::lent_ok(image, rels, clauses, ix, head, procs, vars, PROCS, VARS) {
         return Loaded::Refused(refusal(codes::STATE));
     }
     l

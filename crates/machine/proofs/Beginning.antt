@@ -37,21 +37,24 @@ lent-sized lim r c l hr hc e = let (h, p, v) = full-sizes lim l e in (hr, hc, h,
 module _ (lim : Limits) (s : List ℕ) (l : Lent) {a : Loaded} (is : a ≡ loadOf s) where
   pub startable-refused : {f : Refusal} → a ≡ Refused f → StartableSays lim s l a
   unfolding startCall
-  startable-refused e = rw e (record { call = rw (sym is ∙ e); sized = tt })
+  startable-refused e = rw e (record { call = rw (sym is ∙ e); sized = tt; loaded = tt })
 
   module _ {r c : ℕ} (e : a ≡ Accepted r c) {ok : Bool} (test : ok ≡ fullSize lim l) where
     pub startable-turned : ok ≡ false → {f : Refusal} → f ≡ refusal 8 0 → StartableSays lim s l (Refused f)
     unfolding startCall
-    startable-turned h ef = record { call = rw (sym is ∙ e, sym test ∙ h, ef); sized = tt }
+    startable-turned h ef = record { call = rw (sym is ∙ e, sym test ∙ h, ef); sized = tt; loaded = tt }
 
     pub startable-sized : ok ≡ true → Bounded (length s) a → StartableSays lim s l (Accepted r c)
     unfolding startCall
     startable-sized h b =
         let k = rw e at b in
-        record { call = rw (sym is ∙ e, sym test ∙ h); sized = lent-sized lim r c l (k .0) (k .1) (sym test ∙ h) }
+        record { call = rw (sym is ∙ e, sym test ∙ h); sized = lent-sized lim r c l (k .0) (k .1) (sym test ∙ h); loaded = sym is ∙ e }
 
 pub sized-of : (lim : Limits) (s : List ℕ) (l : Lent) {a : Loaded} {r c : ℕ} → StartableSays lim s l a → a ≡ Accepted r c → SizedOf (Accepted r c) lim l
 sized-of lim s l h e = rw e at (h .sized)
+
+pub loaded-of : (lim : Limits) (s : List ℕ) (l : Lent) {a : Loaded} {r c : ℕ} → StartableSays lim s l a → a ≡ Accepted r c → loadOf s ≡ Accepted r c
+loaded-of lim s l h e = rw e at (h .loaded)
 
 -- ---- the goal's process
 

@@ -23,6 +23,7 @@ ghost use Rattle.parlog.specs.Unify.{value};
 ghost use Rattle.parlog.specs.declared.Binding.the-variants.{Bound};
 ghost use Rattle.parlog.specs.declared.Supplied.the-variants.{Ungiven};
 ghost use Rattle.parlog.specs.declared.Term.the-variants.{Var};
+ghost use Rattle.program_index.specs.Indexed.{Indexed};
 ghost use Rattle.machine.specs.Starting.{BeginSays, StartSays, StartableSays};
 ghost use Rattle.machine.specs.Supplying.{DecidedSays, SupplySays, askedOf, givenBy, isConst};
 
@@ -38,14 +39,15 @@ fn look(
     image: &[u8],
     rels: usize,
     clauses: usize,
+    ix: &[u16; program_index::SIZE],
     head: &[u8],
     vars: &[u8],
     variable: u32,
 ) -> Valued
-    requires { ⌜ (rels ≤ 32) × (clauses ≤ 64) × (headSize ≤ length (now head)) × (varCount (now head) * cellSize ≤ length (now vars)) × (programOf (now image) rels clauses .goalVars ≤ varCount (now head)) ⌝ }
+    requires { ⌜ (rels ≤ 32) × (clauses ≤ 64) × (headSize ≤ length (now head)) × (varCount (now head) * cellSize ≤ length (now vars)) × (programOf (now image) rels clauses .goalVars ≤ varCount (now head)) × Indexed (now image) rels clauses (now ix) ⌝ }
     ensures { λ r. ⌜ r ≡ valueAnswer (cond (ltb variable (programOf (now (image .entry)) rels clauses .goalVars)) (seen (value (varsIn (now (vars .entry)) (varCount (now (head .entry)))) (Var variable))) (unseen 12)) ⌝ }
 {
-    let goal = program_clause::goal_vars(image, rels, clauses);
+    let goal = program_clause::goal_vars(image, rels, clauses, ix);
     if goal <= (variable as usize) {
         return Valued::Unvalued(entry::refusal(codes::NOVAR));
     }
@@ -58,12 +60,13 @@ fn look(
 pub fn value(image: &[u8], head: &[u8], procs: &[u8], vars: &[u8], variable: u32) -> Valued
     ensures { λ r. ⌜ r ≡ valueCall small (now (image .entry)) (lent (now (head .entry)) (now (procs .entry)) (now (vars .entry))) variable ⌝ }
 {
-    let e = entry::enter(image, head, procs, vars);
+    let mut ix = [0u16; program_index::SIZE];
+    let e = entry::enter(image, head, procs, vars, &mut ix);
     let Loaded::Accepted(rels, clauses) = e else {
         let r = load::refusal(e);
         return Valued::Unvalued(r);
     };
-    look(image, rels, clauses, head, vars, variable)
+    look(image, rels, clauses, &ix, head, vars, variable)
 }
 
 // ---- the start
@@ -83,11 +86,16 @@ fn startable(image: &[u8], head: &[u8], procs: &[u8], vars: &[u8]) -> Loaded
 }
 
 // The process of the image's goal, about to start.
-fn goal_process(image: &[u8], rels: usize, clauses: usize) -> Process
-    requires { ⌜ (rels ≤ 32) × (clauses ≤ 64) ⌝ }
+fn goal_process(
+    image: &[u8],
+    rels: usize,
+    clauses: usize,
+    ix: &[u16; program_index::SIZE],
+) -> Process
+    requires { ⌜ (rels ≤ 32) × (clauses ≤ 64) × Indexed (now image) rels clauses (now ix) ⌝ }
     ensures { λ r. ⌜ r ≡ newProcess (tagOfGoal (programOf (now (image .entry)) rels clauses .goal)) starting 0 (goalSpot the-goal 0 0) ⌝ }
 {
-    let tag = program_goal::tag_of_goal(image, rels, clauses, 0, 0);
+    let tag = program_goal::tag_of_goal(image, rels, clauses, ix, 0, 0);
     let spot = Spot {
         kind: 0,
         clause: 0,
@@ -111,11 +119,17 @@ fn goal_process(image: &[u8], rels: usize, clauses: usize) -> Process
 }
 
 // The process table of a start: the goal's process, and zeros.
-fn begin_procs(image: &[u8], rels: usize, clauses: usize, procs: &mut [u8])
-    requires { ⌜ (rels ≤ 32) × (clauses ≤ 64) × (length (now procs) ≡ 12288) ⌝ }
+fn begin_procs(
+    image: &[u8],
+    rels: usize,
+    clauses: usize,
+    ix: &[u16; program_index::SIZE],
+    procs: &mut [u8],
+)
+    requires { ⌜ (rels ≤ 32) × (clauses ≤ 64) × (length (now procs) ≡ 12288) × Indexed (now image) rels clauses (now ix) ⌝ }
     ensures { λ _. ⌜ now (procs .exit) ≡ startedLent small (programOf (now (image .entry)) rels clauses) .procs ⌝ }
 {
-    let x = goal_process(image, rels, clauses);
+    let x = goal_process(image, rels, clauses, ix);
     rows::wipe(procs, 0, PROC_BYTES);
     rows::append(procs, 0, x);
 }
@@ -125,15 +139,16 @@ fn begin(
     image: &[u8],
     rels: usize,
     clauses: usize,
+    ix: &[u16; program_index::SIZE],
     head: &mut [u8],
     procs: &mut [u8],
     vars: &mut [u8],
 )
-    requires { ⌜ (rels ≤ 32) × (clauses ≤ 64) × (length (now head) ≡ headSize) × (length (now procs) ≡ 12288) × (length (now vars) ≡ 4096) ⌝ }
+    requires { ⌜ (rels ≤ 32) × (clauses ≤ 64) × (length (now head) ≡ headSize) × (length (now procs) ≡ 12288) × (length (now vars) ≡ 4096) × Indexed (now image) rels clauses (now ix) ⌝ }
     ensures { λ _. ⌜ BeginSays small (programOf (now (image .entry)) rels clauses) (now (head .exit)) (now (procs .exit)) (now (vars .exit)) ⌝ }
 {
-    let goal = program_clause::goal_vars(image, rels, clauses);
-    begin_procs(image, rels, clauses, procs);
+    let goal = program_clause::goal_vars(image, rels, clauses, ix);
+    begin_procs(image, rels, clauses, ix, procs);
     rows::wipe(vars, 0, VAR_BYTES);
     head::put_head(head, 1, goal, 0, 0);
 }
@@ -147,7 +162,9 @@ pub fn start(image: &[u8], head: &mut [u8], procs: &mut [u8], vars: &mut [u8]) -
         let r = load::refusal(a);
         return Started::Unstarted(r);
     };
-    begin(image, rels, clauses, head, procs, vars);
+    let mut ix = [0u16; program_index::SIZE];
+    index_fill::fill(image, rels, clauses, &mut ix);
+    begin(image, rels, clauses, &ix, head, procs, vars);
     Started::Begun
 }
 
@@ -193,15 +210,16 @@ fn asked(
     image: &[u8],
     rels: usize,
     clauses: usize,
+    ix: &[u16; program_index::SIZE],
     head: &[u8],
     vars: &[u8],
     variable: u32,
     value: u32,
 ) -> Supplied
-    requires { ⌜ (rels ≤ 32) × (clauses ≤ 64) × (headSize ≤ length (now head)) × (varCount (now head) * cellSize ≤ length (now vars)) × (programOf (now image) rels clauses .goalVars ≤ varCount (now head)) ⌝ }
+    requires { ⌜ (rels ≤ 32) × (clauses ≤ 64) × (headSize ≤ length (now head)) × (varCount (now head) * cellSize ≤ length (now vars)) × (programOf (now image) rels clauses .goalVars ≤ varCount (now head)) × Indexed (now image) rels clauses (now ix) ⌝ }
     ensures { λ r. ⌜ r ≡ askedOf (programOf (now (image .entry)) rels clauses) (varsIn (now (vars .entry)) (varCount (now (head .entry)))) variable value ⌝ }
 {
-    let goal = program_clause::goal_vars(image, rels, clauses);
+    let goal = program_clause::goal_vars(image, rels, clauses, ix);
     if goal <= (variable as usize) {
         return Supplied::Ungiven(entry::refusal(codes::NOVAR));
     }
@@ -221,12 +239,13 @@ fn decided(
 ) -> Supplied
     ensures { λ r. ⌜ DecidedSays small (now (image .entry)) (lent (now (head .entry)) (now (procs .entry)) (now (vars .entry))) variable value r ⌝ }
 {
-    let e = entry::enter(image, head, procs, vars);
+    let mut ix = [0u16; program_index::SIZE];
+    let e = entry::enter(image, head, procs, vars, &mut ix);
     let Loaded::Accepted(rels, clauses) = e else {
         let r = load::refusal(e);
         return Supplied::Ungiven(r);
     };
-    asked(image, rels, clauses, head, vars, variable, value)
+    asked(image, rels, clauses, &ix, head, vars, variable, value)
 }
 
 // A supply: the value of a goal variable becomes bound to a constant.

@@ -1,4 +1,5 @@
 // The rule that applies to a process, by its tag and mode: it reads the tables and answers a plan.
+ghost use Rattle.program_index.specs.Indexed.{Indexed};
 ghost use mathlib.Core.Path.{_≡_};
 ghost use mathlib.Core.Logic.{_≢_};
 ghost use mathlib.Core.List.{List};
@@ -22,23 +23,24 @@ fn start_tree(
     image: &[u8],
     rels: usize,
     clauses: usize,
+    ix: &[u16; program_index::SIZE],
     n: usize,
     m: usize,
     p: usize,
     x: Process,
 ) -> Plan
-    requires { ⌜ (rels ≤ 32) × (clauses ≤ 64) × (n ≤ 65535) × (m ≤ 60000) × (p < n) × (x .tag < 9) × (x .tag ≢ 6) × (x .tag ≢ 8) × (length (stageAt (programOf (now image) rels clauses) (x .spot)) ≤ newMost) × (length (blockAt (programOf (now image) rels clauses) (x .spot)) ≤ 8) ⌝ }
+    requires { ⌜ (rels ≤ 32) × (clauses ≤ 64) × (n ≤ 65535) × (m ≤ 60000) × (p < n) × (x .tag < 9) × (x .tag ≢ 6) × (x .tag ≢ 8) × (length (stageAt (programOf (now image) rels clauses) (x .spot)) ≤ newMost) × (length (blockAt (programOf (now image) rels clauses) (x .spot)) ≤ 8) × Indexed (now image) rels clauses (now ix) ⌝ }
     ensures { λ r. ⌜ ((s : State) → length (s .procs) ≡ n → length (s .vars) ≡ m → appliedOf r ≡ startRule (tagOf (x .tag)) (programOf (now (image .entry)) rels clauses) s p x) × (r .count ≤ newMost) × (r .changes .count ≡ 0) ⌝ }
 {
     let t = x.tag;
     match t {
-        codes::AND_PAR => rules_and::start_and_par(image, rels, clauses, n, p, x),
-        codes::AND_SEQ => rules_and::start_and_seq(image, rels, clauses, n, p, x),
+        codes::AND_PAR => rules_and::start_and_par(image, rels, clauses, ix, n, p, x),
+        codes::AND_SEQ => rules_and::start_and_seq(image, rels, clauses, ix, n, p, x),
         codes::OR_PAR => rules_or::start_or_par(n, p, x),
-        codes::SEQ_SEARCH => rules_or::start_seq_search(image, rels, clauses, n, p, x),
-        codes::OR_SEARCH => rules_or::start_or_search(image, rels, clauses, n, m, p, x),
+        codes::SEQ_SEARCH => rules_or::start_seq_search(image, rels, clauses, ix, n, p, x),
+        codes::OR_SEARCH => rules_or::start_or_search(image, rels, clauses, ix, n, m, p, x),
         codes::TRY_CLAUSE => rules_and::start_try_clause(n, p, x),
-        _ => rules_and::start_guard_eval(image, rels, clauses, n, p, x),
+        _ => rules_and::start_guard_eval(image, rels, clauses, ix, n, p, x),
     }
 }
 
@@ -47,6 +49,7 @@ fn start_rule(
     image: &[u8],
     rels: usize,
     clauses: usize,
+    ix: &[u16; program_index::SIZE],
     procs: &[u8],
     n: usize,
     vars: &[u8],
@@ -54,14 +57,34 @@ fn start_rule(
     p: usize,
     x: Process,
 ) -> Plan
-    requires { ⌜ (rels ≤ 32) × (clauses ≤ 64) × (n * rowSize ≤ length (now procs)) × (n ≤ 65535) × (m * cellSize ≤ length (now vars)) × (m ≤ 60000) × (p < n) × Able (programOf (now image) rels clauses) (varsIn (now vars) m) x ⌝ }
+    requires { ⌜ (rels ≤ 32) × (clauses ≤ 64) × (n * rowSize ≤ length (now procs)) × (n ≤ 65535) × (m * cellSize ≤ length (now vars)) × (m ≤ 60000) × (p < n) × Able (programOf (now image) rels clauses) (varsIn (now vars) m) x × Indexed (now image) rels clauses (now ix) ⌝ }
     ensures { λ r. ⌜ (appliedOf r ≡ startRule (tagOf (x .tag)) (programOf (now (image .entry)) rels clauses) (stateIn (now (procs .entry)) n (now (vars .entry)) m) p x) × (r .count ≤ newMost) × (r .changes .count ≤ 4) × Within m (r .changes .count) (r .changes .list) ⌝ }
 {
     let t = x.tag;
     match t {
-        codes::INPUT_MATCH => rules_match::start_input_match(image, rels, clauses, vars, m, p, x),
-        codes::EQUATE => rules_match::start_equate(image, rels, clauses, procs, n, vars, m, p, x),
-        _ => start_tree(image, rels, clauses, n, m, p, x),
+        codes::INPUT_MATCH => rules_match::start_input_match(
+            image,
+            rels,
+            clauses,
+            ix,
+            vars,
+            m,
+            p,
+            x,
+        ),
+        codes::EQUATE => rules_match::start_equate(
+            image,
+            rels,
+            clauses,
+            ix,
+            procs,
+            n,
+            vars,
+            m,
+            p,
+            x,
+        ),
+        _ => start_tree(image, rels, clauses, ix, n, m, p, x),
     }
 }
 
@@ -70,21 +93,32 @@ fn wait_rule(
     image: &[u8],
     rels: usize,
     clauses: usize,
+    ix: &[u16; program_index::SIZE],
     procs: &[u8],
     n: usize,
     p: usize,
     x: Process,
     told: Told,
 ) -> Plan
-    requires { ⌜ (rels ≤ 32) × (clauses ≤ 64) × (n * rowSize ≤ length (now procs)) × (n ≤ 65535) × (p < n) × (x .tag < 9) × (x .tag ≡ 1 → x .spot .stage < 255) × (x .tag ≡ 3 → x .spot .block < 255) × Tells (procsOf (now procs) n) p told ⌝ }
+    requires { ⌜ (rels ≤ 32) × (clauses ≤ 64) × (n * rowSize ≤ length (now procs)) × (n ≤ 65535) × (p < n) × (x .tag < 9) × (x .tag ≡ 1 → x .spot .stage < 255) × (x .tag ≡ 3 → x .spot .block < 255) × Tells (procsOf (now procs) n) p told × Indexed (now image) rels clauses (now ix) ⌝ }
     ensures { λ r. ⌜ ((vs : List Binding) → appliedOf r ≡ waitRule (tagOf (x .tag)) (programOf (now (image .entry)) rels clauses) (record { procs = procsOf (now (procs .entry)) n; vars = vs }) p x) × (r .count ≤ newMost) × (r .changes .count ≡ 0) ⌝ }
 {
     let t = x.tag;
     match t {
         codes::AND_PAR => rules_and::wait_and_par(told, p, x),
         codes::AND_SEQ => rules_and::wait_and_seq(told, p, x),
-        codes::OR_PAR => rules_or::wait_or_par(image, rels, clauses, procs, n, p, x, told),
-        codes::SEQ_SEARCH => rules_or::wait_seq_search(image, rels, clauses, procs, n, p, x, told),
+        codes::OR_PAR => rules_or::wait_or_par(image, rels, clauses, ix, procs, n, p, x, told),
+        codes::SEQ_SEARCH => rules_or::wait_seq_search(
+            image,
+            rels,
+            clauses,
+            ix,
+            procs,
+            n,
+            p,
+            x,
+            told,
+        ),
         codes::OR_SEARCH => rules_or::wait_or_search(procs, n, p, x, told),
         codes::TRY_CLAUSE => rules_and::wait_try_clause(told, p, x),
         codes::GUARD_EVAL => rules_and::wait_guard_eval(told, p, x),
@@ -97,6 +131,7 @@ pub fn rule_of(
     image: &[u8],
     rels: usize,
     clauses: usize,
+    ix: &[u16; program_index::SIZE],
     procs: &[u8],
     n: usize,
     vars: &[u8],
@@ -104,7 +139,7 @@ pub fn rule_of(
     p: usize,
     told: Told,
 ) -> Plan
-    requires { ⌜ (rels ≤ 32) × (clauses ≤ 64) × (n * rowSize ≤ length (now procs)) × (n ≤ 65535) × (m * cellSize ≤ length (now vars)) × (m ≤ 60000) × (p < n) × Legal (programOf (now image) rels clauses) (stateIn (now procs) n (now vars) m) p × (at (procsOf (now procs) n) p .mode ≡ 3 → Tells (procsOf (now procs) n) p told) ⌝ }
+    requires { ⌜ (rels ≤ 32) × (clauses ≤ 64) × (n * rowSize ≤ length (now procs)) × (n ≤ 65535) × (m * cellSize ≤ length (now vars)) × (m ≤ 60000) × (p < n) × Legal (programOf (now image) rels clauses) (stateIn (now procs) n (now vars) m) p × (at (procsOf (now procs) n) p .mode ≡ 3 → Tells (procsOf (now procs) n) p told) × Indexed (now image) rels clauses (now ix) ⌝ }
     ensures { λ r. ⌜ (appliedOf r ≡ ruleOf (programOf (now (image .entry)) rels clauses) (stateIn (now (procs .entry)) n (now (vars .entry)) m) p) × (r .count ≤ newMost) × (r .changes .count ≤ 4) × Within m (r .changes .count) (r .changes .list) ⌝ }
 {
     let x = rows::get(procs, n, p);
@@ -112,8 +147,8 @@ pub fn rule_of(
     match mode {
         codes::DORMANT => move_plan::none(),
         codes::READY => rules_and::ready(p, x),
-        codes::STARTING => start_rule(image, rels, clauses, procs, n, vars, m, p, x),
-        codes::WAITING => wait_rule(image, rels, clauses, procs, n, p, x, told),
+        codes::STARTING => start_rule(image, rels, clauses, ix, procs, n, vars, m, p, x),
+        codes::WAITING => wait_rule(image, rels, clauses, ix, procs, n, p, x, told),
         codes::REPORTING => rules_and::stop(p, x),
         _ => rules_match::wake(vars, m, p, x),
     }

@@ -4,7 +4,7 @@ use parlog::codes;
 ghost use mathlib.Core.Path.{_≡_};
 ghost use Prim.Native.Nat.{_+_, _*_, _≤_, _<_};
 ghost use lib.ListN.{length};
-ghost use Rattle.parlog.specs.Image.{byteAt, wordAt, recordAt, termOf, termAt, numberOf, literalsEnd, stageEnd, stagesEnd, goalEnd};
+ghost use Rattle.parlog.specs.Image.{byteAt, wordAt, termOf, termAt, numberOf, literalsEnd, stageEnd, stagesEnd, goalEnd};
 
 // The byte at i, or 0 past the end.
 pub fn byte_at(s: &[u8], i: usize) -> usize
@@ -69,20 +69,6 @@ pub fn term_in(s: &[u8], at: usize) -> Term
     ensures { λ r. ⌜ (r ≡ termAt (now (s .entry)) at) × (numberOf r ≤ 32767) ⌝ }
 {
     term_of(word_in(s, at))
-}
-
-// Where record k begins.
-pub fn record_at(s: &[u8], k: usize) -> usize
-    requires { ⌜ k ≤ 255 ⌝ }
-    ensures { λ r. ⌜ (r ≡ recordAt (now (s .entry)) k) × (r ≤ 65535 * k) ⌝ }
-{
-    let mut at = 0;
-    let mut left = k;
-    while 0 < left {
-        at = at + word_at(s, at);
-        left -= 1;
-    }
-    at
 }
 
 // The place after n literals.

@@ -1,16 +1,14 @@
 -- Whether a clause opens a block, from what a pass over the clauses has at hand.
-use mathlib.Core.Bool.{_&&_, Bool, not}
+use mathlib.Core.Bool.{_&&_, Bool, false, not}
 use Prim.Native.Nat.{suc, zero, ℕ}
 use lib.Dec.{eqb}
-use Rattle.parlog.specs.Image.{equality}
 use Rattle.parlog.specs.Program.{clauseAt, Program}
 
--- whether clause k opens a block of relation q: its relation, the relation before it (where it is not the first), and its mark
-unfoldable pub opensBy : ℕ → ℕ → ℕ → ℕ → ℕ → Bool
-opensBy zero rel last mark q = eqb rel q
-opensBy (suc k) rel last mark q = eqb rel q && not (eqb last q && eqb mark 0)
+-- whether a clause opens a block of relation q: from its relation, whether the clause before it is of q, and its mark
+unfoldable pub opensBy : ℕ → Bool → ℕ → ℕ → Bool
+opensBy rel own mark q = eqb rel q && not (own && eqb mark 0)
 
--- the relation of the clause before clause k
-unfoldable pub relationBefore : Program → ℕ → ℕ
-relationBefore pr zero = equality
-relationBefore pr (suc k) = clauseAt pr k .rel
+-- whether there is a clause before clause k and it is of relation q
+unfoldable pub ownBefore : Program → ℕ → ℕ → Bool
+ownBefore pr q zero = false
+ownBefore pr q (suc k) = eqb (clauseAt pr k .rel) q

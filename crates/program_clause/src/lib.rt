@@ -1,6 +1,7 @@
 // The records of an image, read where they stand: modes of relations, fields of clauses. Total, with the definitions' defaults past the end.
 use parlog::Term;
 use parlog::codes;
+ghost use Rattle.program_index.specs.Indexed.{Indexed};
 ghost use mathlib.Core.Path.{_≡_};
 ghost use mathlib.Core.List.{[]};
 ghost use Prim.Native.Nat.{_+_, _≤_};
@@ -22,14 +23,20 @@ pub struct Row {
 }
 
 // The modes of relation q.
-pub fn modes_of(s: &[u8], rels: usize, q: usize) -> Row
-    requires { ⌜ rels ≤ 32 ⌝ }
+pub fn modes_of(
+    s: &[u8],
+    rels: usize,
+    clauses: usize,
+    ix: &[u16; program_index::SIZE],
+    q: usize,
+) -> Row
+    requires { ⌜ (rels ≤ 32) × (clauses ≤ 64) × Indexed (now s) rels clauses (now ix) ⌝ }
     ensures { λ r. ⌜ (listOf (byteAt (now (s .entry))) modeEnd (r .n) (r .at) ≡ getD (listOf (modesOf (now (s .entry))) (recordEnd (now (s .entry))) rels 0) q []) × (r .n ≤ 255) × (r .at ≤ 16777216) ⌝ }
 {
     if rels <= q {
         return Row { n: 0, at: 0 };
     }
-    let rec = place::record_at(s, q);
+    let rec = program_index::record_at(s, rels, clauses, ix, q);
     let n = place::byte_at(s, rec + codes::RELATION_ARITY);
     Row {
         n,
@@ -38,20 +45,33 @@ pub fn modes_of(s: &[u8], rels: usize, q: usize) -> Row
 }
 
 // The number of arguments of relation q.
-pub fn mode_count(s: &[u8], rels: usize, clauses: usize, q: usize) -> usize
-    requires { ⌜ (rels ≤ 32) × (clauses ≤ 64) ⌝ }
+pub fn mode_count(
+    s: &[u8],
+    rels: usize,
+    clauses: usize,
+    ix: &[u16; program_index::SIZE],
+    q: usize,
+) -> usize
+    requires { ⌜ (rels ≤ 32) × (clauses ≤ 64) × Indexed (now s) rels clauses (now ix) ⌝ }
     ensures { λ r. ⌜ (r ≡ length (modesAt (programOf (now (s .entry)) rels clauses) q)) × (r ≤ 255) ⌝ }
 {
-    let ms = modes_of(s, rels, q);
+    let ms = modes_of(s, rels, clauses, ix, q);
     ms.n
 }
 
 // The mode of its argument i.
-pub fn mode_of(s: &[u8], rels: usize, clauses: usize, q: usize, i: usize) -> usize
-    requires { ⌜ (rels ≤ 32) × (clauses ≤ 64) ⌝ }
+pub fn mode_of(
+    s: &[u8],
+    rels: usize,
+    clauses: usize,
+    ix: &[u16; program_index::SIZE],
+    q: usize,
+    i: usize,
+) -> usize
+    requires { ⌜ (rels ≤ 32) × (clauses ≤ 64) × Indexed (now s) rels clauses (now ix) ⌝ }
     ensures { λ r. ⌜ (r ≡ getD (modesAt (programOf (now (s .entry)) rels clauses) q) i 0) × (r ≤ 255) ⌝ }
 {
-    let ms = modes_of(s, rels, q);
+    let ms = modes_of(s, rels, clauses, ix, q);
     let n = ms.n;
     let at = ms.at;
     if n <= i {
@@ -108,46 +128,56 @@ pub fn outs_of(s: &[u8], n: usize, at: usize, j: usize) -> Outs
 // ---- the fields of clause k
 
 // The relation; that of equality past the end.
-pub fn clause_relation(s: &[u8], rels: usize, clauses: usize, k: usize) -> usize
-    requires { ⌜ (rels ≤ 32) × (clauses ≤ 64) ⌝ }
+pub fn clause_relation(
+    s: &[u8],
+    rels: usize,
+    clauses: usize,
+    ix: &[u16; program_index::SIZE],
+    k: usize,
+) -> usize
+    requires { ⌜ (rels ≤ 32) × (clauses ≤ 64) × Indexed (now s) rels clauses (now ix) ⌝ }
     ensures { λ r. ⌜ (r ≡ clauseAt (programOf (now (s .entry)) rels clauses) k .rel) × (r ≤ 255) ⌝ }
 {
     if clauses <= k {
         return codes::EQUALITY;
     }
-    let at = place::record_at(s, rels + k);
+    let at = program_index::record_at(s, rels, clauses, ix, rels + k);
     place::byte_at(s, at + codes::CLAUSE_RELATION)
 }
 
 // The number of its own variables.
-pub fn clause_vars(s: &[u8], rels: usize, clauses: usize, k: usize) -> usize
-    requires { ⌜ (rels ≤ 32) × (clauses ≤ 64) ⌝ }
+pub fn clause_vars(
+    s: &[u8],
+    rels: usize,
+    clauses: usize,
+    ix: &[u16; program_index::SIZE],
+    k: usize,
+) -> usize
+    requires { ⌜ (rels ≤ 32) × (clauses ≤ 64) × Indexed (now s) rels clauses (now ix) ⌝ }
     ensures { λ r. ⌜ (r ≡ clauseAt (programOf (now (s .entry)) rels clauses) k .vars) × (r ≤ 255) ⌝ }
 {
     if clauses <= k {
         return 0;
     }
-    let at = place::record_at(s, rels + k);
+    let at = program_index::record_at(s, rels, clauses, ix, rels + k);
     place::byte_at(s, at + codes::CLAUSE_VARS)
 }
 
 // The new variables of clause k: its own, and one for each output argument.
-pub fn vars_of(s: &[u8], rels: usize, clauses: usize, k: usize) -> usize
-    requires { ⌜ (rels ≤ 32) × (clauses ≤ 64) ⌝ }
+pub fn vars_of(
+    s: &[u8],
+    rels: usize,
+    clauses: usize,
+    ix: &[u16; program_index::SIZE],
+    k: usize,
+) -> usize
+    requires { ⌜ (rels ≤ 32) × (clauses ≤ 64) × Indexed (now s) rels clauses (now ix) ⌝ }
     ensures { λ r. ⌜ (r ≡ varsOf (programOf (now (s .entry)) rels clauses) k) × (r ≤ 510) ⌝ }
 {
     if clauses <= k {
         return 0;
     }
-    let at = place::record_at(s, rels + k);
-    let q = place::byte_at(s, at + codes::CLAUSE_RELATION);
-    let ms = modes_of(s, rels, q);
-    let n = ms.n;
-    let first = ms.at;
-    let outs = outs_of(s, n, first, 0);
-    let count = outs.count;
-    let v = place::byte_at(s, at + codes::CLAUSE_VARS);
-    v + count
+    program_index::vars_at(s, rels, clauses, ix, k)
 }
 
 // Term k of n terms at a place.
@@ -162,14 +192,21 @@ pub fn term_of(s: &[u8], n: usize, at: usize, k: usize) -> Term
 }
 
 // Head term i.
-pub fn head_term(s: &[u8], rels: usize, clauses: usize, k: usize, i: usize) -> Term
-    requires { ⌜ (rels ≤ 32) × (clauses ≤ 64) ⌝ }
+pub fn head_term(
+    s: &[u8],
+    rels: usize,
+    clauses: usize,
+    ix: &[u16; program_index::SIZE],
+    k: usize,
+    i: usize,
+) -> Term
+    requires { ⌜ (rels ≤ 32) × (clauses ≤ 64) × Indexed (now s) rels clauses (now ix) ⌝ }
     ensures { λ r. ⌜ r ≡ getD (clauseAt (programOf (now (s .entry)) rels clauses) k .head) i (Const 0) ⌝ }
 {
     if clauses <= k {
         return Term::Const(0);
     }
-    let at = place::record_at(s, rels + k);
+    let at = program_index::record_at(s, rels, clauses, ix, rels + k);
     let n = place::byte_at(s, at + codes::CLAUSE_ARITY);
     term_of(s, n, at + codes::CLAUSE_HEAD, i)
 }
@@ -177,10 +214,10 @@ pub fn head_term(s: &[u8], rels: usize, clauses: usize, k: usize, i: usize) -> T
 // ---- the goal's record
 
 // The number of the goal's variables.
-pub fn goal_vars(s: &[u8], rels: usize, clauses: usize) -> usize
-    requires { ⌜ (rels ≤ 32) × (clauses ≤ 64) ⌝ }
+pub fn goal_vars(s: &[u8], rels: usize, clauses: usize, ix: &[u16; program_index::SIZE]) -> usize
+    requires { ⌜ (rels ≤ 32) × (clauses ≤ 64) × Indexed (now s) rels clauses (now ix) ⌝ }
     ensures { λ r. ⌜ (r ≡ programOf (now (s .entry)) rels clauses .goalVars) × (r ≤ 255) ⌝ }
 {
-    let at = place::record_at(s, rels + clauses);
+    let at = program_index::record_at(s, rels, clauses, ix, rels + clauses);
     place::byte_at(s, at + codes::GOAL_VARS)
 }

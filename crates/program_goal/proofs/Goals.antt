@@ -1,19 +1,28 @@
 -- The goals where they stand: one law for each way through `literal_at`, `stage_size_at` and `goal_size_at`.
 use mathlib.Core.Path.{_∙_, _≡_, ap, refl, sym}
-use mathlib.Core.Bool.{Bool, false, true}
+use mathlib.Core.Bool.{_||_, Bool, false, true}
 use mathlib.Core.List.{[], _++_, _∷_, append-nil, List}
 use Prim.Native.Nat.{_+_, _-_, _<_, _≤_, suc, zero, ℕ}
-use lib.ListN.{getD, length, length-append, List·getD-append}
+use lib.Dec.{leb, ltb}
+use lib.ListN.{getD, length, length-append, List·getD-append, List·getD-eq-default}
 use lib.Seq.{getD-append-add}
+use borrow.Author.Tests.{leb-false, leb-true, ltb-false, ltb-true}
 use native.Mathlib.Omega.{arith}
+use Rattle.parlog.proofs.Bools.{or-false, split}
 use Rattle.parlog.specs.Codes.{kindOf}
-use Rattle.parlog.specs.Image.{byteAt, stageEnd}
-use Rattle.parlog.specs.Program.{before, Goal, goalAt, goalBy, Literal, literalAt, noLiteral, Program, stageAt}
+use Rattle.parlog.specs.Image.{byteAt, literalEnd, stageEnd}
+use Rattle.parlog.specs.Program.{before, equation, Goal, goalAt, goalBy, Literal, literalAt, literalOf, noLiteral, Program, stageAt}
 use Rattle.parlog.specs.Scan.{along}
 use Rattle.parlog.specs.declared.Spot.{Spot}
-use Rattle.program_goal.proofs.Rows.{in-size, stage-past, stages-length}
+use Rattle.parlog.specs.declared.Term.{Term}
+use Rattle.program_goal.proofs.Rows.{in-here, in-size, stage-past, stages-length}
 use Rattle.program_goal.specs.Parts.{clauseOuts, front, goalIn, shown, stagesOf}
 use Rattle.program_goal.specs.declared.Home.{Home}
+use Rattle.program_goal.specs.declared.Lit.{Lit}
+
+-- neither before the literals of a stage nor past them
+pub between : (j count n : ℕ) {b : Bool} → b ≡ (ltb j count || leb n j) → b ≡ false → (count ≤ j) × (j < n)
+between j count n eb ef = let o = or-false (ltb j count) (leb n j) (sym eb ∙ ef) in (ltb-false j count (o .0), leb-false n j (o .1))
 
 -- the equations before a goal: its first stage, the others, and their number
 before-first : (es : List Literal) (g : Goal) → getD (before es g) 0 [] ≡ es ++ getD g 0 []
@@ -69,8 +78,28 @@ module _ (s : List ℕ) (r : ℕ) (h : Home) where
     pub lit-second : (j : ℕ) → count ≤ j → shown (getD (getD (stagesOf s (h .stages) (h .at)) i []) (j - count) noLiteral) ≡ shown (getD (getD (goalIn s r h) i []) j noLiteral)
     lit-second j g = rw (stage-in, ec) (ap shown (sym (second-part (front (h .body) i s r (h .clause)) (getD (stagesOf s (h .stages) (h .at)) i []) j (rw ec at g))))
 
+    -- the relation of literal j: of an equation, past the end, and where it stands
+    pub rel-first : (j : ℕ) → j < count → {t : Term} {v : ℕ} → equation t v ≡ getD (front (h .body) i s r (h .clause)) j noLiteral → 255 ≡ getD (getD (goalIn s r h) i []) j noLiteral .rel
+    unfolding shown
+    rel-first j g e = ap (λ (x : Lit). x .rel) (lit-first j g e)
+
+    pub rel-past : (j : ℕ) → length (getD (goalIn s r h) i []) ≤ j → 255 ≡ getD (getD (goalIn s r h) i []) j noLiteral .rel
+    rel-past j g = sym (ap (λ (l : Literal). l .rel) (List·getD-eq-default (getD (goalIn s r h) i []) noLiteral g))
+
+    pub rel-own : (j : ℕ) → count ≤ j → i < h .stages → {st m : ℕ} → st ≡ along (stageEnd s) i (h .at) → m ≡ byteAt s st → j - count < m
+        → {l x : ℕ} → l ≡ along (literalEnd s) (j - count) (st + 1) → x ≡ byteAt s l → x ≡ getD (getD (goalIn s r h) i []) j noLiteral .rel
+    unfolding shown literalOf
+    rel-own j g gi est em hm el ex = ex ∙ ap (λ (x : Lit). x .rel) (in-here s (h .stages) (h .at) i gi est em (j - count) hm el ∙ lit-second j g)
+
     pub size-short : h .stages ≤ i → count ≡ length (getD (goalIn s r h) i [])
     size-short g = ec ∙ sym (ap length (stage-in ∙ ap (λ (l : List Literal). front (h .body) i s r (h .clause) ++ l) (stage-past s (h .stages) (h .at) i g)) ∙ length-append (front (h .body) i s r (h .clause)) [] ∙ omega arith)
+
+    -- the ways through called_at
+    pub called-short : (j : ℕ) {t : Term} {v : ℕ} → (j < count → equation t v ≡ getD (front (h .body) i s r (h .clause)) j noLiteral) → h .stages ≤ i → 255 ≡ getD (getD (goalIn s r h) i []) j noLiteral .rel
+    called-short j e g = split (ltb j count) (λ b. let l = ltb-true j count b in rel-first j l (e l)) (λ b. rel-past j (let l = ltb-false j count b in omega (arith, size-short g)))
+
+    pub called-edge : (j : ℕ) {t : Term} {v : ℕ} → (j < count → equation t v ≡ getD (front (h .body) i s r (h .clause)) j noLiteral) → {n : ℕ} → n ≡ length (getD (goalIn s r h) i []) → {b : Bool} → b ≡ (ltb j count || leb n j) → b ≡ true → 255 ≡ getD (getD (goalIn s r h) i []) j noLiteral .rel
+    called-edge j e {n} en eb et = split (ltb j count) (λ b. let l = ltb-true j count b in rel-first j l (e l)) (λ b. rel-past j (let l = leb-true n j (rw b at (sym eb ∙ et)) in omega arith))
 
     pub size-both : i < h .stages → {st m : ℕ} → st ≡ along (stageEnd s) i (h .at) → m ≡ byteAt s st → count + m ≡ length (getD (goalIn s r h) i [])
     size-both g est em = rw (stage-in, length-append (front (h .body) i s r (h .clause)) (getD (stagesOf s (h .stages) (h .at)) i []), ec, in-size s (h .stages) (h .at) i g est em)
@@ -99,3 +128,7 @@ module _ (pr : Program) (z : Spot) {g : Goal} (e : goalBy (kindOf (z .kind)) pr 
   pub spot-literal : shown (getD (getD g (z .stage) []) (z .literal) noLiteral) ≡ shown (literalAt pr z)
   unfolding literalAt
   spot-literal = ap (λ (st : List Literal). shown (getD st (z .literal) noLiteral)) spot-stage
+
+  pub spot-relation : getD (getD g (z .stage) []) (z .literal) noLiteral .rel ≡ literalAt pr z .rel
+  unfolding literalAt
+  spot-relation = ap (λ (st : List Literal). getD st (z .literal) noLiteral .rel) spot-stage

@@ -3,6 +3,7 @@ use parlog::Spot;
 use parlog::Term;
 use parlog::codes;
 use program_clause::Outs;
+ghost use Rattle.program_index.specs.Indexed.{Indexed};
 ghost use mathlib.Core.Path.{_≡_};
 ghost use mathlib.Core.Bool.{cond};
 ghost use mathlib.Core.List.{[]};
@@ -10,7 +11,7 @@ ghost use Prim.Native.Nat.{_+_, _*_, _≤_, _<_};
 ghost use lib.Dec.{eqb, ltb};
 ghost use lib.ListN.{length, getD};
 ghost use Rattle.parlog.specs.Codes.{kindOf, tagCode};
-ghost use Rattle.parlog.specs.Image.{bodyAt, byteAt, guardAt, termAt};
+ghost use Rattle.parlog.specs.Image.{bodyAt, byteAt, guardAt, recordAt, termAt};
 ghost use Rattle.parlog.specs.Program.{noLiteral, equation, literalOf, programOf, goalBy, stageAt, literalAt, tagOfLiteral, tagOfStage, tagOfGoal};
 ghost use Rattle.program_goal.specs.Parts.{shown, front, goalIn, Near, stagesOf, relationTag};
 
@@ -104,26 +105,40 @@ pub struct Home {
     pub clause: usize,
 }
 
-// The place of the guard of the clause at a place, or of its body.
-fn part_place(s: &[u8], clause: usize, kind: u8) -> usize
-    requires { ⌜ clause ≤ 8388608 ⌝ }
+// The place of the guard of clause k, whose record stands at a place, or of its body.
+fn part_place(
+    s: &[u8],
+    rels: usize,
+    clauses: usize,
+    ix: &[u16; program_index::SIZE],
+    k: usize,
+    clause: usize,
+    kind: u8,
+) -> usize
+    requires { ⌜ (rels ≤ 32) × (clauses ≤ 64) × (k < clauses) × (clause ≡ recordAt (now s) (rels + k)) × (clause ≤ 65535) × Indexed (now s) rels clauses (now ix) ⌝ }
     ensures { λ r. ⌜ (r ≡ cond (eqb kind 1) (guardAt (now (s .entry)) clause) (bodyAt (now (s .entry)) clause)) × (r ≤ 67108864) ⌝ }
 {
-    let arity = place::byte_at(s, clause + codes::CLAUSE_ARITY);
-    let guard = clause + codes::CLAUSE_HEAD + codes::TERM_SIZE * arity;
     if kind == codes::THE_GUARD {
-        return guard;
+        let arity = place::byte_at(s, clause + codes::CLAUSE_ARITY);
+        return clause + codes::CLAUSE_HEAD + codes::TERM_SIZE * arity;
     }
-    place::goal_end(s, guard)
+    program_index::body_at(s, rels, clauses, ix, k)
 }
 
 // The goal that kind and k name: the image's goal, the guard of clause k, or its committed body.
-fn goal_home(s: &[u8], rels: usize, clauses: usize, kind: u8, k: u8) -> Home
-    requires { ⌜ (rels ≤ 32) × (clauses ≤ 64) ⌝ }
+fn goal_home(
+    s: &[u8],
+    rels: usize,
+    clauses: usize,
+    ix: &[u16; program_index::SIZE],
+    kind: u8,
+    k: u8,
+) -> Home
+    requires { ⌜ (rels ≤ 32) × (clauses ≤ 64) × Indexed (now s) rels clauses (now ix) ⌝ }
     ensures { λ r. ⌜ (goalBy (kindOf kind) (programOf (now (s .entry)) rels clauses) k ≡ goalIn (now (s .entry)) rels r) × Near r ⌝ }
 {
     if kind == codes::THE_GOAL {
-        let at = place::record_at(s, rels + clauses) + codes::GOAL_AT;
+        let at = program_index::record_at(s, rels, clauses, ix, rels + clauses) + codes::GOAL_AT;
         let stages = place::byte_at(s, at);
         return Home {
             stages,
@@ -141,8 +156,8 @@ fn goal_home(s: &[u8], rels: usize, clauses: usize, kind: u8, k: u8) -> Home
             clause: 0,
         };
     }
-    let clause = place::record_at(s, rels + number);
-    let at = part_place(s, clause, kind);
+    let clause = program_index::record_at(s, rels, clauses, ix, rels + number);
+    let at = part_place(s, rels, clauses, ix, number, clause, kind);
     let stages = place::byte_at(s, at);
     Home {
         stages,
@@ -159,8 +174,16 @@ fn least(a: usize, b: usize) -> usize
 }
 
 // The output equations that come before stage i: how many, and the number of the argument of equation j.
-fn outs_before(s: &[u8], rels: usize, h: Home, i: usize, j: usize) -> Outs
-    requires { ⌜ (rels ≤ 32) × Near h ⌝ }
+fn outs_before(
+    s: &[u8],
+    rels: usize,
+    clauses: usize,
+    ix: &[u16; program_index::SIZE],
+    h: Home,
+    i: usize,
+    j: usize,
+) -> Outs
+    requires { ⌜ (rels ≤ 32) × (clauses ≤ 64) × Near h × Indexed (now s) rels clauses (now ix) ⌝ }
     ensures { λ r. ⌜ (r .count ≡ length (front (h .body) i (now (s .entry)) rels (h .clause))) × ((j < r .count) → equation (termAt (now (s .entry)) (h .clause + 8 + 2 * r .number)) (byteAt (now (s .entry)) (h .clause + 7) + j) ≡ getD (front (h .body) i (now (s .entry)) rels (h .clause)) j noLiteral) × (r .count ≤ 255) × (r .number ≤ 255) ⌝ }
 {
     let clause = h.clause;
@@ -172,7 +195,7 @@ fn outs_before(s: &[u8], rels: usize, h: Home, i: usize, j: usize) -> Outs
     }
     let q = place::byte_at(s, clause + codes::CLAUSE_RELATION);
     let m = place::byte_at(s, clause + codes::CLAUSE_ARITY);
-    let ms = program_clause::modes_of(s, rels, q);
+    let ms = program_clause::modes_of(s, rels, clauses, ix, q);
     let n = ms.n;
     let at = ms.at;
     let few = least(m, n);
@@ -182,11 +205,19 @@ fn outs_before(s: &[u8], rels: usize, h: Home, i: usize, j: usize) -> Outs
 // ---- reads of a goal where it stands
 
 // Literal j of its stage i.
-fn literal_at(s: &[u8], rels: usize, h: Home, i: usize, j: usize) -> Lit
-    requires { ⌜ (rels ≤ 32) × Near h ⌝ }
+fn literal_at(
+    s: &[u8],
+    rels: usize,
+    clauses: usize,
+    ix: &[u16; program_index::SIZE],
+    h: Home,
+    i: usize,
+    j: usize,
+) -> Lit
+    requires { ⌜ (rels ≤ 32) × (clauses ≤ 64) × Near h × Indexed (now s) rels clauses (now ix) ⌝ }
     ensures { λ r. ⌜ (r ≡ shown (getD (getD (goalIn (now (s .entry)) rels h) i []) j noLiteral)) × (r .rel ≤ 255) ⌝ }
 {
-    let outs = outs_before(s, rels, h, i, j);
+    let outs = outs_before(s, rels, clauses, ix, h, i, j);
     let count = outs.count;
     let number = outs.number;
     let clause = h.clause;
@@ -201,11 +232,18 @@ fn literal_at(s: &[u8], rels: usize, h: Home, i: usize, j: usize) -> Lit
 }
 
 // The number of literals of its stage i.
-fn stage_size_at(s: &[u8], rels: usize, h: Home, i: usize) -> usize
-    requires { ⌜ (rels ≤ 32) × Near h ⌝ }
+fn stage_size_at(
+    s: &[u8],
+    rels: usize,
+    clauses: usize,
+    ix: &[u16; program_index::SIZE],
+    h: Home,
+    i: usize,
+) -> usize
+    requires { ⌜ (rels ≤ 32) × (clauses ≤ 64) × Near h × Indexed (now s) rels clauses (now ix) ⌝ }
     ensures { λ r. ⌜ (r ≡ length (getD (goalIn (now (s .entry)) rels h) i [])) × (r ≤ 510) ⌝ }
 {
-    let outs = outs_before(s, rels, h, i, 0);
+    let outs = outs_before(s, rels, clauses, ix, h, i, 0);
     let count = outs.count;
     let stages = h.stages;
     let at = h.at;
@@ -216,16 +254,64 @@ fn stage_size_at(s: &[u8], rels: usize, h: Home, i: usize) -> usize
     count + place::byte_at(s, st)
 }
 
+// A stage's size and the relation of one of its literals, that of equality past the end.
+pub struct Call {
+    pub size: usize,
+    pub rel: usize,
+}
+
+// Both for its stage i and literal j there.
+fn called_at(
+    s: &[u8],
+    rels: usize,
+    clauses: usize,
+    ix: &[u16; program_index::SIZE],
+    h: Home,
+    i: usize,
+    j: usize,
+) -> Call
+    requires { ⌜ (rels ≤ 32) × (clauses ≤ 64) × Near h × (j ≤ 255) × Indexed (now s) rels clauses (now ix) ⌝ }
+    ensures { λ r. ⌜ (r .size ≡ length (getD (goalIn (now (s .entry)) rels h) i [])) × (r .rel ≡ getD (getD (goalIn (now (s .entry)) rels h) i []) j noLiteral .rel) × (r .size ≤ 510) × (r .rel ≤ 255) ⌝ }
+{
+    let outs = outs_before(s, rels, clauses, ix, h, i, j);
+    let count = outs.count;
+    let stages = h.stages;
+    let at = h.at;
+    if stages <= i {
+        return Call {
+            size: count,
+            rel: codes::EQUALITY,
+        };
+    }
+    let st = place::stages_end(s, i, at);
+    let size = count + place::byte_at(s, st);
+    if basics::or(j < count, size <= j) {
+        return Call {
+            size,
+            rel: codes::EQUALITY,
+        };
+    }
+    let l = place::literals_end(s, j - count, st + 1);
+    let rel = place::byte_at(s, l);
+    Call { size, rel }
+}
+
 // The number of its stages.
-fn goal_size_at(s: &[u8], rels: usize, h: Home) -> usize
-    requires { ⌜ (rels ≤ 32) × Near h ⌝ }
+fn goal_size_at(
+    s: &[u8],
+    rels: usize,
+    clauses: usize,
+    ix: &[u16; program_index::SIZE],
+    h: Home,
+) -> usize
+    requires { ⌜ (rels ≤ 32) × (clauses ≤ 64) × Near h × Indexed (now s) rels clauses (now ix) ⌝ }
     ensures { λ r. ⌜ (r ≡ length (goalIn (now (s .entry)) rels h)) × (r ≤ 255) ⌝ }
 {
     let stages = h.stages;
     if stages != 0 {
         return stages;
     }
-    let outs = outs_before(s, rels, h, 0, 0);
+    let outs = outs_before(s, rels, clauses, ix, h, 0, 0);
     let count = outs.count;
     if count == 0 { 0 } else { 1 }
 }
@@ -242,78 +328,148 @@ fn relation_tag(rel: usize) -> u8
 }
 
 // The tag of its stage i.
-fn stage_tag(s: &[u8], rels: usize, h: Home, i: usize) -> u8
-    requires { ⌜ (rels ≤ 32) × Near h ⌝ }
+fn stage_tag(
+    s: &[u8],
+    rels: usize,
+    clauses: usize,
+    ix: &[u16; program_index::SIZE],
+    h: Home,
+    i: usize,
+) -> u8
+    requires { ⌜ (rels ≤ 32) × (clauses ≤ 64) × Near h × Indexed (now s) rels clauses (now ix) ⌝ }
     ensures { λ r. ⌜ (r ≡ tagCode (tagOfStage (getD (goalIn (now (s .entry)) rels h) i []))) × (r ≤ 8) ⌝ }
 {
-    let n = stage_size_at(s, rels, h, i);
-    if n != 1 {
+    let x = called_at(s, rels, clauses, ix, h, i, 0);
+    let size = x.size;
+    if size != 1 {
         return codes::AND_PAR;
     }
-    let l = literal_at(s, rels, h, i, 0);
-    let rel = l.rel;
+    let rel = x.rel;
     relation_tag(rel)
 }
 
 // ---- goals by kind and clause
 
 // The number of stages of the goal that kind and k name.
-pub fn goal_size(s: &[u8], rels: usize, clauses: usize, kind: u8, k: u8) -> usize
-    requires { ⌜ (rels ≤ 32) × (clauses ≤ 64) ⌝ }
+pub fn goal_size(
+    s: &[u8],
+    rels: usize,
+    clauses: usize,
+    ix: &[u16; program_index::SIZE],
+    kind: u8,
+    k: u8,
+) -> usize
+    requires { ⌜ (rels ≤ 32) × (clauses ≤ 64) × Indexed (now s) rels clauses (now ix) ⌝ }
     ensures { λ r. ⌜ (r ≡ length (goalBy (kindOf kind) (programOf (now (s .entry)) rels clauses) k)) × (r ≤ 255) ⌝ }
 {
-    let h = goal_home(s, rels, clauses, kind, k);
-    goal_size_at(s, rels, h)
+    let h = goal_home(s, rels, clauses, ix, kind, k);
+    goal_size_at(s, rels, clauses, ix, h)
 }
 
 // The tag of that goal.
-pub fn tag_of_goal(s: &[u8], rels: usize, clauses: usize, kind: u8, k: u8) -> u8
-    requires { ⌜ (rels ≤ 32) × (clauses ≤ 64) ⌝ }
+pub fn tag_of_goal(
+    s: &[u8],
+    rels: usize,
+    clauses: usize,
+    ix: &[u16; program_index::SIZE],
+    kind: u8,
+    k: u8,
+) -> u8
+    requires { ⌜ (rels ≤ 32) × (clauses ≤ 64) × Indexed (now s) rels clauses (now ix) ⌝ }
     ensures { λ r. ⌜ (r ≡ tagCode (tagOfGoal (goalBy (kindOf kind) (programOf (now (s .entry)) rels clauses) k))) × (r ≤ 8) ⌝ }
 {
-    let h = goal_home(s, rels, clauses, kind, k);
-    let n = goal_size_at(s, rels, h);
+    let h = goal_home(s, rels, clauses, ix, kind, k);
+    let n = goal_size_at(s, rels, clauses, ix, h);
     if n != 1 {
         return codes::AND_SEQ;
     }
-    stage_tag(s, rels, h, 0)
+    stage_tag(s, rels, clauses, ix, h, 0)
 }
 
 // ---- the stage and the literal that a process names
 
 // The number of literals of the stage.
-pub fn stage_size(s: &[u8], rels: usize, clauses: usize, z: Spot) -> usize
-    requires { ⌜ (rels ≤ 32) × (clauses ≤ 64) ⌝ }
+pub fn stage_size(
+    s: &[u8],
+    rels: usize,
+    clauses: usize,
+    ix: &[u16; program_index::SIZE],
+    z: Spot,
+) -> usize
+    requires { ⌜ (rels ≤ 32) × (clauses ≤ 64) × Indexed (now s) rels clauses (now ix) ⌝ }
     ensures { λ r. ⌜ (r ≡ length (stageAt (programOf (now (s .entry)) rels clauses) z)) × (r ≤ 510) ⌝ }
 {
-    let h = goal_home(s, rels, clauses, z.kind, z.clause);
-    stage_size_at(s, rels, h, z.stage as usize)
+    let h = goal_home(s, rels, clauses, ix, z.kind, z.clause);
+    stage_size_at(s, rels, clauses, ix, h, z.stage as usize)
+}
+
+// That number, and the relation of the literal.
+pub fn called(
+    s: &[u8],
+    rels: usize,
+    clauses: usize,
+    ix: &[u16; program_index::SIZE],
+    z: Spot,
+) -> Call
+    requires { ⌜ (rels ≤ 32) × (clauses ≤ 64) × Indexed (now s) rels clauses (now ix) ⌝ }
+    ensures { λ r. ⌜ (r .size ≡ length (stageAt (programOf (now (s .entry)) rels clauses) z)) × (r .rel ≡ literalAt (programOf (now (s .entry)) rels clauses) z .rel) × (r .rel ≤ 255) ⌝ }
+{
+    let h = goal_home(s, rels, clauses, ix, z.kind, z.clause);
+    let stage = z.stage as usize;
+    let literal = z.literal as usize;
+    called_at(s, rels, clauses, ix, h, stage, literal)
 }
 
 // The tag of the stage.
-pub fn tag_of_stage(s: &[u8], rels: usize, clauses: usize, z: Spot) -> u8
-    requires { ⌜ (rels ≤ 32) × (clauses ≤ 64) ⌝ }
+pub fn tag_of_stage(
+    s: &[u8],
+    rels: usize,
+    clauses: usize,
+    ix: &[u16; program_index::SIZE],
+    z: Spot,
+) -> u8
+    requires { ⌜ (rels ≤ 32) × (clauses ≤ 64) × Indexed (now s) rels clauses (now ix) ⌝ }
     ensures { λ r. ⌜ (r ≡ tagCode (tagOfStage (stageAt (programOf (now (s .entry)) rels clauses) z))) × (r ≤ 8) ⌝ }
 {
-    let h = goal_home(s, rels, clauses, z.kind, z.clause);
-    stage_tag(s, rels, h, z.stage as usize)
+    let h = goal_home(s, rels, clauses, ix, z.kind, z.clause);
+    stage_tag(s, rels, clauses, ix, h, z.stage as usize)
 }
 
 // The literal.
-pub fn literal(s: &[u8], rels: usize, clauses: usize, z: Spot) -> Lit
-    requires { ⌜ (rels ≤ 32) × (clauses ≤ 64) ⌝ }
+pub fn literal(
+    s: &[u8],
+    rels: usize,
+    clauses: usize,
+    ix: &[u16; program_index::SIZE],
+    z: Spot,
+) -> Lit
+    requires { ⌜ (rels ≤ 32) × (clauses ≤ 64) × Indexed (now s) rels clauses (now ix) ⌝ }
     ensures { λ r. ⌜ (r ≡ shown (literalAt (programOf (now (s .entry)) rels clauses) z)) × (r .rel ≤ 255) ⌝ }
 {
-    let h = goal_home(s, rels, clauses, z.kind, z.clause);
-    literal_at(s, rels, h, z.stage as usize, z.literal as usize)
+    let h = goal_home(s, rels, clauses, ix, z.kind, z.clause);
+    literal_at(
+        s,
+        rels,
+        clauses,
+        ix,
+        h,
+        z.stage as usize,
+        z.literal as usize,
+    )
 }
 
 // The tag of the literal.
-pub fn tag_of_literal(s: &[u8], rels: usize, clauses: usize, z: Spot) -> u8
-    requires { ⌜ (rels ≤ 32) × (clauses ≤ 64) ⌝ }
+pub fn tag_of_literal(
+    s: &[u8],
+    rels: usize,
+    clauses: usize,
+    ix: &[u16; program_index::SIZE],
+    z: Spot,
+) -> u8
+    requires { ⌜ (rels ≤ 32) × (clauses ≤ 64) × Indexed (now s) rels clauses (now ix) ⌝ }
     ensures { λ r. ⌜ (r ≡ tagCode (tagOfLiteral (literalAt (programOf (now (s .entry)) rels clauses) z))) × (r ≤ 8) ⌝ }
 {
-    let l = literal(s, rels, clauses, z);
-    let rel = l.rel;
+    let x = called(s, rels, clauses, ix, z);
+    let rel = x.rel;
     relation_tag(rel)
 }

@@ -1,4 +1,5 @@
 // The rules of the conjunctions, of a tried clause and of its guard, with ready and stop: each only reads, and answers a plan.
+ghost use Rattle.program_index.specs.Indexed.{Indexed};
 ghost use mathlib.Core.Path.{_≡_};
 ghost use mathlib.Core.List.{[], _∷_, List};
 ghost use Prim.Native.Nat.{_≤_, _<_};
@@ -56,23 +57,40 @@ fn with_children(mv: Move, x: Process, one: Process, other: Process) -> Plan
 // ---- and-par
 
 // The process for member j of the stage that z names.
-fn member(image: &[u8], rels: usize, clauses: usize, p: usize, z: Spot, j: usize) -> Process
-    requires { ⌜ (rels ≤ 32) × (clauses ≤ 64) × (p ≤ 65535) × (j ≤ 255) ⌝ }
+fn member(
+    image: &[u8],
+    rels: usize,
+    clauses: usize,
+    ix: &[u16; program_index::SIZE],
+    p: usize,
+    z: Spot,
+    j: usize,
+) -> Process
+    requires { ⌜ (rels ≤ 32) × (clauses ≤ 64) × (p ≤ 65535) × (j ≤ 255) × Indexed (now image) rels clauses (now ix) ⌝ }
     ensures { λ r. ⌜ r ≡ member (programOf (now (image .entry)) rels clauses) p z j ⌝ }
 {
     let y = move_plan::literal_spot(z, j as u8);
-    let t = program_goal::tag_of_literal(image, rels, clauses, y);
+    let t = program_goal::tag_of_literal(image, rels, clauses, ix, y);
     move_plan::new_process(t, codes::READY, p, y)
 }
 
 // The processes for its first k members, as rows.
-fn members(image: &[u8], rels: usize, clauses: usize, p: usize, z: Spot, k: usize, new: &mut [u8])
-    requires { ⌜ (rels ≤ 32) × (clauses ≤ 64) × (p ≤ 65535) × (k ≤ newMost) × (newSize ≤ length (now new)) ⌝ }
+fn members(
+    image: &[u8],
+    rels: usize,
+    clauses: usize,
+    ix: &[u16; program_index::SIZE],
+    p: usize,
+    z: Spot,
+    k: usize,
+    new: &mut [u8],
+)
+    requires { ⌜ (rels ≤ 32) × (clauses ≤ 64) × (p ≤ 65535) × (k ≤ newMost) × (newSize ≤ length (now new)) × Indexed (now image) rels clauses (now ix) ⌝ }
     ensures { λ _. ⌜ procsOf (now (new .exit)) k ≡ build (member (programOf (now (image .entry)) rels clauses) p z) k ⌝ }
 {
     let mut j = 0;
     while j < k {
-        let y = member(image, rels, clauses, p, z, j);
+        let y = member(image, rels, clauses, ix, p, z, j);
         rows::append(new, j, y);
         j += 1;
     }
@@ -83,16 +101,17 @@ pub fn start_and_par(
     image: &[u8],
     rels: usize,
     clauses: usize,
+    ix: &[u16; program_index::SIZE],
     n: usize,
     p: usize,
     x: Process,
 ) -> Plan
-    requires { ⌜ (rels ≤ 32) × (clauses ≤ 64) × (n ≤ 65535) × (p < n) × (length (stageAt (programOf (now image) rels clauses) (x .spot)) ≤ newMost) ⌝ }
+    requires { ⌜ (rels ≤ 32) × (clauses ≤ 64) × (n ≤ 65535) × (p < n) × (length (stageAt (programOf (now image) rels clauses) (x .spot)) ≤ newMost) × Indexed (now image) rels clauses (now ix) ⌝ }
     ensures { λ r. ⌜ Starts and-par (programOf (now (image .entry)) rels clauses) n p x (appliedOf r) × (r .count ≤ newMost) × (r .changes .count ≡ 0) ⌝ }
 {
-    let k = program_goal::stage_size(image, rels, clauses, x.spot);
+    let k = program_goal::stage_size(image, rels, clauses, ix, x.spot);
     let mut new = [0u8; move_plan::NEW_SIZE];
-    members(image, rels, clauses, p, x.spot, k, &mut new);
+    members(image, rels, clauses, ix, p, x.spot, k, &mut new);
     let me = move_plan::with_mode(x, codes::WAITING);
     let q = move_plan::touched(n, p, k);
     move_plan::make(Move::AndParStart(q), me, Found::Nothing, k, new, 0)
@@ -118,19 +137,20 @@ pub fn start_and_seq(
     image: &[u8],
     rels: usize,
     clauses: usize,
+    ix: &[u16; program_index::SIZE],
     n: usize,
     p: usize,
     x: Process,
 ) -> Plan
-    requires { ⌜ (rels ≤ 32) × (clauses ≤ 64) × (n ≤ 65535) × (p < n) ⌝ }
+    requires { ⌜ (rels ≤ 32) × (clauses ≤ 64) × (n ≤ 65535) × (p < n) × Indexed (now image) rels clauses (now ix) ⌝ }
     ensures { λ r. ⌜ Starts and-seq (programOf (now (image .entry)) rels clauses) n p x (appliedOf r) × (r .count ≤ newMost) × (r .changes .count ≡ 0) ⌝ }
 {
-    let stages = program_goal::goal_size(image, rels, clauses, x.spot.kind, x.spot.clause);
+    let stages = program_goal::goal_size(image, rels, clauses, ix, x.spot.kind, x.spot.clause);
     let i = x.spot.stage as usize;
     if stages <= i {
         return move_plan::report(Move::AndSeqSuccess(p), codes::SUCCESS, x);
     }
-    let t = program_goal::tag_of_stage(image, rels, clauses, x.spot);
+    let t = program_goal::tag_of_stage(image, rels, clauses, ix, x.spot);
     let y = move_plan::literal_spot(x.spot, 0);
     let child = move_plan::new_process(t, codes::STARTING, p, y);
     let me = move_plan::with_mode(x, codes::WAITING);
@@ -204,19 +224,20 @@ pub fn start_guard_eval(
     image: &[u8],
     rels: usize,
     clauses: usize,
+    ix: &[u16; program_index::SIZE],
     n: usize,
     p: usize,
     x: Process,
 ) -> Plan
-    requires { ⌜ (rels ≤ 32) × (clauses ≤ 64) × (n ≤ 65535) × (p < n) ⌝ }
+    requires { ⌜ (rels ≤ 32) × (clauses ≤ 64) × (n ≤ 65535) × (p < n) × Indexed (now image) rels clauses (now ix) ⌝ }
     ensures { λ r. ⌜ Starts guard-eval (programOf (now (image .entry)) rels clauses) n p x (appliedOf r) × (r .count ≤ newMost) × (r .changes .count ≡ 0) ⌝ }
 {
-    let size = program_goal::goal_size(image, rels, clauses, codes::THE_GUARD, x.spot.found);
+    let size = program_goal::goal_size(image, rels, clauses, ix, codes::THE_GUARD, x.spot.found);
     if size == 0 {
         return move_plan::report(Move::GuardEvalEmpty(p), codes::SUCCESS, x);
     }
     let y = move_plan::goal_spot(codes::THE_GUARD, x.spot.found, x.spot.first);
-    let t = program_goal::tag_of_goal(image, rels, clauses, codes::THE_GUARD, x.spot.found);
+    let t = program_goal::tag_of_goal(image, rels, clauses, ix, codes::THE_GUARD, x.spot.found);
     let child = move_plan::new_process(t, codes::STARTING, p, y);
     let me = move_plan::with_mode(x, codes::WAITING);
     move_plan::make_one(Move::GuardEvalStart(n), me, Found::Nothing, child)

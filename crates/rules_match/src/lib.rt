@@ -8,6 +8,7 @@ use parlog::Process;
 use parlog::Spot;
 use parlog::Term;
 use parlog::codes;
+ghost use Rattle.program_index.specs.Indexed.{Indexed};
 ghost use mathlib.Core.Path.{_≡_};
 ghost use mathlib.Core.Bool.{cond};
 ghost use Prim.Native.Nat.{_*_, _≤_};
@@ -86,26 +87,38 @@ fn start_by(
 // ---- input-match
 
 // The modes of relation q.
-fn four_modes(image: &[u8], rels: usize, clauses: usize, q: usize) -> [u8; codes::MOST_ARITY]
-    requires { ⌜ (rels ≤ 32) × (clauses ≤ 64) ⌝ }
+fn four_modes(
+    image: &[u8],
+    rels: usize,
+    clauses: usize,
+    ix: &[u16; program_index::SIZE],
+    q: usize,
+) -> [u8; codes::MOST_ARITY]
+    requires { ⌜ (rels ≤ 32) × (clauses ≤ 64) × Indexed (now image) rels clauses (now ix) ⌝ }
     ensures { λ r. ⌜ r ≡ inFour 0 (modesAt (programOf (now (image .entry)) rels clauses) q) ⌝ }
 {
-    let a = program_clause::mode_of(image, rels, clauses, q, 0);
-    let b = program_clause::mode_of(image, rels, clauses, q, 1);
-    let c = program_clause::mode_of(image, rels, clauses, q, 2);
-    let d = program_clause::mode_of(image, rels, clauses, q, 3);
+    let a = program_clause::mode_of(image, rels, clauses, ix, q, 0);
+    let b = program_clause::mode_of(image, rels, clauses, ix, q, 1);
+    let c = program_clause::mode_of(image, rels, clauses, ix, q, 2);
+    let d = program_clause::mode_of(image, rels, clauses, ix, q, 3);
     [a as u8, b as u8, c as u8, d as u8]
 }
 
 // The head terms of clause k.
-fn four_terms(image: &[u8], rels: usize, clauses: usize, k: usize) -> [Term; codes::MOST_ARITY]
-    requires { ⌜ (rels ≤ 32) × (clauses ≤ 64) ⌝ }
+fn four_terms(
+    image: &[u8],
+    rels: usize,
+    clauses: usize,
+    ix: &[u16; program_index::SIZE],
+    k: usize,
+) -> [Term; codes::MOST_ARITY]
+    requires { ⌜ (rels ≤ 32) × (clauses ≤ 64) × Indexed (now image) rels clauses (now ix) ⌝ }
     ensures { λ r. ⌜ r ≡ inFour (Const 0) (clauseAt (programOf (now (image .entry)) rels clauses) k .head) ⌝ }
 {
-    let a = program_clause::head_term(image, rels, clauses, k, 0);
-    let b = program_clause::head_term(image, rels, clauses, k, 1);
-    let c = program_clause::head_term(image, rels, clauses, k, 2);
-    let d = program_clause::head_term(image, rels, clauses, k, 3);
+    let a = program_clause::head_term(image, rels, clauses, ix, k, 0);
+    let b = program_clause::head_term(image, rels, clauses, ix, k, 1);
+    let c = program_clause::head_term(image, rels, clauses, ix, k, 2);
+    let d = program_clause::head_term(image, rels, clauses, ix, k, 3);
     [a, b, c, d]
 }
 
@@ -116,11 +129,19 @@ fn least(a: usize, b: usize) -> usize
 }
 
 // The match that z names.
-fn match_at(image: &[u8], rels: usize, clauses: usize, vars: &[u8], m: usize, z: Spot) -> Decision
-    requires { ⌜ (rels ≤ 32) × (clauses ≤ 64) × (m * cellSize ≤ length (now vars)) × (m ≤ 65535) × MatchThere (programOf (now image) rels clauses) (varsIn (now vars) m) z ⌝ }
+fn match_at(
+    image: &[u8],
+    rels: usize,
+    clauses: usize,
+    ix: &[u16; program_index::SIZE],
+    vars: &[u8],
+    m: usize,
+    z: Spot,
+) -> Decision
+    requires { ⌜ (rels ≤ 32) × (clauses ≤ 64) × (m * cellSize ≤ length (now vars)) × (m ≤ 65535) × MatchThere (programOf (now image) rels clauses) (varsIn (now vars) m) z × Indexed (now image) rels clauses (now ix) ⌝ }
     ensures { λ r. ⌜ Decides (matchAt (programOf (now (image .entry)) rels clauses) (varsIn (now (vars .entry)) m) z) r ⌝ }
 {
-    let l = program_goal::literal(image, rels, clauses, z);
+    let l = program_goal::literal(image, rels, clauses, ix, z);
     let q = l.rel;
     let size = l.arity;
     let a = l.a;
@@ -128,10 +149,10 @@ fn match_at(image: &[u8], rels: usize, clauses: usize, vars: &[u8], m: usize, z:
     let c = l.c;
     let d = l.d;
     let k = z.found as usize;
-    let modes = four_modes(image, rels, clauses, q);
-    let head = four_terms(image, rels, clauses, k);
-    let own = program_clause::clause_vars(image, rels, clauses, k);
-    let count = program_clause::mode_count(image, rels, clauses, q);
+    let modes = four_modes(image, rels, clauses, ix, q);
+    let head = four_terms(image, rels, clauses, ix, k);
+    let own = program_clause::clause_vars(image, rels, clauses, ix, k);
+    let count = program_clause::mode_count(image, rels, clauses, ix, q);
     let arity = least(count, size);
     let args = [a, b, c, d];
     decide::match_of(vars, m, modes, args, z.base, head, z.first, own, arity)
@@ -142,16 +163,17 @@ pub fn start_input_match(
     image: &[u8],
     rels: usize,
     clauses: usize,
+    ix: &[u16; program_index::SIZE],
     vars: &[u8],
     m: usize,
     p: usize,
     x: Process,
 ) -> Plan
-    requires { ⌜ (rels ≤ 32) × (clauses ≤ 64) × (m * cellSize ≤ length (now vars)) × (m ≤ 65535) × MatchThere (programOf (now image) rels clauses) (varsIn (now vars) m) (x .spot) ⌝ }
+    requires { ⌜ (rels ≤ 32) × (clauses ≤ 64) × (m * cellSize ≤ length (now vars)) × (m ≤ 65535) × MatchThere (programOf (now image) rels clauses) (varsIn (now vars) m) (x .spot) × Indexed (now image) rels clauses (now ix) ⌝ }
     ensures { λ r. ⌜ (appliedOf r ≡ inputMatchStart (matchAt (programOf (now (image .entry)) rels clauses) (varsIn (now (vars .entry)) m) (x .spot)) p x) × (r .count ≤ newMost) × (r .changes .count ≤ 4) × Within m (r .changes .count) (r .changes .list) ⌝ }
 {
     let z = x.spot;
-    let d = match_at(image, rels, clauses, vars, m, z);
+    let d = match_at(image, rels, clauses, ix, vars, m, z);
     let v = first_noted(d);
     let w = first_bound(d);
     start_by(
@@ -172,6 +194,7 @@ fn equate_at(
     image: &[u8],
     rels: usize,
     clauses: usize,
+    ix: &[u16; program_index::SIZE],
     procs: &[u8],
     n: usize,
     vars: &[u8],
@@ -179,10 +202,10 @@ fn equate_at(
     p: usize,
     z: Spot,
 ) -> Decision
-    requires { ⌜ (rels ≤ 32) × (clauses ≤ 64) × (n * rowSize ≤ length (now procs)) × (m * cellSize ≤ length (now vars)) × (m ≤ 65535) × EquateThere (programOf (now image) rels clauses) (varsIn (now vars) m) z ⌝ }
+    requires { ⌜ (rels ≤ 32) × (clauses ≤ 64) × (n * rowSize ≤ length (now procs)) × (m * cellSize ≤ length (now vars)) × (m ≤ 65535) × EquateThere (programOf (now image) rels clauses) (varsIn (now vars) m) z × Indexed (now image) rels clauses (now ix) ⌝ }
     ensures { λ r. ⌜ Decides (equateAt (programOf (now (image .entry)) rels clauses) (stateIn (now (procs .entry)) n (now (vars .entry)) m) p z) r ⌝ }
 {
-    let l = program_goal::literal(image, rels, clauses, z);
+    let l = program_goal::literal(image, rels, clauses, ix, z);
     let t = l.a;
     let u = l.b;
     let bar = tree::enclosing_first(procs, n, p);
@@ -194,6 +217,7 @@ pub fn start_equate(
     image: &[u8],
     rels: usize,
     clauses: usize,
+    ix: &[u16; program_index::SIZE],
     procs: &[u8],
     n: usize,
     vars: &[u8],
@@ -201,11 +225,11 @@ pub fn start_equate(
     p: usize,
     x: Process,
 ) -> Plan
-    requires { ⌜ (rels ≤ 32) × (clauses ≤ 64) × (n * rowSize ≤ length (now procs)) × (m * cellSize ≤ length (now vars)) × (m ≤ 65535) × EquateThere (programOf (now image) rels clauses) (varsIn (now vars) m) (x .spot) ⌝ }
+    requires { ⌜ (rels ≤ 32) × (clauses ≤ 64) × (n * rowSize ≤ length (now procs)) × (m * cellSize ≤ length (now vars)) × (m ≤ 65535) × EquateThere (programOf (now image) rels clauses) (varsIn (now vars) m) (x .spot) × Indexed (now image) rels clauses (now ix) ⌝ }
     ensures { λ r. ⌜ (appliedOf r ≡ equateStart (equateAt (programOf (now (image .entry)) rels clauses) (stateIn (now (procs .entry)) n (now (vars .entry)) m) p (x .spot)) p x) × (r .count ≤ newMost) × (r .changes .count ≤ 4) × Within m (r .changes .count) (r .changes .list) ⌝ }
 {
     let z = x.spot;
-    let d = equate_at(image, rels, clauses, procs, n, vars, m, p, z);
+    let d = equate_at(image, rels, clauses, ix, procs, n, vars, m, p, z);
     let v = first_noted(d);
     let w = first_bound(d);
     start_by(

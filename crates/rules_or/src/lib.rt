@@ -1,4 +1,5 @@
 // The rules of or-par, seq-search and or-search: each reads the tables and answers a plan.
+ghost use Rattle.program_index.specs.Indexed.{Indexed};
 ghost use mathlib.Core.Path.{_≡_};
 ghost use mathlib.Core.List.{[], _∷_, _++_, List};
 ghost use Prim.Native.Nat.{_+_, _*_, _≤_, _<_, suc};
@@ -26,12 +27,18 @@ use parlog::codes;
 // ---- what the rules share
 
 // The relation that the literal at z calls.
-fn called(image: &[u8], rels: usize, clauses: usize, z: Spot) -> usize
-    requires { ⌜ (rels ≤ 32) × (clauses ≤ 64) ⌝ }
+fn called(
+    image: &[u8],
+    rels: usize,
+    clauses: usize,
+    ix: &[u16; program_index::SIZE],
+    z: Spot,
+) -> usize
+    requires { ⌜ (rels ≤ 32) × (clauses ≤ 64) × Indexed (now image) rels clauses (now ix) ⌝ }
     ensures { λ r. ⌜ (r ≡ literalAt (programOf (now (image .entry)) rels clauses) z .rel) × (r ≤ 255) ⌝ }
 {
-    let l = program_goal::literal(image, rels, clauses, z);
-    l.rel
+    let x = program_goal::called(image, rels, clauses, ix, z);
+    x.rel
 }
 
 // Reports success with the clause that child c names.
@@ -59,11 +66,19 @@ pub fn start_or_par(n: usize, p: usize, x: Process) -> Plan
 }
 
 // The process for the committed body of clause k, its first variable v.
-fn body_child(image: &[u8], rels: usize, clauses: usize, p: usize, k: u8, v: u16) -> Process
-    requires { ⌜ (rels ≤ 32) × (clauses ≤ 64) × (p ≤ 65535) ⌝ }
+fn body_child(
+    image: &[u8],
+    rels: usize,
+    clauses: usize,
+    ix: &[u16; program_index::SIZE],
+    p: usize,
+    k: u8,
+    v: u16,
+) -> Process
+    requires { ⌜ (rels ≤ 32) × (clauses ≤ 64) × (p ≤ 65535) × Indexed (now image) rels clauses (now ix) ⌝ }
     ensures { λ r. ⌜ r ≡ bodyChild (programOf (now (image .entry)) rels clauses) p k v ⌝ }
 {
-    let t = program_goal::tag_of_goal(image, rels, clauses, codes::THE_BODY, k);
+    let t = program_goal::tag_of_goal(image, rels, clauses, ix, codes::THE_BODY, k);
     let z = move_plan::goal_spot(codes::THE_BODY, k, v);
     move_plan::new_process(t, codes::STARTING, p, z)
 }
@@ -73,20 +88,21 @@ fn or_par_heard(
     image: &[u8],
     rels: usize,
     clauses: usize,
+    ix: &[u16; program_index::SIZE],
     procs: &[u8],
     n: usize,
     p: usize,
     x: Process,
     c: usize,
 ) -> Plan
-    requires { ⌜ (rels ≤ 32) × (clauses ≤ 64) × (n * rowSize ≤ length (now procs)) × (n ≤ 65535) × (p < n) ⌝ }
+    requires { ⌜ (rels ≤ 32) × (clauses ≤ 64) × (n * rowSize ≤ length (now procs)) × (n ≤ 65535) × (p < n) × Indexed (now image) rels clauses (now ix) ⌝ }
     ensures { λ r. ⌜ ((vs : List Binding) → appliedOf r ≡ orParHeard (isTag seq-search (at (procsOf (now (procs .entry)) n) c .tag)) (programOf (now (image .entry)) rels clauses) (record { procs = procsOf (now (procs .entry)) n; vars = vs }) p x c) × (r .count ≤ newMost) × (r .changes .count ≡ 0) ⌝ }
 {
     let y = rows::get(procs, n, c);
     if y.tag != codes::SEQ_SEARCH {
         return move_plan::report(Move::OrParSuccess(p), codes::SUCCESS, x);
     }
-    let child = body_child(image, rels, clauses, p, y.spot.found, y.spot.first);
+    let child = body_child(image, rels, clauses, ix, p, y.spot.found, y.spot.first);
     move_plan::make_one(Move::OrParSpawn(n), x, Found::At(c), child)
 }
 
@@ -95,19 +111,20 @@ pub fn wait_or_par(
     image: &[u8],
     rels: usize,
     clauses: usize,
+    ix: &[u16; program_index::SIZE],
     procs: &[u8],
     n: usize,
     p: usize,
     x: Process,
     told: Told,
 ) -> Plan
-    requires { ⌜ (rels ≤ 32) × (clauses ≤ 64) × (n * rowSize ≤ length (now procs)) × (n ≤ 65535) × (p < n) × Tells (procsOf (now procs) n) p told ⌝ }
+    requires { ⌜ (rels ≤ 32) × (clauses ≤ 64) × (n * rowSize ≤ length (now procs)) × (n ≤ 65535) × (p < n) × Tells (procsOf (now procs) n) p told × Indexed (now image) rels clauses (now ix) ⌝ }
     ensures { λ r. ⌜ ((vs : List Binding) → appliedOf r ≡ waitRule or-par (programOf (now (image .entry)) rels clauses) (record { procs = procsOf (now (procs .entry)) n; vars = vs }) p x) × (r .count ≤ newMost) × (r .changes .count ≡ 0) ⌝ }
 {
     let h = told.latest;
     match h {
         News::Silent => move_plan::none(),
-        News::Good(c) => or_par_heard(image, rels, clauses, procs, n, p, x, c),
+        News::Good(c) => or_par_heard(image, rels, clauses, ix, procs, n, p, x, c),
         News::Bad(c) => move_plan::report(Move::OrParFailure(p), codes::FAILURE, x),
     }
 }
@@ -127,12 +144,18 @@ fn searching(mv: Move, b: u8, p: usize, x: Process, nap: Found) -> Plan
 }
 
 // How many blocks the relation has that the literal at z calls.
-fn blocks(image: &[u8], rels: usize, clauses: usize, z: Spot) -> usize
-    requires { ⌜ (rels ≤ 32) × (clauses ≤ 64) ⌝ }
+fn blocks(
+    image: &[u8],
+    rels: usize,
+    clauses: usize,
+    ix: &[u16; program_index::SIZE],
+    z: Spot,
+) -> usize
+    requires { ⌜ (rels ≤ 32) × (clauses ≤ 64) × Indexed (now image) rels clauses (now ix) ⌝ }
     ensures { λ r. ⌜ (r ≡ blockCount (programOf (now (image .entry)) rels clauses) (literalAt (programOf (now (image .entry)) rels clauses) z .rel)) × (r ≤ 64) ⌝ }
 {
-    let rel = called(image, rels, clauses, z);
-    program_block::block_count(image, rels, clauses, rel)
+    let rel = called(image, rels, clauses, ix, z);
+    program_block::block_count(image, rels, clauses, ix, rel)
 }
 
 // Tries the first block, if there is one.
@@ -140,14 +163,15 @@ pub fn start_seq_search(
     image: &[u8],
     rels: usize,
     clauses: usize,
+    ix: &[u16; program_index::SIZE],
     n: usize,
     p: usize,
     x: Process,
 ) -> Plan
-    requires { ⌜ (rels ≤ 32) × (clauses ≤ 64) × (n ≤ 65535) × (p < n) ⌝ }
+    requires { ⌜ (rels ≤ 32) × (clauses ≤ 64) × (n ≤ 65535) × (p < n) × Indexed (now image) rels clauses (now ix) ⌝ }
     ensures { λ r. ⌜ ((s : State) → length (s .procs) ≡ n → appliedOf r ≡ startRule seq-search (programOf (now (image .entry)) rels clauses) s p x) × (r .count ≤ newMost) × (r .changes .count ≡ 0) ⌝ }
 {
-    let count = blocks(image, rels, clauses, x.spot);
+    let count = blocks(image, rels, clauses, ix, x.spot);
     if count == 0 {
         return move_plan::report(Move::SeqSearchNone(p), codes::FAILURE, x);
     }
@@ -159,15 +183,16 @@ fn next_block(
     image: &[u8],
     rels: usize,
     clauses: usize,
+    ix: &[u16; program_index::SIZE],
     n: usize,
     p: usize,
     x: Process,
     c: usize,
 ) -> Plan
-    requires { ⌜ (rels ≤ 32) × (clauses ≤ 64) × (n ≤ 65535) × (p < n) × (x .spot .block < 255) ⌝ }
+    requires { ⌜ (rels ≤ 32) × (clauses ≤ 64) × (n ≤ 65535) × (p < n) × (x .spot .block < 255) × Indexed (now image) rels clauses (now ix) ⌝ }
     ensures { λ r. ⌜ ((s : State) → length (s .procs) ≡ n → appliedOf r ≡ seqSearchNext (ltb (suc (x .spot .block)) (blockCount (programOf (now (image .entry)) rels clauses) (literalAt (programOf (now (image .entry)) rels clauses) (x .spot) .rel))) s p x c) × (r .count ≤ newMost) × (r .changes .count ≡ 0) ⌝ }
 {
-    let count = blocks(image, rels, clauses, x.spot);
+    let count = blocks(image, rels, clauses, ix, x.spot);
     let b = x.spot.block + 1;
     if count <= b as usize {
         return move_plan::report(Move::SeqSearchFailure(p), codes::FAILURE, x);
@@ -180,20 +205,21 @@ pub fn wait_seq_search(
     image: &[u8],
     rels: usize,
     clauses: usize,
+    ix: &[u16; program_index::SIZE],
     procs: &[u8],
     n: usize,
     p: usize,
     x: Process,
     told: Told,
 ) -> Plan
-    requires { ⌜ (rels ≤ 32) × (clauses ≤ 64) × (n * rowSize ≤ length (now procs)) × (n ≤ 65535) × (p < n) × (x .spot .block < 255) × Tells (procsOf (now procs) n) p told ⌝ }
+    requires { ⌜ (rels ≤ 32) × (clauses ≤ 64) × (n * rowSize ≤ length (now procs)) × (n ≤ 65535) × (p < n) × (x .spot .block < 255) × Tells (procsOf (now procs) n) p told × Indexed (now image) rels clauses (now ix) ⌝ }
     ensures { λ r. ⌜ ((vs : List Binding) → appliedOf r ≡ waitRule seq-search (programOf (now (image .entry)) rels clauses) (record { procs = procsOf (now (procs .entry)) n; vars = vs }) p x) × (r .count ≤ newMost) × (r .changes .count ≡ 0) ⌝ }
 {
     let h = told.latest;
     match h {
         News::Silent => move_plan::none(),
         News::Good(c) => commit(Move::SeqSearchSuccess(p), procs, n, c, x),
-        News::Bad(c) => next_block(image, rels, clauses, n, p, x, c),
+        News::Bad(c) => next_block(image, rels, clauses, ix, n, p, x, c),
     }
 }
 
@@ -213,6 +239,7 @@ fn try_one(
     image: &[u8],
     rels: usize,
     clauses: usize,
+    ix: &[u16; program_index::SIZE],
     rows: &mut [u8],
     p: usize,
     z: Spot,
@@ -221,13 +248,13 @@ fn try_one(
     j: usize,
     v: usize,
 ) -> usize
-    requires { ⌜ (rels ≤ 32) × (clauses ≤ 64) × (p ≤ 65535) × (v ≤ 65535) × (j * rowSize + rowSize ≤ length (now rows)) ⌝ }
+    requires { ⌜ (rels ≤ 32) × (clauses ≤ 64) × (p ≤ 65535) × (v ≤ 65535) × (j * rowSize + rowSize ≤ length (now rows)) × Indexed (now image) rels clauses (now ix) ⌝ }
     ensures { λ r. ⌜ (r ≡ v + varsOf (programOf (now (image .entry)) rels clauses) (getD (blockOf (programOf (now (image .entry)) rels clauses) rel b) j 255)) × (r ≤ v + 510) × Table (now (rows .entry)) (now (rows .exit)) (procsOf (now (rows .entry)) j ++ (newProcess try-clause ready p (trySpot z (getD (blockOf (programOf (now (image .entry)) rels clauses) rel b) j 255) v) ∷ [])) ⌝ }
 {
-    let k = program_block::block_clause(image, rels, clauses, rel, b, j);
+    let k = program_block::block_clause(image, rels, clauses, ix, rel, b, j);
     let y = try_child(p, z, k, v);
     rows::append(rows, j, y);
-    v + program_clause::vars_of(image, rels, clauses, k)
+    v + program_clause::vars_of(image, rels, clauses, ix, k)
 }
 
 // A process for each clause of block b; answers the variable behind those of all.
@@ -235,6 +262,7 @@ fn try_all(
     image: &[u8],
     rels: usize,
     clauses: usize,
+    ix: &[u16; program_index::SIZE],
     rows: &mut [u8],
     m: usize,
     p: usize,
@@ -243,13 +271,13 @@ fn try_all(
     b: u8,
     size: usize,
 ) -> usize
-    requires { ⌜ (rels ≤ 32) × (clauses ≤ 64) × (p ≤ 65535) × (size ≡ length (blockOf (programOf (now image) rels clauses) rel b)) × (size * rowSize ≤ length (now rows)) × (m + 510 * size ≤ 65535) ⌝ }
+    requires { ⌜ (rels ≤ 32) × (clauses ≤ 64) × (p ≤ 65535) × (size ≡ length (blockOf (programOf (now image) rels clauses) rel b)) × (size * rowSize ≤ length (now rows)) × (m + 510 * size ≤ 65535) × Indexed (now image) rels clauses (now ix) ⌝ }
     ensures { λ r. ⌜ (procsOf (now (rows .exit)) size ≡ tries (programOf (now (image .entry)) rels clauses) p z m (blockOf (programOf (now (image .entry)) rels clauses) rel b)) × (r ≡ m + triesVars (programOf (now (image .entry)) rels clauses) (blockOf (programOf (now (image .entry)) rels clauses) rel b)) ⌝ }
 {
     let mut v = m;
     let mut j = 0;
     while j < size {
-        v = try_one(image, rels, clauses, rows, p, z, rel, b, j, v);
+        v = try_one(image, rels, clauses, ix, rows, p, z, rel, b, j, v);
         j += 1;
     }
     v
@@ -260,19 +288,32 @@ pub fn start_or_search(
     image: &[u8],
     rels: usize,
     clauses: usize,
+    ix: &[u16; program_index::SIZE],
     n: usize,
     m: usize,
     p: usize,
     x: Process,
 ) -> Plan
-    requires { ⌜ (rels ≤ 32) × (clauses ≤ 64) × (n ≤ 65535) × (p < n) × (length (blockAt (programOf (now image) rels clauses) (x .spot)) ≤ newMost) × (m + 510 * length (blockAt (programOf (now image) rels clauses) (x .spot)) ≤ 65535) ⌝ }
+    requires { ⌜ (rels ≤ 32) × (clauses ≤ 64) × (n ≤ 65535) × (p < n) × (length (blockAt (programOf (now image) rels clauses) (x .spot)) ≤ newMost) × (m + 510 * length (blockAt (programOf (now image) rels clauses) (x .spot)) ≤ 65535) × Indexed (now image) rels clauses (now ix) ⌝ }
     ensures { λ r. ⌜ ((s : State) → length (s .procs) ≡ n → length (s .vars) ≡ m → appliedOf r ≡ startRule or-search (programOf (now (image .entry)) rels clauses) s p x) × (r .count ≤ newMost) × (r .changes .count ≡ 0) ⌝ }
 {
-    let rel = called(image, rels, clauses, x.spot);
+    let rel = called(image, rels, clauses, ix, x.spot);
     let b = x.spot.block;
-    let size = program_block::block_size(image, rels, clauses, rel, b);
+    let size = program_block::block_size(image, rels, clauses, ix, rel, b);
     let mut new = [0u8; move_plan::NEW_SIZE];
-    let v = try_all(image, rels, clauses, &mut new, m, p, x.spot, rel, b, size);
+    let v = try_all(
+        image,
+        rels,
+        clauses,
+        ix,
+        &mut new,
+        m,
+        p,
+        x.spot,
+        rel,
+        b,
+        size,
+    );
     let me = move_plan::with_mode(x, codes::WAITING);
     let first = move_plan::touched(n, p, size);
     move_plan::make(

@@ -14,6 +14,7 @@ ghost use Rattle.parlog.specs.Codes.{resultOf};
 ghost use Rattle.parlog.specs.Limits.{small};
 ghost use Rattle.parlog.specs.Run.{endOf};
 ghost use Rattle.parlog.specs.Tables.{lent};
+ghost use Rattle.program_index.specs.Indexed.{Indexed};
 ghost use Rattle.run.specs.Running.{LookSays, RanSays, RunSays, Turning, TurnedIn, TurnSays, WhoseSays};
 
 // What a run finds before a step: whose turn it is with what its children report, and the end where it is nobody's.
@@ -41,11 +42,12 @@ fn turn_in(
     image: &[u8],
     rels: usize,
     clauses: usize,
+    ix: &[u16; program_index::SIZE],
     head: &mut [u8],
     procs: &mut [u8],
     vars: &mut [u8],
 ) -> Stepped
-    requires { ⌜ Inside small (now image) rels clauses (lent (now head) (now procs) (now vars)) ⌝ }
+    requires { ⌜ Inside small (now image) rels clauses (lent (now head) (now procs) (now vars)) × Indexed (now image) rels clauses (now ix) ⌝ }
     ensures { λ r. ⌜ TurnedIn small (now (image .entry)) rels clauses (lent (now (head .entry)) (now (procs .entry)) (now (vars .entry))) r (now (head .exit)) (now (procs .exit)) (now (vars .exit)) ⌝ }
 {
     let t = whose(head, procs, vars);
@@ -53,19 +55,20 @@ fn turn_in(
     let Found::At(p) = f else {
         return Stepped::Unmoved(entry::refusal(codes::STILL));
     };
-    step::stepped(image, rels, clauses, head, procs, vars, p, t.told)
+    step::stepped(image, rels, clauses, ix, head, procs, vars, p, t.told)
 }
 
 // The turn: the step of the first process that can move after the one stepped last.
 pub fn turn(image: &[u8], head: &mut [u8], procs: &mut [u8], vars: &mut [u8]) -> Stepped
     ensures { λ r. ⌜ TurnSays small (now (image .entry)) (lent (now (head .entry)) (now (procs .entry)) (now (vars .entry))) r (now (head .exit)) (now (procs .exit)) (now (vars .exit)) ⌝ }
 {
-    let e = entry::enter(image, head, procs, vars);
+    let mut ix = [0u16; program_index::SIZE];
+    let e = entry::enter(image, head, procs, vars, &mut ix);
     let Loaded::Accepted(rels, clauses) = e else {
         let r = load::refusal(e);
         return Stepped::Unmoved(r);
     };
-    turn_in(image, rels, clauses, head, procs, vars)
+    turn_in(image, rels, clauses, &ix, head, procs, vars)
 }
 
 // ---- a run
@@ -110,12 +113,13 @@ fn going(
     image: &[u8],
     rels: usize,
     clauses: usize,
+    ix: &[u16; program_index::SIZE],
     head: &mut [u8],
     procs: &mut [u8],
     vars: &mut [u8],
     limit: usize,
 ) -> Ran
-    requires { ⌜ Inside small (now image) rels clauses (lent (now head) (now procs) (now vars)) × (limit ≤ 65535) ⌝ }
+    requires { ⌜ Inside small (now image) rels clauses (lent (now head) (now procs) (now vars)) × (limit ≤ 65535) × Indexed (now image) rels clauses (now ix) ⌝ }
     ensures { λ r. ⌜ RanSays small (now (image .entry)) rels clauses (lent (now (head .entry)) (now (procs .entry)) (now (vars .entry))) limit r (lent (now (head .exit)) (now (procs .exit)) (now (vars .exit))) ⌝ }
 {
     let mut k = 0;
@@ -129,7 +133,7 @@ fn going(
         if k == limit {
             return Ran::Ended(End::Budget, k);
         }
-        let a = step::stepped(image, rels, clauses, head, procs, vars, p, w.told);
+        let a = step::stepped(image, rels, clauses, ix, head, procs, vars, p, w.told);
         let Stepped::Moved(_) = a else {
             return Ran::Ended(End::Room, k);
         };
@@ -142,10 +146,11 @@ fn going(
 pub fn run(image: &[u8], head: &mut [u8], procs: &mut [u8], vars: &mut [u8], limit: u16) -> Ran
     ensures { λ r. ⌜ RunSays small (now (image .entry)) (lent (now (head .entry)) (now (procs .entry)) (now (vars .entry))) limit r (now (head .exit)) (now (procs .exit)) (now (vars .exit)) ⌝ }
 {
-    let e = entry::enter(image, head, procs, vars);
+    let mut ix = [0u16; program_index::SIZE];
+    let e = entry::enter(image, head, procs, vars, &mut ix);
     let Loaded::Accepted(rels, clauses) = e else {
         let r = load::refusal(e);
         return Ran::Unrun(r);
     };
-    going(image, rels, clauses, head, procs, vars, limit as usize)
+    going(image, rels, clauses, &ix, head, procs, vars, limit as usize)
 }

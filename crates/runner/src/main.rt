@@ -46,7 +46,9 @@ fn play(
     requires { ⌜ (loadOf (now image) ≡ Accepted rels clauses) × (rels ≤ 32) × (clauses ≤ 64) × (length (now head) ≡ headSize) × (length (now procs) ≡ 12288) × (length (now vars) ≡ 4096) × (length (now out) ≡ 16384) ⌝ }
     ensures { λ r. ⌜ Fronted (now (out .entry)) 16384 12534 (runnerText small (now (image .entry))) (now (out .exit)) r ⌝ }
 {
-    let goal = program_clause::goal_vars(image, rels, clauses);
+    let mut ix = [0u16; program_index::SIZE];
+    index_fill::fill(image, rels, clauses, &mut ix);
+    let goal = program_clause::goal_vars(image, rels, clauses, &ix);
     let begun = machine::start(image, head, procs, vars);
     let ran = run::run(image, head, procs, vars, LIMIT);
     let Ran::Ended(end, steps) = ran else {

@@ -11,6 +11,7 @@ ghost use Rattle.entry.specs.Entered.{Inside};
 ghost use Rattle.parlog.specs.Limits.{small};
 ghost use Rattle.parlog.specs.Run.{counted};
 ghost use Rattle.parlog.specs.Tables.{at, lent, procCount, procsOf, rowSize};
+ghost use Rattle.program_index.specs.Indexed.{Indexed};
 ghost use Rattle.step.specs.Stepping.{StepSays, SteppedSays};
 
 // The limits of a run.
@@ -33,18 +34,19 @@ pub fn stepped(
     image: &[u8],
     rels: usize,
     clauses: usize,
+    ix: &[u16; program_index::SIZE],
     head: &mut [u8],
     procs: &mut [u8],
     vars: &mut [u8],
     p: usize,
     told: Told,
 ) -> Stepped
-    requires { ⌜ Inside small (now image) rels clauses (lent (now head) (now procs) (now vars)) × (p < procCount (now head)) × (at (procsOf (now procs) (procCount (now head))) p .mode ≡ 3 → Tells (procsOf (now procs) (procCount (now head))) p told) ⌝ }
+    requires { ⌜ Inside small (now image) rels clauses (lent (now head) (now procs) (now vars)) × (p < procCount (now head)) × (at (procsOf (now procs) (procCount (now head))) p .mode ≡ 3 → Tells (procsOf (now procs) (procCount (now head))) p told) × Indexed (now image) rels clauses (now ix) ⌝ }
     ensures { λ r. ⌜ SteppedSays small (now (image .entry)) rels clauses (lent (now (head .entry)) (now (procs .entry)) (now (vars .entry))) p r (now (head .exit)) (now (procs .exit)) (now (vars .exit)) ⌝ }
 {
     let n = head::proc_count(head);
     let m = head::var_count(head);
-    let plan = moves::rule_of(image, rels, clauses, procs, n, vars, m, p, told);
+    let plan = moves::rule_of(image, rels, clauses, ix, procs, n, vars, m, p, told);
     if !plan.acts {
         return Stepped::Unmoved(entry::refusal(codes::STILL));
     }
@@ -80,7 +82,8 @@ pub fn step(
 ) -> Stepped
     ensures { λ r. ⌜ StepSays small (now (image .entry)) (lent (now (head .entry)) (now (procs .entry)) (now (vars .entry))) process r (now (head .exit)) (now (procs .exit)) (now (vars .exit)) ⌝ }
 {
-    let e = entry::enter(image, head, procs, vars);
+    let mut ix = [0u16; program_index::SIZE];
+    let e = entry::enter(image, head, procs, vars, &mut ix);
     let Loaded::Accepted(rels, clauses) = e else {
         let r = load::refusal(e);
         return Stepped::Unmoved(r);
@@ -91,5 +94,5 @@ pub fn step(
         return Stepped::Unmoved(entry::refusal(codes::NODE));
     }
     let told = ask(procs, n, p);
-    stepped(image, rels, clauses, head, procs, vars, p, told)
+    stepped(image, rels, clauses, &ix, head, procs, vars, p, told)
 }

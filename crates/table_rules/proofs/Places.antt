@@ -7,17 +7,15 @@ use lib.Dec.{eqb, leb, ltb}
 use lib.ListN.{length}
 use borrow.Author.Tests.{eq-eqb, le-leb, le-ltb, lt-ltb, ltb-true, ne-eqb}
 use native.Mathlib.Omega.{arith}
-use Rattle.row_tests.proofs.Laws.{and-one}
 use Rattle.parlog.proofs.Bools.{split}
 use Rattle.parlog.specs.Codes.{kindOf, tagOf}
-use Rattle.parlog.specs.Program.{blockCount, clauseAt, goalAt, goalBy, Literal, literalAt, Program, programOf, stageAt, varsOf}
+use Rattle.parlog.specs.Program.{blockCount, clauseAt, goalAt, goalBy, literalAt, Program, programOf, stageAt, varsOf}
 use Rattle.parlog.specs.Scan.{implies}
 use Rattle.parlog.specs.TableRules.{blockIn, callIn, clauseIn, equalityIn, foundIn, goalIn, goalInBy, goingOk, isEquality, literalIn, placesOk, succeeds, tryIn}
 use Rattle.parlog.specs.declared.Process.{Process}
 use Rattle.parlog.specs.declared.Spot.{Spot}
 use Rattle.place.proofs.Clauses.{clause-count}
-use Rattle.program_goal.specs.Parts.{shown}
-use Rattle.program_goal.specs.declared.Lit.{Lit}
+use Rattle.row_tests.proofs.Laws.{and-one}
 use Rattle.table_rules.specs.Parts.{behindCall, behindGoal, behindLiteral}
 
 -- ---- clauses
@@ -76,14 +74,6 @@ module _ (pr : Program) (n : ℕ) (z : Spot) (rel : ℕ) (waits : Bool) (t : ℕ
   unfolding behindLiteral
   literal-call h o e = rw (le-ltb 7 t h, ne-eqb rel 255 o, e)
 
--- the relation of a literal handed on
-relation-is : (l : Literal) → shown l .rel ≡ l .rel
-unfolding shown
-relation-is l = refl
-
-relation-of : (pr : Program) (z : Spot) {l : Lit} → l ≡ shown (literalAt pr z) → l .rel ≡ literalAt pr z .rel
-relation-of pr z e = ap (λ (l : Lit). l .rel) e ∙ relation-is (literalAt pr z)
-
 module _ (pr : Program) (n : ℕ) (z : Spot) (waits : Bool) (t : ℕ) where
   pub goal-stage : t < 2 → {m : ℕ} {a b : Bool} → m ≡ length (goalBy (kindOf (z .kind)) pr (z .clause)) → a ≡ (eqb t 0 || waits) → b ≡ cond a (ltb (z .stage) m) (leb (z .stage) m) → b ≡ behindGoal t waits pr n z
   unfolding behindGoal goalAt
@@ -94,9 +84,9 @@ module _ (pr : Program) (n : ℕ) (z : Spot) (waits : Bool) (t : ℕ) where
     unfolding behindGoal
     goal-none l = rw (le-ltb t 2 h, ← em, le-ltb (z .literal) m l)
 
-    pub goal-literal : z .literal < m → {l : Lit} → l ≡ shown (literalAt pr z) → {b : Bool} → b ≡ behindLiteral t waits pr n z (l .rel) → b ≡ behindGoal t waits pr n z
+    pub goal-literal : z .literal < m → {rel : ℕ} → rel ≡ literalAt pr z .rel → {b : Bool} → b ≡ behindLiteral t waits pr n z rel → b ≡ behindGoal t waits pr n z
     unfolding behindGoal
-    goal-literal lt el e = rw (le-ltb t 2 h, ← em, lt-ltb (z .literal) m lt) (e ∙ ap (behindLiteral t waits pr n z) (relation-of pr z el))
+    goal-literal lt el e = rw (le-ltb t 2 h, ← em, lt-ltb (z .literal) m lt) (e ∙ ap (behindLiteral t waits pr n z) el)
 
 pub told-one : {told : Bool} → told ≡ true → {a b : Bool} → b ≡ a → b ≡ implies told a
 told-one h e = rw h e

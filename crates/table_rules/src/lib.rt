@@ -2,6 +2,7 @@
 use parlog::Process;
 use parlog::Spot;
 use parlog::codes;
+ghost use Rattle.program_index.specs.Indexed.{Indexed};
 ghost use mathlib.Core.Path.{_≡_};
 ghost use mathlib.Core.Bool.{_&&_};
 ghost use Prim.Native.Nat.{_+_, _*_, _≤_, _<_};
@@ -16,37 +17,60 @@ ghost use Rattle.table_rules.specs.Parts.{behindCall, behindGoal, behind
 // ---- places
 
 // Clause k is there, and its variables from v on are.
-fn clause_in(image: &[u8], rels: usize, clauses: usize, n: usize, k: u8, v: u16) -> bool
-    requires { ⌜ (rels ≤ 32) × (clauses ≤ 64) ⌝ }
+fn clause_in(
+    image: &[u8],
+    rels: usize,
+    clauses: usize,
+    ix: &[u16; program_index::SIZE],
+    n: usize,
+    k: u8,
+    v: u16,
+) -> bool
+    requires { ⌜ (rels ≤ 32) × (clauses ≤ 64) × Indexed (now image) rels clauses (now ix) ⌝ }
     ensures { λ b. ⌜ b ≡ clauseIn (programOf (now (image .entry)) rels clauses) n k v ⌝ }
 {
     let number = k as usize;
     if clauses <= number {
         return false;
     }
-    let size = program_clause::vars_of(image, rels, clauses, number);
+    let size = program_clause::vars_of(image, rels, clauses, ix, number);
     (v as usize) + size <= n
 }
 
 // The goal is there, and its variables are.
-fn goal_in(image: &[u8], rels: usize, clauses: usize, n: usize, z: Spot) -> bool
-    requires { ⌜ (rels ≤ 32) × (clauses ≤ 64) ⌝ }
+fn goal_in(
+    image: &[u8],
+    rels: usize,
+    clauses: usize,
+    ix: &[u16; program_index::SIZE],
+    n: usize,
+    z: Spot,
+) -> bool
+    requires { ⌜ (rels ≤ 32) × (clauses ≤ 64) × Indexed (now image) rels clauses (now ix) ⌝ }
     ensures { λ b. ⌜ b ≡ goalIn (programOf (now (image .entry)) rels clauses) n z ⌝ }
 {
     if z.kind == codes::THE_GOAL {
-        let size = program_clause::goal_vars(image, rels, clauses);
+        let size = program_clause::goal_vars(image, rels, clauses, ix);
         return basics::and(z.base == 0, size <= n);
     }
-    clause_in(image, rels, clauses, n, z.clause, z.base)
+    clause_in(image, rels, clauses, ix, n, z.clause, z.base)
 }
 
 // Where a search tells of a clause, that is there.
-fn told_ok(image: &[u8], rels: usize, clauses: usize, n: usize, told: bool, z: Spot) -> bool
-    requires { ⌜ (rels ≤ 32) × (clauses ≤ 64) ⌝ }
+fn told_ok(
+    image: &[u8],
+    rels: usize,
+    clauses: usize,
+    ix: &[u16; program_index::SIZE],
+    n: usize,
+    told: bool,
+    z: Spot,
+) -> bool
+    requires { ⌜ (rels ≤ 32) × (clauses ≤ 64) × Indexed (now image) rels clauses (now ix) ⌝ }
     ensures { λ b. ⌜ b ≡ implies told (foundIn (programOf (now (image .entry)) rels clauses) n z) ⌝ }
 {
     if told {
-        return clause_in(image, rels, clauses, n, z.found, z.first);
+        return clause_in(image, rels, clauses, ix, n, z.found, z.first);
     }
     true
 }
@@ -56,27 +80,28 @@ fn behind_call(
     image: &[u8],
     rels: usize,
     clauses: usize,
+    ix: &[u16; program_index::SIZE],
     n: usize,
     t: u8,
     waits: bool,
     z: Spot,
     rel: usize,
 ) -> bool
-    requires { ⌜ (rels ≤ 32) × (clauses ≤ 64) ⌝ }
+    requires { ⌜ (rels ≤ 32) × (clauses ≤ 64) × Indexed (now image) rels clauses (now ix) ⌝ }
     ensures { λ b. ⌜ b ≡ behindCall t waits (programOf (now (image .entry)) rels clauses) n z rel ⌝ }
 {
     if basics::or(
         t == codes::OR_SEARCH,
         basics::and(t == codes::SEQ_SEARCH, waits),
     ) {
-        let count = program_block::block_count(image, rels, clauses, rel);
+        let count = program_block::block_count(image, rels, clauses, ix, rel);
         return (z.block as usize) < count;
     }
     if t < codes::OR_SEARCH {
         return true;
     }
-    let found = clause_in(image, rels, clauses, n, z.found, z.first);
-    let own = program_clause::clause_relation(image, rels, clauses, z.found as usize);
+    let found = clause_in(image, rels, clauses, ix, n, z.found, z.first);
+    let own = program_clause::clause_relation(image, rels, clauses, ix, z.found as usize);
     basics::and(found, own == rel)
 }
 
@@ -85,13 +110,14 @@ fn behind_literal(
     image: &[u8],
     rels: usize,
     clauses: usize,
+    ix: &[u16; program_index::SIZE],
     n: usize,
     t: u8,
     waits: bool,
     z: Spot,
     rel: usize,
 ) -> bool
-    requires { ⌜ (rels ≤ 32) × (clauses ≤ 64) ⌝ }
+    requires { ⌜ (rels ≤ 32) × (clauses ≤ 64) × Indexed (now image) rels clauses (now ix) ⌝ }
     ensures { λ b. ⌜ b ≡ behindLiteral t waits (programOf (now (image .entry)) rels clauses) n z rel ⌝ }
 {
     if codes::GUARD_EVAL < t {
@@ -100,7 +126,7 @@ fn behind_literal(
     if rel == codes::EQUALITY {
         return false;
     }
-    behind_call(image, rels, clauses, n, t, waits, z, rel)
+    behind_call(image, rels, clauses, ix, n, t, waits, z, rel)
 }
 
 // What a tag asks besides a goal: a stage, or a literal.
@@ -108,16 +134,17 @@ fn behind_goal(
     image: &[u8],
     rels: usize,
     clauses: usize,
+    ix: &[u16; program_index::SIZE],
     n: usize,
     t: u8,
     waits: bool,
     z: Spot,
 ) -> bool
-    requires { ⌜ (rels ≤ 32) × (clauses ≤ 64) ⌝ }
+    requires { ⌜ (rels ≤ 32) × (clauses ≤ 64) × Indexed (now image) rels clauses (now ix) ⌝ }
     ensures { λ b. ⌜ b ≡ behindGoal t waits (programOf (now (image .entry)) rels clauses) n z ⌝ }
 {
     if t < codes::OR_PAR {
-        let stages = program_goal::goal_size(image, rels, clauses, z.kind, z.clause);
+        let stages = program_goal::goal_size(image, rels, clauses, ix, z.kind, z.clause);
         let stage = z.stage as usize;
         return basics::choose(
             basics::or(t == codes::AND_PAR, waits),
@@ -125,29 +152,36 @@ fn behind_goal(
             stage <= stages,
         );
     }
-    let size = program_goal::stage_size(image, rels, clauses, z);
+    let x = program_goal::called(image, rels, clauses, ix, z);
+    let size = x.size;
     if size <= (z.literal as usize) {
         return false;
     }
-    let l = program_goal::literal(image, rels, clauses, z);
-    behind_literal(image, rels, clauses, n, t, waits, z, l.rel)
+    behind_literal(image, rels, clauses, ix, n, t, waits, z, x.rel)
 }
 
 // What the rules of its tag read is there, and what they read besides in its mode.
-fn placed_ok(image: &[u8], rels: usize, clauses: usize, n: usize, x: Process) -> bool
-    requires { ⌜ (rels ≤ 32) × (clauses ≤ 64) ⌝ }
+fn placed_ok(
+    image: &[u8],
+    rels: usize,
+    clauses: usize,
+    ix: &[u16; program_index::SIZE],
+    n: usize,
+    x: Process,
+) -> bool
+    requires { ⌜ (rels ≤ 32) × (clauses ≤ 64) × Indexed (now image) rels clauses (now ix) ⌝ }
     ensures { λ b. ⌜ b ≡ (placesOk (tagOf (x .tag)) (programOf (now (image .entry)) rels clauses) n (x .spot) && goingOk (tagOf (x .tag)) (programOf (now (image .entry)) rels clauses) n x) ⌝ }
 {
     if x.tag == codes::GUARD_EVAL {
-        return clause_in(image, rels, clauses, n, x.spot.found, x.spot.first);
+        return clause_in(image, rels, clauses, ix, n, x.spot.found, x.spot.first);
     }
     let search = basics::or(x.tag == codes::SEQ_SEARCH, x.tag == codes::OR_SEARCH);
     let told = basics::and(
         search,
         basics::and(x.mode == codes::REPORTING, x.result == codes::SUCCESS),
     );
-    let goal = goal_in(image, rels, clauses, n, x.spot);
-    let found = told_ok(image, rels, clauses, n, told, x.spot);
+    let goal = goal_in(image, rels, clauses, ix, n, x.spot);
+    let found = told_ok(image, rels, clauses, ix, n, told, x.spot);
     let there = basics::and(goal, found);
     if !there {
         return false;
@@ -156,6 +190,7 @@ fn placed_ok(image: &[u8], rels: usize, clauses: usize, n: usize, x: Process) ->
         image,
         rels,
         clauses,
+        ix,
         n,
         x.tag,
         x.mode == codes::WAITING,
@@ -170,16 +205,17 @@ fn kin_ok(
     image: &[u8],
     rels: usize,
     clauses: usize,
+    ix: &[u16; program_index::SIZE],
     procs: &[u8],
     count: usize,
     i: usize,
     x: Process,
 ) -> bool
-    requires { ⌜ (rels ≤ 32) × (clauses ≤ 64) × (count * rowSize ≤ length (now procs)) ⌝ }
+    requires { ⌜ (rels ≤ 32) × (clauses ≤ 64) × (count * rowSize ≤ length (now procs)) × Indexed (now image) rels clauses (now ix) ⌝ }
     ensures { λ b. ⌜ b ≡ kinOk (programOf (now (image .entry)) rels clauses) (procsOf (now (procs .entry)) count) i x ⌝ }
 {
     if i == 0 {
-        let goal = program_goal::tag_of_goal(image, rels, clauses, codes::THE_GOAL, 0);
+        let goal = program_goal::tag_of_goal(image, rels, clauses, ix, codes::THE_GOAL, 0);
         return basics::and(
             x.tag == goal,
             basics::and(x.parent == 0, x.spot.kind == codes::THE_GOAL),
@@ -209,12 +245,13 @@ fn row_ok(
     image: &[u8],
     rels: usize,
     clauses: usize,
+    ix: &[u16; program_index::SIZE],
     procs: &[u8],
     count: usize,
     n: usize,
     i: usize,
 ) -> bool
-    requires { ⌜ (rels ≤ 32) × (clauses ≤ 64) × (count * rowSize ≤ length (now procs)) ⌝ }
+    requires { ⌜ (rels ≤ 32) × (clauses ≤ 64) × (count * rowSize ≤ length (now procs)) × Indexed (now image) rels clauses (now ix) ⌝ }
     ensures { λ b. ⌜ b ≡ rowOk (programOf (now (image .entry)) rels clauses) (procsOf (now (procs .entry)) count) n i ⌝ }
 {
     let x = rows::get(procs, count, i);
@@ -222,24 +259,32 @@ fn row_ok(
     if !own {
         return false;
     }
-    let kin = kin_ok(image, rels, clauses, procs, count, i, x);
+    let kin = kin_ok(image, rels, clauses, ix, procs, count, i, x);
     if !kin {
         return false;
     }
-    placed_ok(image, rels, clauses, n, x)
+    placed_ok(image, rels, clauses, ix, n, x)
 }
 
 // ---- the tables
 
 // Each of the first count rows.
-fn rows_ok(image: &[u8], rels: usize, clauses: usize, procs: &[u8], count: usize, n: usize) -> bool
-    requires { ⌜ (rels ≤ 32) × (clauses ≤ 64) × (count * rowSize ≤ length (now procs)) ⌝ }
+fn rows_ok(
+    image: &[u8],
+    rels: usize,
+    clauses: usize,
+    ix: &[u16; program_index::SIZE],
+    procs: &[u8],
+    count: usize,
+    n: usize,
+) -> bool
+    requires { ⌜ (rels ≤ 32) × (clauses ≤ 64) × (count * rowSize ≤ length (now procs)) × Indexed (now image) rels clauses (now ix) ⌝ }
     ensures { λ b. ⌜ b ≡ every (rowOk (programOf (now (image .entry)) rels clauses) (procsOf (now (procs .entry)) count) n) count ⌝ }
 {
     let mut q = count;
     while 0 < q {
         q -= 1;
-        let ok = row_ok(image, rels, clauses, procs, count, n, q);
+        let ok = row_ok(image, rels, clauses, ix, procs, count, n, q);
         if !ok {
             return false;
         }
@@ -290,13 +335,14 @@ pub fn lent_ok(
     image: &[u8],
     rels: usize,
     clauses: usize,
+    ix: &[u16; program_index::SIZE],
     head: &[u8],
     procs: &[u8],
     vars: &[u8],
     most: usize,
     cap: usize,
 ) -> bool
-    requires { ⌜ (rels ≤ 32) × (clauses ≤ 64) × (most ≤ 65535) × (cap ≤ 65535) ⌝ }
+    requires { ⌜ (rels ≤ 32) × (clauses ≤ 64) × (most ≤ 65535) × (cap ≤ 65535) × Indexed (now image) rels clauses (now ix) ⌝ }
     ensures { λ b. ⌜ b ≡ lentOk (record { procs = most; vars = cap }) (programOf (now (image .entry)) rels clauses) (lent (now (head .entry)) (now (procs .entry)) (now (vars .entry))) ⌝ }
 {
     let full = full_size(head, procs, vars, most, cap);
@@ -306,12 +352,12 @@ pub fn lent_ok(
     let count = head::proc_count(head);
     let n = head::var_count(head);
     let last = head::marker_last(head);
-    let goal = program_clause::goal_vars(image, rels, clauses);
+    let goal = program_clause::goal_vars(image, rels, clauses, ix);
     let counts = row_tests::counts_ok(count, n, last, goal, most, cap);
     if !counts {
         return false;
     }
     let cells = cells_ok(vars, n);
-    let rows = rows_ok(image, rels, clauses, procs, count, n);
+    let rows = rows_ok(image, rels, clauses, ix, procs, count, n);
     basics::and(cells, rows)
 }

@@ -10,6 +10,7 @@ ghost use Rattle.parlog.specs.Limits.{small};
 ghost use Rattle.parlog.specs.Program.{programOf};
 ghost use Rattle.parlog.specs.Tables.{cellSize, headSize, lent, varCount, varsIn, written};
 ghost use Rattle.parlog.specs.Orders.{KeepRules};
+ghost use Rattle.program_index.specs.Indexed.{Indexed};
 ghost use Rattle.values.specs.Values.{GatherSays, ValuesSays, valuesBytes};
 
 // The answer of a look at all goal variables: how many they are.
@@ -36,14 +37,15 @@ fn gather(
     image: &[u8],
     rels: usize,
     clauses: usize,
+    ix: &[u16; program_index::SIZE],
     head: &[u8],
     vars: &[u8],
     values: &mut [u8],
 ) -> Gathered
-    requires { ⌜ (rels ≤ 32) × (clauses ≤ 64) × (headSize ≤ length (now head)) × (varCount (now head) * cellSize ≤ length (now vars)) × (programOf (now image) rels clauses .goalVars ≤ varCount (now head)) × KeepRules (varsIn (now vars) (varCount (now head))) ⌝ }
+    requires { ⌜ (rels ≤ 32) × (clauses ≤ 64) × (headSize ≤ length (now head)) × (varCount (now head) * cellSize ≤ length (now vars)) × (programOf (now image) rels clauses .goalVars ≤ varCount (now head)) × KeepRules (varsIn (now vars) (varCount (now head))) × Indexed (now image) rels clauses (now ix) ⌝ }
     ensures { λ r. ⌜ GatherSays (programOf (now (image .entry)) rels clauses .goalVars) (varsIn (now (vars .entry)) (varCount (now (head .entry)))) (now (values .entry)) r (now (values .exit)) ⌝ }
 {
-    let goal = program_clause::goal_vars(image, rels, clauses);
+    let goal = program_clause::goal_vars(image, rels, clauses, ix);
     if values.len() < goal * codes::CELL_SIZE {
         return Gathered::Ungathered(entry::refusal(codes::ROOM));
     }
@@ -56,10 +58,11 @@ fn gather(
 pub fn values(image: &[u8], head: &[u8], procs: &[u8], vars: &[u8], values: &mut [u8]) -> Gathered
     ensures { λ r. ⌜ ValuesSays small (now (image .entry)) (lent (now (head .entry)) (now (procs .entry)) (now (vars .entry))) (now (values .entry)) r (now (values .exit)) ⌝ }
 {
-    let e = entry::enter(image, head, procs, vars);
+    let mut ix = [0u16; program_index::SIZE];
+    let e = entry::enter(image, head, procs, vars, &mut ix);
     let Loaded::Accepted(rels, clauses) = e else {
         let r = load::refusal(e);
         return Gathered::Ungathered(r);
     };
-    gather(image, rels, clauses, head, vars, values)
+    gather(image, rels, clauses, &ix, head, vars, values)
 }

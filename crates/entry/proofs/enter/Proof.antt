@@ -1,4 +1,5 @@
-use Rattle.entry.proofs.Entering.{enter-entered, enter-refused, enter-turned}
+use mathlib.Core.Path.{_∙_, sym}
+use Rattle.entry.proofs.Entering.{enter-entered, enter-refused, enter-turned, indexed-none}
 use borrow.Author.Tests.{not-false, not-true}
 use native.Mathlib.Omega.{arith}
 use Rattle.parlog.specs.Limits.{small}
@@ -14,8 +15,9 @@ enter-spec =
     (λ c κs. search needs)
     (λ c. search needs)
     (λ c. search needs)
-    (λ c. enter-refused _ _ _ (c .before .before .load .ensures .0) (c .enum-told .given .1))
-    (λ c κs. let h = rw (c .before .l .given .1) at (c .before .before .before .load .ensures .1) in (h .0, h .1, omega arith, omega arith))
+    (λ c. (enter-refused _ _ _ (c .before .before .load .ensures .0) (c .enum-told .given .1), indexed-none _ _ (c .enum-told .given .1)))
+    (λ c κs. (sym (c .before .before .before .before .load .ensures .0) ∙ c .before .before .l .given .1, c .before .before .before .before .before .before .before .before .before .pre))
+    (λ c κs. let h = rw (c .before .before .before .before .l .given .1) at (c .before .before .before .before .before .before .load .ensures .1) in (h .0, h .1, omega arith, omega arith, c .before .fill .ensures))
     (λ c κs. search needs)
-    (λ c. enter-turned _ _ _ (c .before .before .before .before .before .before .load .ensures .0) (c .before .before .before .before .l .given .1) (c .before .before .lent-ok .ensures) (not-true _ (c .before .if1 .taken)) (c .refusal .ensures))
-    (λ c. enter-entered _ _ _ (c .before .before .before .before .before .load .ensures .0) (c .before .before .before .l .given .1) (c .before .lent-ok .ensures) (not-false _ (c .if1 .left)) (c .before .before .before .before .before .load .ensures .1)))
+    (λ c. (enter-turned _ _ _ (c .before .before .before .before .before .before .before .before .before .load .ensures .0) (c .before .before .before .before .before .before .before .l .given .1) (c .before .before .lent-ok .ensures) (not-true _ (c .before .if1 .taken)) (c .refusal .ensures), tt))
+    (λ c. (enter-entered _ _ _ (c .before .before .before .before .before .before .before .before .load .ensures .0) (c .before .before .before .before .before .before .l .given .1) (c .before .lent-ok .ensures) (not-false _ (c .if1 .left)) (c .before .before .before .before .before .before .before .before .load .ensures .1), c .before .before .before .fill .ensures)))

@@ -11,7 +11,7 @@ wait-rule-spec =
     (λ c κs. search needs)
     (λ c κs. (c .before .before .before .pre .6) (c .match .keys2))
     (λ c κs. search needs)
-    (λ c κs. ((c .before .before .before .pre .0), (c .before .before .before .pre .1), (c .before .before .before .pre .2), (c .before .before .before .pre .3), (c .before .before .before .pre .4), (c .before .before .before .pre .7) (c .match .keys4), (c .before .before .before .pre .8)))
+    (λ c κs. ((c .before .before .before .pre .0), (c .before .before .before .pre .1), (c .before .before .before .pre .2), (c .before .before .before .pre .3), (c .before .before .before .pre .4), (c .before .before .before .pre .7) (c .match .keys4), (c .before .before .before .pre .8), (c .before .before .before .pre .9)))
     (λ c κs. search needs)
     (λ c κs. search needs)
     (λ c κs. search needs)

@@ -1,6 +1,8 @@
+use mathlib.Core.Path.{_∙_, ap, sym}
 use borrow.Author.Tests.{eq-eqb, ne-eqb}
 use borrow.Author.Needs.{needs}
 use native.Mathlib.Omega.{arith}
+use Rattle.parlog.specs.Image.{bodyAt}
 use Rattle.program_goal.proofs.part_place.Statement.{statement}
 use Rattle.program_goal.proofs.part_place.Tie as tie
 
@@ -13,6 +15,6 @@ part-place-spec =
     (λ c. search needs)
     (λ c. search needs)
     (λ c. search needs)
-    (λ c. (rw (eq-eqb _ _ (c .if1 .taken), c .before .byte-at .ensures .0), omega arith))
+    (λ c. (rw (eq-eqb _ _ (c .before .if1 .taken), c .byte-at .ensures .0), omega arith))
     (λ c κs. search needs)
-    (λ c. (rw (ne-eqb _ _ (c .before .if1 .left), ← (c .before .before .byte-at .ensures .0)) (c .goal-end .ensures .0), omega arith)))
+    (λ c. (rw (ne-eqb _ _ (c .before .if1 .left), c .before .before .before .pre .3) (c .body-at .ensures .0), omega arith)))

@@ -12,10 +12,10 @@ use Rattle.rules_and.proofs.members.Statement.{statement}
 use Rattle.rules_and.proofs.members.Tie as tie
 
 abbrev Inv-loop : tie.InvT-loop
-Inv-loop image rels clauses p z k new₀ j₀ new j = (j ≤ k) × (length new ≡ length new₀) × (procsOf new j ≡ build (member (programOf image rels clauses) p z) j)
+Inv-loop image rels clauses ix p z k new₀ j₀ new j = (j ≤ k) × (length new ≡ length new₀) × (procsOf new j ≡ build (member (programOf image rels clauses) p z) j)
 
 abbrev μ-loop : tie.MeasureT-loop
-μ-loop image rels clauses p z k new₀ j₀ new j = k - j
+μ-loop image rels clauses ix p z k new₀ j₀ new j = k - j
 
 pub members-spec : {M : Type 1} → statement M
 members-spec =

@@ -6,7 +6,7 @@ use Rattle.rules_or.proofs.start_or_search.Tie as tie
 
 try-all-requires : tie.Need-try-all-requires
 try-all-requires c κs = let a = (c .before .before .before .before .args) in let e = block-size-is (programOf (a .image .now) (a .rels) (a .clauses)) (a .x .spot) (c .before .before .called .ensures .0) (c .before .block-size .ensures .0) in
-    (search needs, search needs, search needs, (c .before .block-size .ensures .0), search needs, search needs)
+    (search needs, search needs, search needs, (c .before .block-size .ensures .0), search needs, search needs, search needs)
 
 returns : tie.Need-returns
 returns c = let a = (c .before .before .before .before .before .before .before .before .before .args) in let pr = programOf (a .image .now) (a .rels) (a .clauses) in

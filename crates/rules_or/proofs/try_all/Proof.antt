@@ -12,12 +12,12 @@ use Rattle.rules_or.proofs.try_all.Statement.{statement}
 use Rattle.rules_or.proofs.try_all.Tie as tie
 
 abbrev Inv-loop : tie.InvT-loop
-Inv-loop image rels clauses rows₀ m p z rel b size v₀ j₀ rows v j = (j ≤ size) × (v ≤ m + 510 * j) × (length rows ≡ length rows₀)
+Inv-loop image rels clauses ix rows₀ m p z rel b size v₀ j₀ rows v j = (j ≤ size) × (v ≤ m + 510 * j) × (length rows ≡ length rows₀)
     × (procsOf rows j ++ tries (programOf image rels clauses) p z v (drop j (blockOf (programOf image rels clauses) rel b)) ≡ tries (programOf image rels clauses) p z m (blockOf (programOf image rels clauses) rel b))
     × (v + triesVars (programOf image rels clauses) (drop j (blockOf (programOf image rels clauses) rel b)) ≡ m + triesVars (programOf image rels clauses) (blockOf (programOf image rels clauses) rel b))
 
 abbrev μ-loop : tie.MeasureT-loop
-μ-loop image rels clauses rows₀ m p z rel b size v₀ j₀ rows v j = size - j
+μ-loop image rels clauses ix rows₀ m p z rel b size v₀ j₀ rows v j = size - j
 
 loop-holds : tie.Need-loop-holds Inv-loop μ-loop
 loop-holds c = let a = (c .before .before .args) in let pr = programOf (a .image .now) (a .rels) (a .clauses) in

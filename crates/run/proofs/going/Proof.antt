@@ -10,10 +10,10 @@ use Rattle.run.proofs.going.Statement.{statement}
 use Rattle.run.proofs.going.Tie as tie
 
 abbrev Inv-loop : tie.InvT-loop
-Inv-loop image rels clauses head₀ procs₀ vars₀ limit k₀ head procs vars k = Going small image rels clauses (lent head₀ procs₀ vars₀) (lent head procs vars) limit k
+Inv-loop image rels clauses ix head₀ procs₀ vars₀ limit k₀ head procs vars k = Going small image rels clauses (lent head₀ procs₀ vars₀) (lent head procs vars) limit k
 
 abbrev μ-loop : tie.MeasureT-loop
-μ-loop image rels clauses head₀ procs₀ vars₀ limit k₀ head procs vars k = limit + 1 - k
+μ-loop image rels clauses ix head₀ procs₀ vars₀ limit k₀ head procs vars k = limit + 1 - k
 
 pub going-spec : {M : Type 1} → statement M
 going-spec =
@@ -39,7 +39,7 @@ going-spec =
     (λ c κs. let c1 = c .before .before .before .before .before in
     let c2 = c1 .before .before in
     let c3 = c2 .before .before .before .before .before in
-    ((c3 .loop .inv .inside), look-below _ (c2 .look .ensures) (c1 .f .given .1), λ w. (c2 .look .ensures .told) _ (c1 .f .given .1)))
+    ((c3 .loop .inv .inside), look-below _ (c2 .look .ensures) (c1 .f .given .1), (λ w. (c2 .look .ensures .told) _ (c1 .f .given .1)), c3 .before .before .before .before .before .pre .2))
     (λ c. search needs)
     (λ c. search needs)
     (λ c. omega (arith, (c .before .before .before .before .before .before .before .head .given), (c .before .before .before .before .before .before .before .before .before .before .before .before .before .before .before .before .before .before .before .before .before .loop .inv .inside .head), (c .before .before .before .before .before .before .before .before .before .before .before .before .before .before .before .before .before .before .before .before .before .before .before .before .before .before .pre .0 .head)))

@@ -1,5 +1,5 @@
 use Rattle.run.proofs.Turning.{turn-refused, turn-turned}
-use Rattle.entry.proofs.Entering.{inside-of}
+use Rattle.entry.proofs.Entering.{indexed-of, inside-of}
 use borrow.Author.Needs.{needs}
 use Rattle.run.proofs.turn.Statement.{statement}
 use Rattle.run.proofs.turn.Tie as tie
@@ -15,12 +15,12 @@ turn-spec =
     (λ c. search needs)
     (λ c. search needs)
     (λ c. search needs)
-    (λ c. turn-refused _ _ _ (c .before .before .before .enter .ensures) (c .before .enum-told .given .1) (c .refusal .ensures))
-    (λ c κs. inside-of _ _ _ (c .before .before .before .before .before .before .enter .ensures) (c .before .before .before .before .e .given .1))
+    (λ c. turn-refused _ _ _ (c .before .before .before .enter .ensures .0) (c .before .enum-told .given .1) (c .refusal .ensures))
+    (λ c κs. (inside-of _ _ _ (c .before .before .before .before .before .before .before .enter .ensures .0) (c .before .before .before .before .before .e .given .1), indexed-of _ _ (c .before .before .before .before .before .before .before .enter .ensures .1) (c .before .before .before .before .before .e .given .1)))
     (λ c. search needs)
     (λ c. search needs)
     (λ c. search needs)
     (λ c. let c1 = c .before .before .before .before .before .before in
-    let c2 = c1 .before .before .before .before .before in
+    let c2 = c1 .before .before .before .before .before .before in
     let c3 = c2 .before .before in
-    turn-turned _ _ _ (c3 .enter .ensures) (c2 .e .given .1) (c1 .turn-in .ensures)))
+    turn-turned _ _ _ (c3 .enter .ensures .0) (c2 .e .given .1) (c1 .turn-in .ensures)))

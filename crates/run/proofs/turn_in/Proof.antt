@@ -7,7 +7,7 @@ pub turn-in-spec : {M : Type 1} → statement M
 turn-in-spec =
     tie.close
     (tie.spec
-    (λ c κs. turning _ _ _ _ _ (c .before .before .before .before .before .before .before .pre))
+    (λ c κs. turning _ _ _ _ _ (c .before .before .before .before .before .before .before .pre .0))
     (λ c. search needs)
     (λ c. search needs)
     (λ c κs. search needs)
@@ -18,7 +18,7 @@ turn-in-spec =
     (λ c κs. let c1 = c .before .before .before .before in
     let c2 = c1 .before .before in
     let c3 = c2 .before .before .before .before .before .before .before .before in
-    ((c3 .pre), turn-below _ (c2 .whose .ensures .who) (c1 .f .given .1), λ w. (c2 .whose .ensures .told) _ (c1 .f .given .1)))
+    ((c3 .pre .0), turn-below _ (c2 .whose .ensures .who) (c1 .f .given .1), (λ w. (c2 .whose .ensures .told) _ (c1 .f .given .1)), c3 .pre .1))
     (λ c. search needs)
     (λ c. search needs)
     (λ c. search needs)

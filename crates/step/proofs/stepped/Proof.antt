@@ -18,7 +18,8 @@ stepped-spec =
     (λ c κs. search needs)
     (λ c κs. let c1 = c .before .before .before .before in
     let c2 = c1 .before .before .before .before .before .before in
-    rule-asks _ _ _ _ _ (c2 .pre .0) small-usable small-few _ (c2 .pre .1) (c1 .proc-count .ensures .0) (c1 .proc-count .ensures .1) (c .before .before .var-count .ensures .0) (c2 .pre .2))
+    let q = rule-asks _ _ _ _ _ (c2 .pre .0) small-usable small-few _ (c2 .pre .1) (c1 .proc-count .ensures .0) (c1 .proc-count .ensures .1) (c .before .before .var-count .ensures .0) (c2 .pre .2) in
+    (q .0, q .1, q .2, q .3, q .4, q .5, q .6, q .7, q .8, c2 .pre .3))
     (λ c κs. search needs)
     (λ c. search needs)
     (λ c. search needs)

@@ -17,10 +17,9 @@ behind-goal-spec =
     let s = c2 in goal-stage (programOf (s .args .image .now) (s .args .rels) (s .args .clauses)) (s .args .n) (s .args .z) (s .args .waits) (s .args .t) (c1 .if1 .taken) (c .before .before .before .goal-size .ensures .0) (c .before .or .ensures) (c .choose .ensures))
     (λ c κs. search needs)
     (λ c. search needs)
-    (λ c. let s = c .before .before .before .before .before in goal-none (programOf (s .args .image .now) (s .args .rels) (s .args .clauses)) (s .args .n) (s .args .z) (s .args .waits) (s .args .t) (c .before .before .before .if1 .left) (c .before .before .stage-size .ensures .0) (c .if2 .taken))
+    (λ c. let s = c .before .before .before .before .before in goal-none (programOf (s .args .image .now) (s .args .rels) (s .args .clauses)) (s .args .n) (s .args .z) (s .args .waits) (s .args .t) (c .before .before .before .if1 .left) (c .before .before .called .ensures .0) (c .if2 .taken))
     (λ c κs. search needs)
-    (λ c κs. search needs)
-    (λ c. let c1 = c .before .before .before .before in
+    (λ c. let c1 = c .before .before .before in
     let c2 = c1 .before in
     let c3 = c2 .before .before in
-    let s = c3 in goal-literal (programOf (s .args .image .now) (s .args .rels) (s .args .clauses)) (s .args .n) (s .args .z) (s .args .waits) (s .args .t) (c2 .if1 .left) (c1 .stage-size .ensures .0) (c .before .before .if2 .left) (c .before .literal .ensures .0) (c .behind-literal .ensures)))
+    let s = c3 in goal-literal (programOf (s .args .image .now) (s .args .rels) (s .args .clauses)) (s .args .n) (s .args .z) (s .args .waits) (s .args .t) (c2 .if1 .left) (c1 .called .ensures .0) (c .before .if2 .left) (c1 .called .ensures .1) (c .behind-literal .ensures)))

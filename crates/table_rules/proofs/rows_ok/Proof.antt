@@ -12,10 +12,10 @@ use Rattle.table_rules.proofs.rows_ok.Statement.{statement}
 use Rattle.table_rules.proofs.rows_ok.Tie as tie
 
 abbrev Inv-loop : tie.InvT-loop
-Inv-loop image rels clauses procs count n q₀ q = (q ≤ count) × (every (rowOk (programOf image rels clauses) (procsOf procs count) n) count ≡ every (rowOk (programOf image rels clauses) (procsOf procs count) n) q)
+Inv-loop image rels clauses ix procs count n q₀ q = (q ≤ count) × (every (rowOk (programOf image rels clauses) (procsOf procs count) n) count ≡ every (rowOk (programOf image rels clauses) (procsOf procs count) n) q)
 
 abbrev μ-loop : tie.MeasureT-loop
-μ-loop image rels clauses procs count n q₀ q = q
+μ-loop image rels clauses ix procs count n q₀ q = q
 
 pub rows-ok-spec : {M : Type 1} → statement M
 rows-ok-spec =

@@ -1,0 +1,2 @@
+-- What the filling of the index starts from and leaves.
+pub mod Filling

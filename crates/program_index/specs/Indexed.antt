@@ -1,0 +1,32 @@
+-- The index of an image: what stands where in a row of words.
+use mathlib.Core.Path.{_≡_}
+use mathlib.Core.Bool.{false}
+use mathlib.Core.List.{List}
+use Prim.Native.Nat.{_+_, _<_, _≤_, ℕ}
+use lib.Dec.{eqb}
+use lib.ListN.{getD}
+use Rattle.parlog.specs.Image.{bodyAt, recordAt}
+use Rattle.parlog.specs.Program.{blockCount, clauseAt, Program, programOf, varsOf}
+
+-- no clause before clause n is of relation q
+abbrev pub Early : Program → ℕ → ℕ → Type 0
+Early pr q n = (k : ℕ) → k < n → eqb (clauseAt pr k .rel) q ≡ false
+
+-- none of c clauses from clause n on is
+abbrev pub Behind : Program → ℕ → ℕ → ℕ → Type 0
+Behind pr q c n = (k : ℕ) → n ≤ k → k < c → eqb (clauseAt pr k .rel) q ≡ false
+
+-- a place for each record; of each clause its new variables and the place of its body; of each relation its blocks and the range of its clauses
+pub record Indexed (s : List ℕ) (r c : ℕ) (ix : List ℕ) : Type 0 where
+  pub place : (k : ℕ) → k ≤ r + c → getD ix k 0 ≡ recordAt s k
+  pub place-few : (k : ℕ) → k ≤ r + c → getD ix k 0 ≤ 65535
+  pub vars : (k : ℕ) → k < c → getD ix (97 + k) 0 ≡ varsOf (programOf s r c) k
+  pub vars-few : (k : ℕ) → k < c → getD ix (97 + k) 0 ≤ 510
+  pub body : (k : ℕ) → k < c → getD ix (161 + k) 0 ≡ bodyAt s (recordAt s (r + k))
+  pub body-few : (k : ℕ) → k < c → getD ix (161 + k) 0 ≤ 65535
+  pub blocks : (q : ℕ) → q < r → getD ix (225 + q) 0 ≡ blockCount (programOf s r c) q
+  pub blocks-few : (q : ℕ) → q < r → getD ix (225 + q) 0 ≤ 64
+  pub first : (q : ℕ) → q < r → Early (programOf s r c) q (getD ix (257 + q) 0)
+  pub first-few : (q : ℕ) → q < r → getD ix (257 + q) 0 ≤ c
+  pub behind : (q : ℕ) → q < r → Behind (programOf s r c) q c (getD ix (289 + q) 0)
+  pub behind-few : (q : ℕ) → q < r → getD ix (289 + q) 0 ≤ c

@@ -1,0 +1,2 @@
+-- What the index of an image holds.
+pub mod Indexed
