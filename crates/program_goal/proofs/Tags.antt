@@ -9,15 +9,16 @@ use native.Mathlib.Omega.{arith}
 use Rattle.parlog.specs.Codes.{equate, or-par, tagCode}
 use Rattle.parlog.specs.Image.{equality}
 use Rattle.parlog.specs.Program.{Goal, Literal, noLiteral, tagOfGoal, tagOfLiteral, tagOfStage}
-use Rattle.program_goal.specs.Parts.{relationTag}
+use Rattle.program_goal.specs.Parts.{relationTag, shown}
+use Rattle.program_goal.specs.declared.Lit.{Lit}
 
 tag-by : (b : Bool) → cond b (tagCode equate) (tagCode or-par) ≡ tagCode (cond b equate or-par)
 tag-by true = refl
 tag-by false = refl
 
-pub tag-relation : (l : Literal) {x t : ℕ} → x ≡ l .rel → t ≡ relationTag x → t ≡ tagCode (tagOfLiteral l)
-unfolding relationTag tagOfLiteral
-tag-relation l e et = et ∙ ap relationTag e ∙ tag-by (eqb (l .rel) equality)
+pub tag-literal : (l : Literal) {x : Lit} {t : ℕ} → x ≡ shown l → t ≡ relationTag (x .rel) → t ≡ tagCode (tagOfLiteral l)
+unfolding shown relationTag tagOfLiteral
+tag-literal l e et = et ∙ ap (λ (x : Lit). relationTag (x .rel)) e ∙ tag-by (eqb (l .rel) equality)
 
 pub stage-many : (st : List Literal) {n : ℕ} → n ≡ length st → (n ≡ 1 → ⊥) → 0 ≡ tagCode (tagOfStage st)
 unfolding tagOfStage

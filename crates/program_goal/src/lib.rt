@@ -339,12 +339,12 @@ fn stage_tag(
     requires { ⌜ (rels ≤ 32) × (clauses ≤ 64) × Near h × Indexed (now s) rels clauses (now ix) ⌝ }
     ensures { λ r. ⌜ (r ≡ tagCode (tagOfStage (getD (goalIn (now (s .entry)) rels h) i []))) × (r ≤ 8) ⌝ }
 {
-    let x = called_at(s, rels, clauses, ix, h, i, 0);
-    let size = x.size;
-    if size != 1 {
+    let n = stage_size_at(s, rels, clauses, ix, h, i);
+    if n != 1 {
         return codes::AND_PAR;
     }
-    let rel = x.rel;
+    let l = literal_at(s, rels, clauses, ix, h, i, 0);
+    let rel = l.rel;
     relation_tag(rel)
 }
 
@@ -403,7 +403,7 @@ pub fn stage_size(
     stage_size_at(s, rels, clauses, ix, h, z.stage as usize)
 }
 
-// That number, and the relation of the literal.
+// That number, and the relation of the literal. The table rules alone ask this, of every row: with one caller it is compiled into their loop.
 pub fn called(
     s: &[u8],
     rels: usize,
@@ -469,7 +469,7 @@ pub fn tag_of_literal(
     requires { ⌜ (rels ≤ 32) × (clauses ≤ 64) × Indexed (now s) rels clauses (now ix) ⌝ }
     ensures { λ r. ⌜ (r ≡ tagCode (tagOfLiteral (literalAt (programOf (now (s .entry)) rels clauses) z))) × (r ≤ 8) ⌝ }
 {
-    let x = called(s, rels, clauses, ix, z);
-    let rel = x.rel;
+    let l = literal(s, rels, clauses, ix, z);
+    let rel = l.rel;
     relation_tag(rel)
 }

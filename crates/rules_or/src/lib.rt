@@ -37,8 +37,8 @@ fn called(
     requires { ⌜ (rels ≤ 32) × (clauses ≤ 64) × Indexed (now image) rels clauses (now ix) ⌝ }
     ensures { λ r. ⌜ (r ≡ literalAt (programOf (now (image .entry)) rels clauses) z .rel) × (r ≤ 255) ⌝ }
 {
-    let x = program_goal::called(image, rels, clauses, ix, z);
-    x.rel
+    let l = program_goal::literal(image, rels, clauses, ix, z);
+    l.rel
 }
 
 // Reports success with the clause that child c names.

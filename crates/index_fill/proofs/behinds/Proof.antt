@@ -4,7 +4,7 @@ use Rattle.index_fill.proofs.Relations.{behind-other, behind-own, behin
 use Rattle.index_fill.specs.Filling.{Kept}
 use Rattle.parlog.specs.Program.{programOf}
 use borrow.Author.Needs.{needs}
-use lib.ListN.{getD, length}
+use lib.ListN.{getD}
 use mathlib.Core.Path.{_≡_}
 use native.Mathlib.Omega.{arith}
 use Rattle.index_fill.proofs.behinds.Statement.{statement}

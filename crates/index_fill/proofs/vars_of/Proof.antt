@@ -1,10 +1,9 @@
-use Prim.Native.Nat.{_+_, _<_, ℕ}
+use Prim.Native.Nat.{_+_}
 use Rattle.index_fill.proofs.Columns.{named-at}
-use Rattle.parlog.specs.Records.{byteAt}
 use Rattle.program_clause.proofs.Fields.{all-vars}
 use Rattle.program_clause.proofs.Modes.{modes-some}
 use borrow.Author.Needs.{needs}
-use mathlib.Core.Path.{_∙_, ap, sym}
+use mathlib.Core.Path.{_∙_}
 use native.Mathlib.Omega.{arith}
 use Rattle.index_fill.proofs.vars_of.Statement.{statement}
 use Rattle.index_fill.proofs.vars_of.Tie as tie

@@ -1,7 +1,6 @@
 use mathlib.Core.Path.{_∙_, ap}
 use lib.ListN.{length}
 use borrow.Author.Needs.{needs}
-use Rattle.parlog.specs.Program.{Literal}
 use Rattle.program_goal.proofs.Goals.{spot-relation, spot-stage}
 use Rattle.program_goal.proofs.called.Statement.{statement}
 use Rattle.program_goal.proofs.called.Tie as tie

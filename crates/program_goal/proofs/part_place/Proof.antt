@@ -1,8 +1,6 @@
-use mathlib.Core.Path.{_∙_, ap, sym}
 use borrow.Author.Tests.{eq-eqb, ne-eqb}
 use borrow.Author.Needs.{needs}
 use native.Mathlib.Omega.{arith}
-use Rattle.parlog.specs.Image.{bodyAt}
 use Rattle.program_goal.proofs.part_place.Statement.{statement}
 use Rattle.program_goal.proofs.part_place.Tie as tie
 

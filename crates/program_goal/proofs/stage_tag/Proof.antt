@@ -1,6 +1,6 @@
 use borrow.Author.Needs.{needs}
 use native.Mathlib.Omega.{arith}
-use Rattle.program_goal.proofs.Tags.{stage-many, stage-one, tag-relation}
+use Rattle.program_goal.proofs.Tags.{stage-many, stage-one, tag-literal}
 use Rattle.program_goal.proofs.stage_tag.Statement.{statement}
 use Rattle.program_goal.proofs.stage_tag.Tie as tie
 
@@ -9,6 +9,7 @@ stage-tag-spec =
     tie.close
     (tie.spec
     (λ c κs. search needs)
-    (λ c. (stage-many _ (c .before .called-at .ensures .0) (c .if1 .taken), omega arith))
+    (λ c. (stage-many _ (c .before .stage-size-at .ensures .0) (c .if1 .taken), omega arith))
+    (λ c κs. search needs)
     (λ c κs. tt)
-    (λ c. (stage-one _ (c .before .before .called-at .ensures .0) (omega arith) (tag-relation _ (c .before .before .called-at .ensures .1) (c .relation-tag .ensures .0)), omega arith)))
+    (λ c. (stage-one _ (c .before .before .before .stage-size-at .ensures .0) (omega arith) (tag-literal _ (c .before .literal-at .ensures .0) (c .relation-tag .ensures .0)), omega arith)))

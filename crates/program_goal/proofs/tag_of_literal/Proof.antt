@@ -1,6 +1,6 @@
 use borrow.Author.Needs.{needs}
 use native.Mathlib.Omega.{arith}
-use Rattle.program_goal.proofs.Tags.{tag-relation}
+use Rattle.program_goal.proofs.Tags.{tag-literal}
 use Rattle.program_goal.proofs.tag_of_literal.Statement.{statement}
 use Rattle.program_goal.proofs.tag_of_literal.Tie as tie
 
@@ -10,4 +10,4 @@ tag-of-literal-spec =
     (tie.spec
     (λ c κs. search needs)
     (λ c κs. tt)
-    (λ c. (tag-relation _ (c .before .called .ensures .1) (c .relation-tag .ensures .0), omega arith)))
+    (λ c. (tag-literal _ (c .before .literal .ensures .0) (c .relation-tag .ensures .0), omega arith)))

@@ -26,7 +26,7 @@ play-spec =
     let c3 = c2 .before .before .before .before in
     let c4 = c3 .before .before .before .before .before .before .before .before .before in
     absurd (never-unrun (plays _ small-usable _ _ _ _ _ (c4 .pre .0) (c3 .goal-vars .ensures .0) (c3 .goal-vars .ensures .1) (c4 .pre .3) (c4 .pre .4) (c4 .pre .5) (c2 .start .ensures) (c1 .run .ensures)) (c .enum-told .given .1)))
-    (λ c κs. search needs)
+    (λ c κs. omega (arith, c .before .before .before .before .before .before .before .before .before .head2 .given, c .before .before .before .before .before .before .before .before .before .before .before .before .before .before .before .before .before .before .before .head .given, c .before .before .before .before .before .before .before .before .before .before .before .before .before .before .before .before .before .before .before .before .before .before .before .before .before .before .before .before .before .before .before .before .before .pre .3))
     (λ c κs. let c1 = c .before .before .before .before .before .before .before .before .before .before .before .before .before in
     let c2 = c1 .before .before .before .before .before .before .before .before .before .before in
     let c3 = c2 .before .before .before .before in
