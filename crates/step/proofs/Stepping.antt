@@ -30,7 +30,7 @@ use Rattle.rows.specs.Rows.{Bytes, Table}
 use Rattle.step.proofs.Deciding.{parents-fall, room-for, rule-made, step-full, step-made, step-still}
 use Rattle.step.proofs.Making.{made-head, made-inside, made-procs, made-tables, made-vars, procs-after, vars-after}
 use Rattle.step.specs.Stepping.{CarriedOut, Carries, PlannedSays, stepIn, stepOf, SteppedSays, StepSays}
-use Rattle.step.specs.declared.Verdict.{Verdict}
+use Rattle.step.specs.declared.Planning.{Planning}
 use Rattle.tree.specs.Family.{mostRows}
 use Rattle.vars.specs.Cells.{Cells}
 
@@ -68,11 +68,11 @@ module _ (lim : Limits) (s : List ℕ) (r c : ℕ) (l : Lent) (i : Inside lim s 
 
 -- ---- the step
 
-step-unmade : (k : ℕ) (pl : Plan) (t : Tables) (p : ℕ) → (k ≡ 0 → ⊥) → stepOf k pl t p ≡ unmade k
+pub step-unmade : (k : ℕ) (pl : Plan) (t : Tables) (p : ℕ) → (k ≡ 0 → ⊥) → stepOf k pl t p ≡ unmade k
 step-unmade zero pl t p h = absurd (h refl)
 step-unmade (suc k) pl t p h = refl
 
-module _ (lim : Limits) (s : List ℕ) (r c : ℕ) (l : Lent) (i : Inside lim s r c l) (p : ℕ) {d : Verdict} (says : PlannedSays lim s r c l p d) where
+module _ (lim : Limits) (s : List ℕ) (r c : ℕ) (l : Lent) (i : Inside lim s r c l) (p : ℕ) {d : Planning} (says : PlannedSays lim s r c l p d) where
   pub stepped-refused : (d .number ≡ 0 → ⊥) → {f : Refusal} → f ≡ refusal (d .number) 0 → SteppedSays lim s r c l p (Unmoved f) (l .head) (l .procs) (l .vars)
   stepped-refused h ef =
       let e = says .step ∙ step-unmade (d .number) (d .plan) (tablesIn l) p h in

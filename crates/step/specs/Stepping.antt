@@ -15,7 +15,7 @@ use Rattle.parlog.specs.Run.{counted, made, stepped, Stepping, stepTables, unma
 use Rattle.parlog.specs.Tables.{cellSize, headBytes, headSize, Lent, lent, markerSteps, procCount, procsOf, rowSize, Tables, tablesIn, varCount}
 use Rattle.parlog.specs.declared.Stepped.{Stepped}
 use Rattle.rows.specs.Rows.{Bytes, Table}
-use Rattle.step.specs.declared.Verdict.{Verdict}
+use Rattle.step.specs.declared.Planning.{Planning}
 use Rattle.tree.specs.Family.{Falls, mostRows}
 use Rattle.vars.specs.Cells.{Cells}
 
@@ -48,7 +48,7 @@ pub record Carries (lim : Limits) (l : Lent) (p : ℕ) (pl : Plan) : Type 0 wher
   pub within : Within (varCount (l .head)) (pl .changes .count) (pl .changes .list)
 
 -- Refusals 10, 11: what is decided before a step is made: what refuses it; where nothing does, the rule that applies and a plan that can be written
-pub record PlannedSays (lim : Limits) (s : List ℕ) (r c : ℕ) (l : Lent) (p : ℕ) (d : Verdict) : Type 0 where
+pub record PlannedSays (lim : Limits) (s : List ℕ) (r c : ℕ) (l : Lent) (p : ℕ) (d : Planning) : Type 0 where
   pub step : stepIn lim s r c l p ≡ stepOf (d .number) (d .plan) (tablesIn l) p
   pub rule : d .number ≡ 0 → ruleOf (programOf s r c) (tablesIn l .state) p ≡ by-rule (d .plan .mv) (deltaOf (d .plan))
   pub carries : d .number ≡ 0 → Carries lim l p (d .plan)

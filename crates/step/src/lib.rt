@@ -30,7 +30,7 @@ fn count(steps: u32) -> u32
 }
 
 // What a step was decided to be: what refuses it, 0 where nothing does, and its plan.
-pub struct Verdict {
+pub struct Planning {
     pub number: u8,
     pub plan: Plan,
 }
@@ -45,7 +45,7 @@ pub fn planned(
     vars: &[u8],
     p: usize,
     told: Told,
-) -> Verdict
+) -> Planning
     requires { ⌜ Inside small (now image) rels clauses (lent (now head) (now procs) (now vars)) × (p < procCount (now head)) × (at (procsOf (now procs) (procCount (now head))) p .mode ≡ 3 → Tells (procsOf (now procs) (procCount (now head))) p told) ⌝ }
     ensures { λ r. ⌜ PlannedSays small (now (image .entry)) rels clauses (lent (now (head .entry)) (now (procs .entry)) (now (vars .entry))) p r ⌝ }
 {
@@ -53,18 +53,18 @@ pub fn planned(
     let m = head::var_count(head);
     let plan = moves::rule_of(image, rels, clauses, procs, n, vars, m, p, told);
     if !plan.acts {
-        return Verdict {
+        return Planning {
             number: codes::STILL,
             plan,
         };
     }
     if !move_plan::fits(PROCS, VARS, n, m, plan) {
-        return Verdict {
+        return Planning {
             number: codes::ROOM,
             plan,
         };
     }
-    Verdict { number: 0, plan }
+    Planning { number: 0, plan }
 }
 
 // The step of process p by its plan, which nothing refuses: it writes the tables.
@@ -105,7 +105,7 @@ pub fn stepped(
 }
 
 // What process p is told of its children; only one that waits asks.
-fn ask(procs: &[u8], n: usize, p: usize) -> Told
+pub fn ask(procs: &[u8], n: usize, p: usize) -> Told
     requires { ⌜ (n * rowSize ≤ length (now procs)) × (n ≤ 65535) ⌝ }
     ensures { λ t. ⌜ (at (procsOf (now (procs .entry)) n) p .mode ≡ 3 → Tells (procsOf (now (procs .entry)) n) p t) ⌝ }
 {

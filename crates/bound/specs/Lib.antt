@@ -1,0 +1,3 @@
+-- What step, turn and supply tell of the variables bound.
+pub mod Calls
+pub mod Newly
