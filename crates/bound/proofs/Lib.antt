@@ -2,5 +2,3 @@
 pub mod Rows
 pub mod Telling
 pub mod Once
-pub mod Apart
-pub mod Newly

@@ -7,8 +7,10 @@ use lib.Dec.{ltb}
 use lib.ListN.{length, take}
 use borrow.Author.Tests.{le-ltb}
 use native.Mathlib.Omega.{arith}
-use Rattle.bound.proofs.Rows.{bytes-length, row-same, row-says, tell-fits, tell-short}
-use Rattle.bound.specs.Calls.{boundBytes, RowSays, stepBinds, stepBoundCall, stepBoundIn, supplyBoundCall, tellIn, turnBinds, turnBoundCall, turnBoundIn}
+use Rattle.bound_row.proofs.Rows.{bytes-length}
+use Rattle.bound_row.specs.Row.{boundBytes}
+use Rattle.bound.proofs.Rows.{row-same, row-says, tell-fits, tell-short}
+use Rattle.bound.specs.Calls.{RowSays, stepBinds, stepBoundCall, stepBoundIn, supplyBoundCall, tellIn, turnBinds, turnBoundCall, turnBoundIn}
 use Rattle.entry.specs.Entered.{EnterSays, Inside}
 use Rattle.lay.specs.Lay.{laid}
 use Rattle.load.specs.Fields.{refusalOf}
@@ -114,12 +116,15 @@ module _ (lim : Limits) (s : List ℕ) (r c : ℕ) (l : Lent) (row : List ℕ) {
       let z : turnTables lim (programOf s r c) (tablesIn l) ≡ unmade 10 = unfold turnTables turnTo in rw (sym (whose (programOf s r c)) ∙ e) in
       row-says (rw (z, ex))
 
+  turn-binds : {p : ℕ} → turnFor (programOf s r c) (tablesIn l) ≡ At p → turnBinds (programOf s r c) (tablesIn l) ≡ stepBinds (programOf s r c) (tablesIn l) p
+  unfolding turnBinds
+  turn-binds q = rw q
+
   pub turn-some : {p : ℕ} → f ≡ At p → {a : Stepped} {h ps vs w : List ℕ} → RowSays (stepBoundIn lim s r c l row p) a h ps vs w → RowSays (turnBoundIn lim s r c l row) a h ps vs w
   turn-some {p} e x =
       let q = sym (whose (programOf s r c)) ∙ e in
       let z : turnTables lim (programOf s r c) (tablesIn l) ≡ stepTables lim (programOf s r c) (tablesIn l) p = turn-is lim (programOf s r c) (tablesIn l) p q in
-      let y : turnBinds (programOf s r c) (tablesIn l) ≡ stepBinds (programOf s r c) (tablesIn l) p = unfold turnBinds in rw q in
-      row-same (rw (z, y)) x
+      row-same (rw (z, turn-binds q)) x
 
 -- ---- the supply
 

@@ -1,11 +1,12 @@
 -- Step, turn and supply that tell the variables bound: which they are, their bytes, and the calls with one row more.
 use mathlib.Core.Path.{_≡_}
 use mathlib.Core.Bool.{Bool, false, true}
-use mathlib.Core.List.{[], _++_, _∷_, List}
+use mathlib.Core.List.{[], _∷_, List}
 use Prim.Native.Nat.{ℕ}
 use lib.Dec.{leb}
 use lib.ListN.{length}
-use Rattle.lay.specs.Lay.{laid, two}
+use Rattle.bound_row.specs.Row.{boundBytes}
+use Rattle.lay.specs.Lay.{laid}
 use Rattle.parlog.specs.Calls.{enter, entered, Entry, stepAnswer, stepCall, supplyCall, turnCall, turned-away}
 use Rattle.parlog.specs.Limits.{Limits}
 use Rattle.parlog.specs.Load.{refusal}
@@ -40,17 +41,6 @@ foundBinds (At p) pr t = stepBinds pr t p
 -- Bound 2: those of a turn
 unfoldable pub turnBinds : Program → Tables → List ℕ
 turnBinds pr t = foundBinds (turnFor pr t) pr t
-
--- ---- their bytes
-
--- Bound 4: two bytes for each
-unfoldable pub twos : List ℕ → List ℕ
-twos [] = []
-twos (v ∷ vs) = two v ++ twos vs
-
--- Bound 4: the count in front
-unfoldable pub boundBytes : List ℕ → List ℕ
-boundBytes vs = two (length vs) ++ twos vs
 
 -- ---- a call that is lent one row more
 

@@ -1,3 +1,2 @@
 -- What step, turn and supply tell of the variables bound.
 pub mod Calls
-pub mod Newly

@@ -1,6 +1,5 @@
 // Step, turn and supply, which tell the variables bound: the plain calls with one row more.
 use children::Told;
-use parlog::Change;
 use parlog::Found;
 use parlog::Loaded;
 use parlog::Stepped;
@@ -8,53 +7,12 @@ use parlog::Supplied;
 use parlog::Term;
 use parlog::codes;
 ghost use mathlib.Core.Path.{_≡_};
-ghost use mathlib.Core.List.{[], _∷_};
-ghost use Prim.Native.Nat.{_<_, _≤_};
-ghost use lib.ListN.{length, take};
+ghost use Prim.Native.Nat.{_<_};
 ghost use Rattle.children.specs.Telling.{Tells};
 ghost use Rattle.entry.specs.Entered.{Inside};
-ghost use Rattle.lay.specs.Lay.{laid};
 ghost use Rattle.parlog.specs.Limits.{small};
 ghost use Rattle.parlog.specs.Tables.{at, lent, procCount, procsOf};
-ghost use Rattle.unify.specs.Pending.{varsBound};
-ghost use Rattle.bound.specs.Calls.{boundBytes, RowSays, stepBoundCall, stepBoundIn, supplyBoundCall, turnBoundCall, turnBoundIn};
-
-// The bytes of the count and of each variable told.
-const COUNT_SIZE: usize = 2;
-
-const VAR_SIZE: usize = 2;
-
-// ---- the row
-
-// How many bytes tell the variables of the first changes.
-fn size_of(list: [Change; codes::MOST_ARITY], count: usize) -> usize
-    requires { ⌜ count ≤ 4 ⌝ }
-    ensures { λ r. ⌜ r ≡ length (boundBytes (varsBound (take count list))) ⌝ }
-{
-    COUNT_SIZE + VAR_SIZE * count
-}
-
-// Tells them: their count, then each, in the order of the changes.
-fn tell(out: &mut [u8], list: [Change; codes::MOST_ARITY], count: usize)
-    requires { ⌜ count ≤ 4 ⌝ }
-    ensures { λ _. ⌜ now (out .exit) ≡ laid (now (out .entry)) 0 (boundBytes (varsBound (take count list))) ⌝ }
-{
-    let mut at = lay::put2(out, 0, count);
-    let mut k = 0;
-    while k < count {
-        let c = list[k];
-        at = lay::put2(out, at, c.var as usize);
-        k += 1;
-    }
-}
-
-// Tells one.
-fn tell_one(out: &mut [u8], v: usize)
-    ensures { λ _. ⌜ now (out .exit) ≡ laid (now (out .entry)) 0 (boundBytes (v ∷ [])) ⌝ }
-{
-    let at = lay::put2(out, 0, 1);
-    lay::put2(out, at, v);
-}
+ghost use Rattle.bound.specs.Calls.{RowSays, stepBoundCall, stepBoundIn, supplyBoundCall, turnBoundCall, turnBoundIn};
 
 // ---- a step and a turn
 
@@ -82,12 +40,12 @@ fn step_in(
     let changes = plan.changes;
     let list = changes.list;
     let count = changes.count;
-    if bound.len() < size_of(list, count) {
+    if bound.len() < bound_row::size_of(list, count) {
         return Stepped::Unmoved(entry::refusal(codes::ROOM));
     }
     let mv = plan.mv;
     step::carry_out(head, procs, vars, p, plan);
-    tell(bound, list, count);
+    bound_row::tell(bound, list, count);
     Stepped::Moved(mv)
 }
 
@@ -173,11 +131,11 @@ pub fn supply_bound(
     let Supplied::Given(v) = a else {
         return a;
     };
-    if bound.len() < COUNT_SIZE + VAR_SIZE {
+    if bound.len() < bound_row::ONE_SIZE {
         return Supplied::Ungiven(entry::refusal(codes::ROOM));
     }
     let n = head::var_count(head);
     vars::bind(vars, n, v, Term::Const(value));
-    tell_one(bound, v);
+    bound_row::tell_one(bound, v);
     a
 }

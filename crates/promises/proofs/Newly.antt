@@ -8,8 +8,6 @@ use lib.Dec.{eqb, ltb}
 use lib.ListN.{length, replicate}
 use borrow.Author.Tests.{eqb-false, ltb-true}
 use native.Mathlib.Nat.{add-zero, not-suc-le-zero}
-use Rattle.bound.proofs.Apart.{Apart, apart, newly-bound, Under}
-use Rattle.bound.specs.Newly.{BindsBy, by-equate, by-match, by-none, NewlyBound}
 use Rattle.parlog.proofs.Bindings.{changeIn, changesIn}
 use Rattle.parlog.proofs.Bools.{and-true, never}
 use Rattle.parlog.proofs.Decided.{decide-binds, Tells}
@@ -27,7 +25,7 @@ use Rattle.parlog.specs.Numbers.{ruleNumber}
 use Rattle.parlog.specs.Program.{argument, blockCount, callModes, clauseAt, Goal, goalAt, literalAt, Program}
 use Rattle.parlog.specs.Relation.{Equating, Matching}
 use Rattle.parlog.specs.Rules.{andParStart, andParWait, andSeqStart, andSeqWait, Applied, by-rule, equateAt, equateStart, guardEvalStart, guardEvalWait, inputMatchStart, matchAt, no-rule, orParHeard, orParStart, orParWait, orSearchStart, orSearchWait, ruleIn, ruleOf, searching, seqSearchNext, seqSearchStart, seqSearchWait, startRule, stopRule, tryClauseStart, tryClauseWait, waitRule, wakeRule}
-use Rattle.parlog.specs.Sane.{Sane}
+use Rattle.parlog.specs.Sane.{allOf, Sane}
 use Rattle.parlog.specs.TableRules.{stateOk}
 use Rattle.parlog.specs.Tables.{bindingOf, noted, State}
 use Rattle.parlog.specs.Tree.{allChildren, anyChild, bad, enclosing, firstOf, good, Heard, heard, lowestChild, silent}
@@ -41,12 +39,14 @@ use Rattle.parlog.specs.declared.Move.{Move}
 use Rattle.parlog.specs.declared.Pair.{Pair}
 use Rattle.parlog.specs.declared.Process.{Process}
 use Rattle.parlog.specs.declared.Term.the-variants.{Const}
+use Rattle.promises.proofs.Apart.{Apart, apart, newly-bound, Under}
+use Rattle.promises.specs.Bound.{BindsBy, by-equate, by-match, by-none, NewlyBound}
 use Rattle.unify.specs.Pending.{varsBound}
 
 -- a rule that binds reports success with its changes, any other changes no variable
 data Lists (pr : Program) (s : State) (p : ℕ) : Applied → Type 0 where
   lists-none : Lists pr s p no-rule
-  lists-binds : {m : Move} {y : Process} {cs : List Change} → BindsBy pr s p m cs → Lists pr s p (by-rule m (reporting-with success y cs))
+  lists-binds : {m : Move} (y : Process) {cs : List Change} → BindsBy pr s p m cs → Lists pr s p (by-rule m (reporting-with success y cs))
   lists-other : {m : Move} {d : Delta} → d .changes ≡ [] → ruleNumber m ≢ 26 → ruleNumber m ≢ 33 → Lists pr s p (by-rule m d)
 
 -- a test tells that it holds
@@ -81,8 +81,8 @@ module _ (pr : Program) (s : State) (g : Good s) (p : ℕ) where
   unfolding inputMatchStart
   lists-match fails q = other refl refl refl
   lists-match (suspends v ns) q = other refl refl refl
-  lists-match (binds []) q = lists-binds (by-match refl matching (unifies (s .vars) (g .falls) pairs inputs [] q))
-  lists-match (binds (c ∷ cs)) q = lists-binds (by-match refl matching (unifies (s .vars) (g .falls) pairs inputs (c ∷ cs) q))
+  lists-match (binds []) q = lists-binds x (by-match refl matching (unifies (s .vars) (g .falls) pairs inputs [] q))
+  lists-match (binds (c ∷ cs)) q = lists-binds x (by-match refl matching (unifies (s .vars) (g .falls) pairs inputs (c ∷ cs) q))
 
   abbrev sides : Pair
   sides = record { left = shift (x .spot .base) (argument (literalAt pr (x .spot)) 0); right = shift (x .spot .base) (argument (literalAt pr (x .spot)) 1) }
@@ -97,8 +97,8 @@ module _ (pr : Program) (s : State) (g : Good s) (p : ℕ) where
   unfolding equateStart
   lists-equate fails q = other refl refl refl
   lists-equate (suspends v ns) q = other refl refl refl
-  lists-equate (binds []) q = lists-binds (by-equate refl equating (unifies (s .vars) (g .falls) (sides ∷ []) older [] q))
-  lists-equate (binds (c ∷ cs)) q = lists-binds (by-equate refl equating (unifies (s .vars) (g .falls) (sides ∷ []) older (c ∷ cs) q))
+  lists-equate (binds []) q = lists-binds x (by-equate refl equating (unifies (s .vars) (g .falls) (sides ∷ []) older [] q))
+  lists-equate (binds (c ∷ cs)) q = lists-binds x (by-equate refl equating (unifies (s .vars) (g .falls) (sides ∷ []) older (c ∷ cs) q))
 
   -- ---- the others, by mode and tag
 
@@ -218,6 +218,7 @@ module _ (pr : Program) (s : State) (g : Good s) (p : ℕ) where
 -- ---- a move
 
 under-of : (n : ℕ) (cs : List Change) → changesIn n cs ≡ true → Under n cs
+unfolding allOf
 under-of n [] e = tt
 under-of n (c ∷ cs) e =
     let a = and-true (changeIn n c) (changesIn n cs) e in
@@ -232,7 +233,7 @@ more-none vs n = record {
   once = λ i j l h. absurd (not-suc-le-zero h);
 }
 
-module _ (lim : Limits) (pr : Program) (sane : Sane pr) (s : State) (ok : stateOk lim pr s ≡ true) (p : ℕ) {m : Move} {d : Delta} (is : ruleOf pr s p ≡ by-rule m d) where
+module _ (lim : Limits) (pr : Program) (sane : Sane pr) (s : State) (p : ℕ) (ok : stateOk lim pr s ≡ true) (hp : p < length (s .procs)) {m : Move} {d : Delta} (is : ruleOf pr s p ≡ by-rule m d) where
   abbrev pub Told : Move → Delta → Type 0
   Told n e = BindsBy pr s p n (e .changes) × NewlyBound (s .vars) (apply s p e .vars) (varsBound (e .changes))
 
@@ -240,8 +241,8 @@ module _ (lim : Limits) (pr : Program) (sane : Sane pr) (s : State) (ok : stateO
   pub rule-binds : Told m d
   rule-binds = by (ruleOf pr s p) is (lists pr s (state-good lim pr s ok) p)
     where
-      under : {n : Move} {y : Process} {cs : List Change} → ruleOf pr s p ≡ by-rule n (reporting-with success y cs) → Under (length (s .vars)) cs
-      under {n} {y} {cs} e = under-of (length (s .vars)) cs (rw add-zero at (safe-rule lim pr sane s ok p n (reporting-with success y cs) e .changes))
+      under : {n : Move} (y : Process) {cs : List Change} → ruleOf pr s p ≡ by-rule n (reporting-with success y cs) → Under (length (s .vars)) cs
+      under {n} y {cs} e = under-of (length (s .vars)) cs (rw add-zero at (safe-rule lim pr sane s p ok hp n (reporting-with success y cs) e .changes))
 
       unified : {n : Move} {cs : List Change} → BindsBy pr s p n cs → Under (length (s .vars)) cs → Apart (s .vars) cs
       unified (by-match e i u) h = apart u h
@@ -249,7 +250,7 @@ module _ (lim : Limits) (pr : Program) (sane : Sane pr) (s : State) (ok : stateO
       unified (by-none a b) h = tt
 
       go : {n : Move} {e : Delta} → ruleOf pr s p ≡ by-rule n e → Lists pr s p (by-rule n e) → Told n e
-      go q (lists-binds {cs = cs} b) = let u = under q in (b, unfold apply in rw (append-nil (s .vars)) (newly-bound (s .vars) cs u (unified b u)))
+      go q (lists-binds y {cs} b) = let u = under y q in (b, unfold apply in rw (append-nil (s .vars)) (newly-bound (s .vars) cs u (unified b u)))
       go {e = e} q (lists-other z a b) = (rw z (by-none a b), unfold apply changed in rw z (more-none (s .vars) (e .fresh)))
 
       by : (a : Applied) → ruleOf pr s p ≡ by-rule m d → Lists pr s p (ruleOf pr s p) → Told m d

@@ -8,7 +8,6 @@ use lib.ListN.{getD, length, length-map, List·getD-map}
 use borrow.Author.Tests.{eqb-false, eqb-true}
 use native.Mathlib.Omega.{arith}
 use native.Mathlib.Nat.{le-of-suc-le-suc, not-suc-le-zero}
-use Rattle.bound.specs.Newly.{Among, NewlyBound}
 use Rattle.parlog.proofs.Bools.{split}
 use Rattle.parlog.proofs.Changing.{changed-is, changed-only}
 use Rattle.parlog.specs.Notions.{all-done, Changed, higher-left, higher-right, Leads, Meets, one-done, onward, same-constant, same-variable, to-left, to-right, unbound, Unifies}
@@ -20,6 +19,7 @@ use Rattle.parlog.specs.declared.Change.{Change}
 use Rattle.parlog.specs.declared.Pair.{Pair}
 use Rattle.parlog.specs.declared.Term.{Term}
 use Rattle.parlog.specs.declared.Term.the-variants.{Var}
+use Rattle.promises.specs.Bound.{Among, NewlyBound}
 use Rattle.unify.specs.Pending.{noChange, varsBound}
 
 -- the variables of changes are below n
@@ -73,7 +73,7 @@ module _ {vs ws : List Binding} {c : Change} (a : Changed vs (c ∷ []) ws) (h :
   apart-later (d ∷ cs) x =
       let n = other-var (d .var) (x .0) in
       let r = apart-later cs (x .2) in
-      (among n (r .0), sym (as-before (d .var) n) ∙ x .0, x .1, r .1)
+      (among n (r .0), (sym (as-before (d .var) n) ∙ x .0, x .1, r .1))
     where
       among : d .var ≢ c .var → ((i : ℕ) → i < length cs → getD cs i noChange .var ≢ c .var) → (i : ℕ) → i < length (d ∷ cs) → getD (d ∷ cs) i noChange .var ≢ c .var
       among n r zero l = n
@@ -81,13 +81,13 @@ module _ {vs ws : List Binding} {c : Change} (a : Changed vs (c ∷ []) ws) (h :
 
 -- ---- all pairs
 
-then-apart : {vs ws : List Binding} {bs cs : List Change} → MetOne vs bs → Changed vs bs ws → (Under (length ws) cs → Apart ws cs) → Under (length vs) (bs ++ cs) → Apart vs (bs ++ cs)
-then-apart {vs} {ws} met-none a go u = let e : ws ≡ vs = unfold changed in changed-only a in rw e at (go (rw (a .count) u))
-then-apart {cs = cs} (met-one f) a go u = let r = apart-later a (u .0) cs (go (rw (a .count) (u .1))) in (f, r .0, r .1)
+then-apart : {vs ws : List Binding} {bs : List Change} (cs : List Change) → MetOne vs bs → Changed vs bs ws → (Under (length ws) cs → Apart ws cs) → Under (length vs) (bs ++ cs) → Apart vs (bs ++ cs)
+then-apart {vs} {ws} cs met-none a go u = let e : ws ≡ vs = unfold changed in changed-only a in rw e at (go (rw (a .count) u))
+then-apart cs (met-one f) a go u = let r = apart-later a (u .0) cs (go (rw (a .count) (u .1))) in (f, r .0, r .1)
 
 pub apart : {vs : List Binding} {es : List Pair} {cs : List Change} → Unifies vs es cs → Under (length vs) cs → Apart vs cs
 apart all-done u = tt
-apart (one-done l r m a rest) u = then-apart (met l r m) a (apart rest) u
+apart (one-done {cs = cs} l r m a rest) u = then-apart cs (met l r m) a (λ h. apart rest h) u
 
 -- ---- the variables newly bound
 
@@ -129,7 +129,7 @@ module _ (vs : List Binding) (cs : List Change) (u : Under (length vs) cs) (x : 
   at-var i = List·getD-map (λ c. c .var) cs i noChange
 
   many : length (varsBound cs) ≡ length cs
-  many = length-map (λ c. c .var) cs
+  many = length-map cs (λ c. c .var)
 
   becomes-bound : (i : ℕ) → i < length cs → bindingOf (changed vs cs) (getD cs i noChange .var) ≡ Bound (getD cs i noChange .to)
   becomes-bound i h = changed-is vs cs .bound (getD cs i noChange .var) i (under-at (length vs) cs u i h) h refl (λ k l g. apart-once vs cs x i k l g)
