@@ -1,6 +1,6 @@
 -- Request 1: the calls that tell the variables bound are refused as the plain ones, then for the row; else they are the plain calls, and what they tell is exactly
 -- what was bound, in the unifier's order.
-use mathlib.Core.Path.{_∙_, _≡_, refl}
+use mathlib.Core.Path.{_∙_, _≡_, ap, refl}
 use mathlib.Core.Logic.{_≢_}
 use mathlib.Core.Bool.{true}
 use mathlib.Core.List.{List}
@@ -11,13 +11,14 @@ use borrow.Author.Tests.{leb-false, leb-true}
 use native.Mathlib.Omega.{arith}
 use Rattle.bound.proofs.Rows.{tell-fits, tell-short}
 use Rattle.bound.specs.Calls.{RowCall, stepBinds, stepBoundCall, tellIn, turnBinds, turnBoundCall}
-use Rattle.bound_row.proofs.Rows.{bytes-length}
+use Rattle.bound_row.proofs.Rows.{bytes-length, vars-many}
 use Rattle.bound_row.specs.Row.{boundBytes}
 use Rattle.entry.proofs.Held.{count-procs, same-lent, tables-state}
 use Rattle.lay.proofs.Laws.{laid-start}
 use Rattle.lay.specs.Lay.{laid}
 use Rattle.parlog.proofs.Bools.{split}
 use Rattle.parlog.proofs.Exact.{makes-exactly}
+use Rattle.parlog.proofs.Good.{state-good}
 use Rattle.parlog.proofs.Moves.{moved-by}
 use Rattle.parlog.proofs.Stable.{can-here}
 use Rattle.parlog.specs.Calls.{stepCall}
@@ -40,7 +41,7 @@ use Rattle.parlog.specs.declared.Stepped.the-variants.{Moved, Unmoved}
 use Rattle.promises.proofs.Demand1.{a-refusal, Answered, no-refusal, refuses-by, step-as, step-numbered, step-refused, turn-numbered, turn-refused, turn-step, turn-there}
 use Rattle.promises.proofs.Demand2.{demand-2-step, image-sane}
 use Rattle.promises.proofs.Entry.{away, Door, door, enter-let, inside, let-in-same, let-ok}
-use Rattle.promises.proofs.Newly.{rule-binds}
+use Rattle.promises.proofs.Newly.{binds-once, rule-binds}
 use Rattle.promises.proofs.Whose.{goes, is-full, is-still, move-can, of-turn, step-makes, too-high, Trial, trial, turn-moves, turn-none, turn-of}
 use Rattle.promises.proofs.Words.{moved-told}
 use Rattle.promises.specs.Bound.{as-step, as-turn, BindsBy, bytesFor, NewlyBound, RefusingRow, RowHolds, StepBoundMeets, StepBoundRefused, StepTold, StepUntold, TurnBoundMeets, TurnBoundRefused, TurnUntold, untold-step, untold-turn}
@@ -110,9 +111,16 @@ module _ (lim : Limits) (s : List ℕ) (l : Lent) (row : List ℕ) (p : ℕ) whe
         let k = makes-exactly lim pr (stateIn l) ok p x f in
         (k .delta .changes, binds-by (k .delta) (moved-by lim pr (stateIn l) p m (k .delta) (k .move) .rule) (k .state))
 
+    -- as many as the code's list has
+    told-many : {cs : List Change} → BindsBy pr (stateIn l) p m cs → length told ≡ length cs
+    told-many y =
+        let b = binds-so in
+        let q = binds-once pr (stateIn l) (state-good lim pr (stateIn l) ok) p (b .1 .1) y in
+        ap length (b .1 .0) ∙ vars-many (b .0) ∙ ap length q
+
   refused-call : {n o : ℕ} → StepBoundRefused lim s l row p n o → stepBoundCall lim s l row p ≡ record { answer = Unmoved (refusal n o); lent = l; row = row }
   refused-call (as-step y) = plainly y
-  refused-call (untold-step u) = short-call (u .inside) (u .holds) (u .fits) (u .short)
+  refused-call (untold-step u) = short-call (u .inside) (u .holds) (u .fits) (rw (told-many (u .inside) (u .holds) (u .fits) (u .binds)) (u .short))
 
   data StepView : RowCall Stepped → Type 0 where
     view-refused : {n o : ℕ} → StepBoundRefused lim s l row p n o → StepView (record { answer = Unmoved (refusal n o); lent = l; row = row })
@@ -135,7 +143,22 @@ module _ (lim : Limits) (s : List ℕ) (l : Lent) (row : List ℕ) (p : ℕ) whe
           split (leb (bytesFor (length vs)) (length row))
           (λ e. let g : bytesFor (length vs) ≤ length row = leb-true (bytesFor (length vs)) (length row) e in rw (told-call i x f g) (view-told i x f g))
           (λ e. let g : length row < bytesFor (length vs) = leb-false (bytesFor (length vs)) (length row) e in
-          rw (short-call i x f g) (view-refused (untold-step (record { relations = r; clauses = c; inside = i; rule = m; after = s′; holds = x; fits = f; short = g }))))
+          let b = binds-so i x f in
+          rw (short-call i x f g)
+          (view-refused
+          (untold-step
+          (record {
+            relations = r;
+            clauses = c;
+            inside = i;
+            rule = m;
+            after = s′;
+            holds = x;
+            fits = f;
+            changes = b .0;
+            binds = b .1 .1;
+            short = rw (told-many i x f (b .1 .1)) at g;
+          }))))
 
       go : Door lim s l → StepView (stepBoundCall lim s l row p)
       go (away a) = plain (step-away a)
