@@ -1,6 +1,6 @@
 -- Request 1: the calls that tell the variables bound are refused as the plain ones, then for the row; else they are the plain calls, and what they tell is exactly
 -- what was bound, in the unifier's order.
-use mathlib.Core.Path.{_∙_, _≡_, refl}
+use mathlib.Core.Path.{_∙_, _≡_, ap, refl}
 use mathlib.Core.Logic.{_≢_}
 use mathlib.Core.Bool.{true}
 use mathlib.Core.List.{List}
@@ -11,20 +11,24 @@ use borrow.Author.Tests.{leb-false, leb-true}
 use native.Mathlib.Omega.{arith}
 use Rattle.bound.proofs.Rows.{tell-fits, tell-short}
 use Rattle.bound.specs.Calls.{RowCall, stepBinds, stepBoundCall, tellIn, turnBinds, turnBoundCall}
+use Rattle.bound_row.proofs.Rows.{bytes-length, vars-many}
 use Rattle.bound_row.specs.Row.{boundBytes}
 use Rattle.entry.proofs.Held.{count-procs, same-lent, tables-state}
 use Rattle.lay.proofs.Laws.{laid-start}
 use Rattle.lay.specs.Lay.{laid}
 use Rattle.parlog.proofs.Bools.{split}
 use Rattle.parlog.proofs.Exact.{makes-exactly}
+use Rattle.parlog.proofs.Good.{state-good}
 use Rattle.parlog.proofs.Moves.{moved-by}
 use Rattle.parlog.proofs.Stable.{can-here}
 use Rattle.parlog.specs.Calls.{stepCall}
+use Rattle.parlog.specs.Delta.{apply, Delta}
 use Rattle.parlog.specs.Limits.{Limits}
 use Rattle.parlog.specs.Load.{refusal}
 use Rattle.parlog.specs.Numbers.{refusedAs, word}
 use Rattle.parlog.specs.Program.{Program, programOf}
 use Rattle.parlog.specs.Relation.{Fits, Rule}
+use Rattle.parlog.specs.Rules.{by-rule, ruleOf}
 use Rattle.parlog.specs.Run.{Stepping, turnFor}
 use Rattle.parlog.specs.TableRules.{stateOk}
 use Rattle.parlog.specs.Tables.{Lent, putTables, State, tablesIn}
@@ -37,25 +41,24 @@ use Rattle.parlog.specs.declared.Stepped.the-variants.{Moved, Unmoved}
 use Rattle.promises.proofs.Demand1.{a-refusal, Answered, no-refusal, refuses-by, step-as, step-numbered, step-refused, turn-numbered, turn-refused, turn-step, turn-there}
 use Rattle.promises.proofs.Demand2.{demand-2-step, image-sane}
 use Rattle.promises.proofs.Entry.{away, Door, door, enter-let, inside, let-in-same, let-ok}
-use Rattle.promises.proofs.Newly.{rule-binds}
+use Rattle.promises.proofs.Newly.{binds-once, rule-binds}
 use Rattle.promises.proofs.Whose.{goes, is-full, is-still, move-can, of-turn, step-makes, too-high, Trial, trial, turn-moves, turn-none, turn-of}
 use Rattle.promises.proofs.Words.{moved-told}
 use Rattle.promises.specs.Bound.{as-step, as-turn, BindsBy, bytesFor, NewlyBound, RefusingRow, RowHolds, StepBoundMeets, StepBoundRefused, StepTold, StepUntold, TurnBoundMeets, TurnBoundRefused, TurnUntold, untold-step, untold-turn}
 use Rattle.promises.specs.Moves.{afterStep}
 use Rattle.promises.specs.Outcomes.{refusalIn, StepMeets, TurnMeets}
 use Rattle.promises.specs.Refusals.{LetIn, no-process, no-room-for, no-room-in-turn, no-rule-for, nobody, stateIn, step-away, StepRefused, Turn, turn-away, TurnRefused}
-use Rattle.bound_row.proofs.Rows.{bytes-length}
 use Rattle.unify.specs.Pending.{varsBound}
 
 -- ---- a word that is no refusal, or has its reason
 
-kept-of : {Why : ℕ → ℕ → Type 0} {A : Type 0} {a b : A} (w : ℕ) → Answered Why w → ((n o : ℕ) → Why n o → a ≡ b) → refusalIn w ≢ 0 → a ≡ b
+pub kept-of : {Why : ℕ → ℕ → Type 0} {A : Type 0} {a b : A} (w : ℕ) → Answered Why w → ((n o : ℕ) → Why n o → a ≡ b) → refusalIn w ≢ 0 → a ≡ b
 kept-of w (a-refusal {n} {o} y) k h = k n o y
 kept-of w (no-refusal e) k h = absurd (h e)
 
 -- ---- the row
 
-row-holds : (row vs : List ℕ) {w : List ℕ} → bytesFor (length vs) ≤ length row → w ≡ laid row 0 (boundBytes vs) → RowHolds row vs w
+pub row-holds : (row vs : List ℕ) {w : List ℕ} → bytesFor (length vs) ≤ length row → w ≡ laid row 0 (boundBytes vs) → RowHolds row vs w
 row-holds row vs fit e =
     let n = bytes-length vs in
     record { room = fit; bytes = e ∙ laid-start (boundBytes vs) row (rw n fit) ∙ rw n }
@@ -95,16 +98,29 @@ module _ (lim : Limits) (s : List ℕ) (l : Lent) (row : List ℕ) (p : ℕ) whe
     told-call h = tells-call ∙ tell-fits (Unmoved (refusal 11 0)) (Moved m) (putTables l (afterStep (tablesIn l) p s′)) l row (boundBytes told) (rw (bytes-length told) h)
 
     -- what the rule binds, by the relation
-    binds-so : (cs : List Change) × (told ≡ varsBound cs) × BindsBy pr (stateIn l) p m cs × NewlyBound (stateIn l .vars) (s′ .vars) (varsBound cs)
+    abbrev Binds : List Change → Type 0
+    Binds cs = (told ≡ varsBound cs) × BindsBy pr (stateIn l) p m cs × NewlyBound (stateIn l .vars) (s′ .vars) (varsBound cs)
+
+    binds-by : (d : Delta) → ruleOf pr (stateIn l) p ≡ by-rule m d → s′ ≡ apply (stateIn l) p d → Binds (d .changes)
+    binds-by d q e =
+        let b = rule-binds lim pr (image-sane lim s l i) (stateIn l) p ok there q in
+        (unfold stepBinds in rw q, b .0, rw e (b .1))
+
+    binds-so : (cs : List Change) × Binds cs
     binds-so =
         let k = makes-exactly lim pr (stateIn l) ok p x f in
-        let q = moved-by lim pr (stateIn l) p m (k .delta) (k .move) .rule in
-        let b = rule-binds lim pr (image-sane lim s l i) (stateIn l) p ok there q in
-        (k .delta .changes, unfold stepBinds in rw q, b .0, rw (k .state) (b .1))
+        (k .delta .changes, binds-by (k .delta) (moved-by lim pr (stateIn l) p m (k .delta) (k .move) .rule) (k .state))
+
+    -- as many as the code's list has
+    told-many : {cs : List Change} → BindsBy pr (stateIn l) p m cs → length told ≡ length cs
+    told-many y =
+        let b = binds-so in
+        let q = binds-once pr (stateIn l) (state-good lim pr (stateIn l) ok) p (b .1 .1) y in
+        ap length (b .1 .0) ∙ vars-many (b .0) ∙ ap length q
 
   refused-call : {n o : ℕ} → StepBoundRefused lim s l row p n o → stepBoundCall lim s l row p ≡ record { answer = Unmoved (refusal n o); lent = l; row = row }
   refused-call (as-step y) = plainly y
-  refused-call (untold-step u) = short-call (u .inside) (u .holds) (u .fits) (u .short)
+  refused-call (untold-step u) = short-call (u .inside) (u .holds) (u .fits) (rw (told-many (u .inside) (u .holds) (u .fits) (u .binds)) (u .short))
 
   data StepView : RowCall Stepped → Type 0 where
     view-refused : {n o : ℕ} → StepBoundRefused lim s l row p n o → StepView (record { answer = Unmoved (refusal n o); lent = l; row = row })
@@ -127,7 +143,22 @@ module _ (lim : Limits) (s : List ℕ) (l : Lent) (row : List ℕ) (p : ℕ) whe
           split (leb (bytesFor (length vs)) (length row))
           (λ e. let g : bytesFor (length vs) ≤ length row = leb-true (bytesFor (length vs)) (length row) e in rw (told-call i x f g) (view-told i x f g))
           (λ e. let g : length row < bytesFor (length vs) = leb-false (bytesFor (length vs)) (length row) e in
-          rw (short-call i x f g) (view-refused (untold-step (record { relations = r; clauses = c; inside = i; rule = m; after = s′; holds = x; fits = f; short = g }))))
+          let b = binds-so i x f in
+          rw (short-call i x f g)
+          (view-refused
+          (untold-step
+          (record {
+            relations = r;
+            clauses = c;
+            inside = i;
+            rule = m;
+            after = s′;
+            holds = x;
+            fits = f;
+            changes = b .0;
+            binds = b .1 .1;
+            short = rw (told-many i x f (b .1 .1)) at g;
+          }))))
 
       go : Door lim s l → StepView (stepBoundCall lim s l row p)
       go (away a) = plain (step-away a)
@@ -177,11 +208,11 @@ module _ (lim : Limits) (s : List ℕ) (l : Lent) (row : List ℕ) (p : ℕ) whe
         record {
           rule = m;
           after = s′;
-          shows = demand-2-step lim s l i p w l′ (same-step e (made-call i x f)) (rw (count-procs l) (there i x f)) .does x f;
+          shows = demand-2-step lim s l i p w l′ (same-step e (made-call i x f)) (rw (← count-procs l) (there i x f)) .does x f;
           changes = b .0;
-          binds = b .2;
-          exactly = b .3;
-          holds = rw (b .1) at (row-holds row (stepBinds (programOf s r c) (tablesIn l) p) g (meets .contract .row ∙ rw e));
+          binds = b .1 .1;
+          exactly = b .1 .2;
+          holds = rw (b .1 .0) at (row-holds row (stepBinds (programOf s r c) (tablesIn l) p) g (meets .contract .row ∙ rw e));
         }
 
     -- demand 2: a step that is not refused is the move of the rules, and tells what it bound
@@ -229,19 +260,19 @@ module _ (lim : Limits) (s : List ℕ) (l : Lent) (row : List ℕ) where
     turn-bound-answered : Answered (TurnBoundRefused lim s l row) w
     turn-bound-answered = go (door lim s l)
       where
-        as : {r c : ℕ} (i : LetIn lim s l r c) (p : ℕ) → Turn (programOf s r c) (tablesIn l) p → Answered (StepBoundRefused lim s l row p) w → Answered (TurnBoundRefused lim s l row) w
-        as i p u (no-refusal e) = no-refusal e
-        as i p u (a-refusal (as-step (step-away a))) = a-refusal (as-turn (turn-away a))
-        as i p u (a-refusal (as-step (no-process j h))) = let g = turn-there lim s l i u in absurd (omega arith)
-        as {r} {c} i p u (a-refusal (as-step (no-rule-for j h n))) = let q = let-in-same j i in absurd (n (rw (q .0, q .1) (turn-moves lim (programOf s r c) (tablesIn l) (let-ok lim s l i) u)))
-        as i p u (a-refusal (as-step (no-room-for j h n))) = let q = let-in-same j i in a-refusal (as-turn (no-room-in-turn i u (rw (q .0, q .1) at n)))
-        as i p u (a-refusal (untold-step y)) = let q = let-in-same (y .inside) i in a-refusal (untold-turn (record { process = p; step = y; turn = rw (q .0, q .1) u }))
+        as-whose : {r c : ℕ} (i : LetIn lim s l r c) (p : ℕ) → Turn (programOf s r c) (tablesIn l) p → Answered (StepBoundRefused lim s l row p) w → Answered (TurnBoundRefused lim s l row) w
+        as-whose i p u (no-refusal e) = no-refusal e
+        as-whose i p u (a-refusal (as-step (step-away a))) = a-refusal (as-turn (turn-away a))
+        as-whose i p u (a-refusal (as-step (no-process j h))) = let g = turn-there lim s l i u in absurd (omega arith)
+        as-whose {r} {c} i p u (a-refusal (as-step (no-rule-for j h n))) = let q = let-in-same j i in absurd (n (rw (q .0, q .1) (turn-moves lim (programOf s r c) (tablesIn l) (let-ok lim s l i) u)))
+        as-whose i p u (a-refusal (as-step (no-room-for j h n))) = let q = let-in-same j i in a-refusal (as-turn (no-room-in-turn i u (rw (q .0, q .1) at n)))
+        as-whose i p u (a-refusal (untold-step y)) = let q = let-in-same (y .inside) i in a-refusal (untold-turn (record { process = p; step = y; turn = rw (q .0, q .1) u }))
 
         by : {r c : ℕ} (i : LetIn lim s l r c) (f : Found) → turnFor (programOf s r c) (tablesIn l) ≡ f → Answered (TurnBoundRefused lim s l row) w
         by {r} {c} i Nothing e = a-refusal (as-turn (nobody i (turn-none lim (programOf s r c) (tablesIn l) (let-ok lim s l i) e)))
         by {r} {c} i (At p) e =
             let u = turn-of lim (programOf s r c) (tablesIn l) (let-ok lim s l i) p e in
-            as i p u (step-bound-answered lim s l row p w l′ row′ (turn-bound-meets i u))
+            as-whose i p u (step-bound-answered lim s l row p w l′ row′ (turn-bound-meets i u))
 
         go : Door lim s l → Answered (TurnBoundRefused lim s l row) w
         go (away a) = a-refusal (as-turn (turn-away a))

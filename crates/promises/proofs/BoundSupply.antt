@@ -1,5 +1,5 @@
 -- Request 1, a supply: refused as the plain one, then for the row; else the plain one, and the variable that takes the binding is told. And what follows for all three calls.
-use mathlib.Core.Path.{_∙_, _≡_, refl, sym}
+use mathlib.Core.Path.{_∙_, _≡_, ap, refl, subst, sym}
 use mathlib.Core.Logic.{_≢_}
 use mathlib.Core.List.{[], _∷_, List}
 use Prim.Native.Nat.{_<_, _≤_, ℕ}
@@ -9,6 +9,7 @@ use borrow.Author.Tests.{eqb-false, eqb-true, leb-false, leb-true}
 use native.Mathlib.Omega.{arith}
 use Rattle.bound.proofs.Rows.{tell-fits, tell-short}
 use Rattle.bound.specs.Calls.{RowCall, supplyBoundCall, tellIn}
+use Rattle.bound_row.proofs.Rows.{bytes-length}
 use Rattle.bound_row.specs.Row.{boundBytes}
 use Rattle.capi.specs.Tells.{RowTells}
 use Rattle.entry.proofs.Held.{same-lent, tables-state}
@@ -23,35 +24,40 @@ use Rattle.parlog.specs.Load.{refusal}
 use Rattle.parlog.specs.Notions.{Leads, onward, unbound}
 use Rattle.parlog.specs.Numbers.{Numbers, refusedAs, word}
 use Rattle.parlog.specs.Program.{programOf}
-use Rattle.parlog.specs.Run.{made, supplied, Supplying}
-use Rattle.parlog.specs.Tables.{bindingOf, Lent, putTables, tablesIn}
+use Rattle.parlog.specs.Run.{supplied, Supplying}
+use Rattle.parlog.specs.Tables.{bindingOf, Lent, putTables, Tables, tablesIn}
 use Rattle.parlog.specs.declared.Binding.{Binding}
-use Rattle.parlog.specs.declared.Binding.the-variants.{Bound}
+use Rattle.parlog.specs.declared.Binding.the-variants.{Bound, Free}
 use Rattle.parlog.specs.declared.Supplied.{Supplied}
 use Rattle.parlog.specs.declared.Supplied.the-variants.{Given, Ungiven}
 use Rattle.parlog.specs.declared.Term.{Term}
-use Rattle.parlog.specs.declared.Term.the-variants.{Const, Var}
-use Rattle.promises.proofs.Bound.{demand-1-step-bound, demand-1-turn-bound, plain-step, plain-turn}
+use Rattle.parlog.specs.declared.Term.the-variants.{Var}
+use Rattle.promises.proofs.Bound.{demand-1-step-bound, demand-1-turn-bound, kept-of, plain-step, plain-turn, row-holds}
 use Rattle.promises.proofs.Demand1.{a-refusal, Answered, no-refusal, refuses-by, supply-as, supply-numbered, supply-refused}
 use Rattle.promises.proofs.Demand2.{demand-2-supply}
 use Rattle.promises.proofs.Entry.{away, Door, door, inside, let-ok}
 use Rattle.promises.proofs.Giving.{is-constant, is-taken, not-there, Offer, offer, supply-gives, too-large}
 use Rattle.promises.proofs.Newly.{supply-binds}
 use Rattle.promises.proofs.Words.{given-told}
-use Rattle.promises.specs.Bound.{as-supply, bytesFor, RefusingRow, StepBoundMeets, SupplyBoundMeets, SupplyBoundRefused, SupplyTold, SupplyUntold, TurnBoundMeets, untold-step, untold-supply, untold-turn}
+use Rattle.promises.specs.Bound.{as-supply, bytesFor, NewlyBound, RefusingRow, StepBoundMeets, SupplyBoundMeets, SupplyBoundRefused, SupplyTold, SupplyUntold, TurnBoundMeets, untold-step, untold-supply, untold-turn}
 use Rattle.promises.specs.Outcomes.{refusalIn, SupplyMeets}
 use Rattle.promises.specs.Reach.{Later, then-step, then-supply, then-turn}
 use Rattle.promises.specs.Refusals.{has-constant, LetIn, no-constant, no-variable, stateIn, supply-away, SupplyRefused}
-use Rattle.bound_row.proofs.Rows.{bytes-length}
 
 -- where a variable leads is no higher
-lower : (vs : List Binding) → Falling vs → {t : Term} {u : ℕ} → Leads vs t (Var u) → (v : ℕ) → t ≡ Var v → u ≤ v
-lower vs fall (unbound {w} e) v q = let z : w ≡ v = cc in omega arith
-lower vs fall (onward {w} {t} e d) v q = by t e d
+lower : (vs : List Binding) → Falling vs → {t : Term} {u : ℕ} → Leads vs t (Var u) → (x : ℕ) → t ≡ Var x → u ≤ x
+lower vs fall (unbound {v} e) x q = let z : v ≡ x = cc in omega arith
+lower vs fall {u = u} (onward {v} {t} e d) x q = by t e (λ j f. lower vs fall d j f) d
   where
-    by : (x : Term) → bindingOf vs w ≡ Bound x → Leads vs x (Var _) → _ ≤ v
-    by (Const k) b ()
-    by (Var j) b g = omega arith
+    by : (y : Term) → bindingOf vs v ≡ Bound y → ((j : ℕ) → y ≡ Var j → u ≤ j) → Leads vs y (Var u) → u ≤ x
+    by (Var j) b rec g = let z : v ≡ x = cc in let h = rec j refl in let f = fall v j b in omega arith
+
+-- one variable is bound
+given-newly : (l l′ : Lent) (u k : ℕ) → tablesIn l′ ≡ supplied (tablesIn l) u k → u < length (stateIn l .vars) → bindingOf (stateIn l .vars) u ≡ Free
+    → NewlyBound (stateIn l .vars) (stateIn l′ .vars) (u ∷ [])
+unfolding supplied
+given-newly l l′ u k e h f =
+    subst (λ (x : List Binding). NewlyBound (stateIn l .vars) x (u ∷ [])) (sym (ap (λ (t : Tables). t .state .vars) e)) (supply-binds (stateIn l .vars) u k h f)
 
 module _ (lim : Limits) (s : List ℕ) (l : Lent) (row : List ℕ) (v k : ℕ) where
   supply-plainly : {n o : ℕ} → SupplyRefused lim s l v k n o → supplyBoundCall lim s l row v k ≡ record { answer = Ungiven (refusal n o); lent = l; row = row }
@@ -148,7 +154,7 @@ module _ (lim : Limits) (s : List ℕ) (l : Lent) (row : List ℕ) (v k : ℕ) w
         let there : y .unbound < length vs = omega (arith, lower vs fall (y .value) v refl, h, state-facts lim (programOf s r c) (stateIn l) ok .goal) in
         record {
           supplies = y;
-          exactly = rw (y .tables .read) (unfold supplied in supply-binds vs (y .unbound) k there (y .free));
+          exactly = given-newly l l′ (y .unbound) k (y .tables .read) there (y .free);
           holds = rw q (row-holds row (u ∷ []) f (meets .contract .row ∙ rw e));
         }
 
@@ -178,22 +184,22 @@ module _ (lim : Limits) (s : List ℕ) (l : Lent) (row : List ℕ) {w w′ : ℕ
 
 -- ---- demand 3 reads on across them: what they leave is left by plain calls too
 
-module _ (lim : Limits) (s : List ℕ) {l m m′ : Lent} {row row′ : List ℕ} {w : ℕ} where
-  -- refused, or the plain call
-  later-by : (refusalIn w ≢ 0 → m′ ≡ m) → (refusalIn w ≡ 0 → Later lim s l m′) → Later lim s l m → Later lim s l m′
-  later-by kept made d = split (eqb (refusalIn w) 0) (λ e. made (eqb-true (refusalIn w) 0 e)) (λ e. rw (kept (eqb-false (refusalIn w) 0 e)) d)
+-- refused, or the plain call
+later-by : {lim : Limits} {s : List ℕ} {l m m′ : Lent} (w : ℕ) → (refusalIn w ≢ 0 → m′ ≡ m) → (refusalIn w ≡ 0 → Later lim s l m′) → Later lim s l m → Later lim s l m′
+later-by w kept done d = split (eqb (refusalIn w) 0) (λ e. done (eqb-true (refusalIn w) 0 e)) (λ e. rw (kept (eqb-false (refusalIn w) 0 e)) d)
 
+module _ (lim : Limits) (s : List ℕ) {l m m′ : Lent} {row row′ : List ℕ} {w : ℕ} where
   pub later-step-bound : {p : ℕ} → Later lim s l m → StepBoundMeets lim s m row p w m′ row′ → Later lim s l m′
   later-step-bound {p} d meets =
       let b = demand-1-step-bound lim s m row p w m′ row′ meets in
-      later-by (b .kept) (λ z. then-step p d (plain-step lim s m row p w m′ row′ meets (λ u. let g = b .by .given (untold-step u) .0 in absurd (omega arith)))) d
+      later-by w (b .kept) (λ z. then-step p d (plain-step lim s m row p w m′ row′ meets (λ u. let g = b .by .given (untold-step u) .0 in absurd (omega arith)))) d
 
   pub later-turn-bound : Later lim s l m → TurnBoundMeets lim s m row w m′ row′ → Later lim s l m′
   later-turn-bound d meets =
       let b = demand-1-turn-bound lim s m row w m′ row′ meets in
-      later-by (b .kept) (λ z. then-turn d (plain-turn lim s m row w m′ row′ meets (λ u. let g = b .by .given (untold-turn u) .0 in absurd (omega arith)))) d
+      later-by w (b .kept) (λ z. then-turn d (plain-turn lim s m row w m′ row′ meets (λ u. let g = b .by .given (untold-turn u) .0 in absurd (omega arith)))) d
 
   pub later-supply-bound : {v k : ℕ} → Later lim s l m → SupplyBoundMeets lim s m row v k w m′ row′ → Later lim s l m′
   later-supply-bound {v} {k} d meets =
       let b = demand-1-supply-bound lim s m row v k w m′ row′ meets in
-      later-by (b .kept) (λ z. then-supply v k d (plain-supply lim s m row v k w m′ row′ meets (λ u. let g = b .by .given (untold-supply u) .0 in absurd (omega arith)))) d
+      later-by w (b .kept) (λ z. then-supply v k d (plain-supply lim s m row v k w m′ row′ meets (λ u. let g = b .by .given (untold-supply u) .0 in absurd (omega arith)))) d

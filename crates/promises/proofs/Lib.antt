@@ -21,4 +21,4 @@ pub mod Apart
 pub mod Newly
 pub mod Bound
 pub mod BoundSupply
-pub mod BoundComputed
+pub mod Computed

@@ -7,29 +7,31 @@ use Prim.Native.Nat.{_<_, suc, zero, ℕ}
 use lib.Dec.{eqb, ltb}
 use lib.ListN.{length, replicate}
 use borrow.Author.Tests.{eqb-false, ltb-true}
+use native.Mathlib.Omega.{arith}
 use native.Mathlib.Nat.{add-zero, not-suc-le-zero}
 use Rattle.parlog.proofs.Bindings.{changeIn, changesIn}
 use Rattle.parlog.proofs.Bools.{and-true, never}
 use Rattle.parlog.proofs.Decided.{decide-binds, Tells}
 use Rattle.parlog.proofs.Good.{Good, state-good}
-use Rattle.parlog.proofs.Matched.{matches-sound}
+use Rattle.parlog.proofs.Matched.{matches-complete, matches-sound}
 use Rattle.parlog.proofs.Moves.{safe-rule}
-use Rattle.parlog.proofs.Placed.{literal-is}
+use Rattle.parlog.proofs.Placed.{literal-is, literal-only}
 use Rattle.parlog.proofs.Stays.{more-free}
+use Rattle.parlog.proofs.Unified.{unify-complete}
 use Rattle.parlog.proofs.Values.{Falling}
 use Rattle.parlog.specs.Codes.{and-par, and-seq, dormant, equate, failure, guard-eval, input-match, isTag, Mode, modeOf, or-par, or-search, ready, reporting, seq-search, starting, success, suspended, Tag, tagOf, try-clause, waiting}
 use Rattle.parlog.specs.Delta.{apply, Delta, reporting-with}
 use Rattle.parlog.specs.Limits.{Limits}
 use Rattle.parlog.specs.Notions.{me, Unifies}
 use Rattle.parlog.specs.Numbers.{ruleNumber}
-use Rattle.parlog.specs.Program.{argument, blockCount, callModes, clauseAt, Goal, goalAt, literalAt, Program}
-use Rattle.parlog.specs.Relation.{Equating, Matching}
+use Rattle.parlog.specs.Program.{argument, blockCount, callModes, clauseAt, Goal, goalAt, Literal, literalAt, Program}
+use Rattle.parlog.specs.Relation.{Equating, Matching, spotOf}
 use Rattle.parlog.specs.Rules.{andParStart, andParWait, andSeqStart, andSeqWait, Applied, by-rule, equateAt, equateStart, guardEvalStart, guardEvalWait, inputMatchStart, matchAt, no-rule, orParHeard, orParStart, orParWait, orSearchStart, orSearchWait, ruleIn, ruleOf, searching, seqSearchNext, seqSearchStart, seqSearchWait, startRule, stopRule, tryClauseStart, tryClauseWait, waitRule, wakeRule}
 use Rattle.parlog.specs.Sane.{allOf, Sane}
 use Rattle.parlog.specs.TableRules.{stateOk}
 use Rattle.parlog.specs.Tables.{bindingOf, noted, State}
 use Rattle.parlog.specs.Tree.{allChildren, anyChild, bad, enclosing, firstOf, good, Heard, heard, lowestChild, silent}
-use Rattle.parlog.specs.Unify.{binds, change, changed, decide, Decided, equateOf, fails, inputValue, matchOf, pairsOf, shift, someBound, suspends}
+use Rattle.parlog.specs.Unify.{binds, bound, change, changed, decide, Decided, equateOf, fails, inputValue, matchOf, pairsOf, shift, someBound, suspends}
 use Rattle.parlog.specs.declared.Binding.{Binding}
 use Rattle.parlog.specs.declared.Binding.the-variants.{Free}
 use Rattle.parlog.specs.declared.Change.{Change}
@@ -214,6 +216,37 @@ module _ (pr : Program) (s : State) (g : Good s) (p : ℕ) where
   lists : Lists pr s p (ruleOf pr s p)
   unfolding ruleOf
   lists = lists-mode (modeOf (x .mode))
+
+-- ---- what a move binds is one list
+
+module _ (pr : Program) (s : State) (g : Good s) (p : ℕ) where
+  pairs-only : {call call′ : Literal} {es fs : List Pair} → Matching pr s p call es → Matching pr s p call′ fs → es ≡ fs
+  pairs-only {call} {call′} a b =
+      let q : call ≡ call′ = sym (literal-only pr (spotOf s p) (a .literal)) ∙ literal-only pr (spotOf s p) (b .literal) in
+      sym (matches-complete (a .pairs)) ∙ rw q (matches-complete (b .pairs))
+
+  sides-only : {e f : Pair} → Equating pr s p e → Equating pr s p f → e ≡ f
+  sides-only {e} {f} a b =
+      let q : a .call ≡ b .call = sym (literal-only pr (spotOf s p) (a .literal)) ∙ literal-only pr (spotOf s p) (b .literal) in
+      let x : e .left ≡ f .left = a .left ∙ rw q (sym (b .left)) in
+      let y : e .right ≡ f .right = a .right ∙ rw q (sym (b .right)) in
+      λ i. record { left = x i; right = y i }
+
+  unified-only : {es fs : List Pair} {cs ds : List Change} → es ≡ fs → Unifies (s .vars) es cs → Unifies (s .vars) fs ds → cs ≡ ds
+  unified-only {es} {fs} {cs} {ds} q u w =
+      let z : bound cs ≡ bound ds = sym (unify-complete (s .vars) (g .falls) u) ∙ rw q (unify-complete (s .vars) (g .falls) w) in
+      cc
+
+  pub binds-once : {m : Move} {cs ds : List Change} → BindsBy pr s p m cs → BindsBy pr s p m ds → cs ≡ ds
+  binds-once (by-match n i u) (by-match k j w) = unified-only (pairs-only i j) u w
+  binds-once (by-match n i u) (by-equate k j w) = absurd (omega (arith, n, k))
+  binds-once (by-match n i u) (by-none a b) = absurd (a n)
+  binds-once (by-equate n i u) (by-match k j w) = absurd (omega (arith, n, k))
+  binds-once (by-equate n i u) (by-equate k j w) = unified-only (rw (sides-only i j)) u w
+  binds-once (by-equate n i u) (by-none a b) = absurd (b n)
+  binds-once (by-none a b) (by-match k j w) = absurd (a k)
+  binds-once (by-none a b) (by-equate k j w) = absurd (b k)
+  binds-once (by-none a b) (by-none c d) = refl
 
 -- ---- a move
 

@@ -4,7 +4,6 @@ use mathlib.Core.Logic.{_≢_}
 use mathlib.Core.List.{[], _++_, _∷_, List}
 use Prim.Native.Nat.{_*_, _+_, _<_, _≤_, ℕ}
 use lib.ListN.{drop, getD, length}
-use Rattle.bound.specs.Calls.{stepBinds}
 use Rattle.bound_row.specs.Row.{boundBytes}
 use Rattle.capi.specs.Tells.{StepBoundTells, SupplyBoundTells, TurnBoundTells}
 use Rattle.parlog.specs.Limits.{Limits}
@@ -38,6 +37,27 @@ pub record TurnBoundMeets (lim : Limits) (s : List ℕ) (l : Lent) (row : List �
 pub record SupplyBoundMeets (lim : Limits) (s : List ℕ) (l : Lent) (row : List ℕ) (v k w : ℕ) (l′ : Lent) (row′ : List ℕ) : Type 0 where
   pub contract : SupplyBoundTells lim s l row v k w (l′ .head) (l′ .procs) (l′ .vars) row′
 
+-- ---- what is bound
+
+-- v stands in the list
+pub record Among (told : List ℕ) (v : ℕ) : Type 0 where
+  pub which : ℕ
+  pub there : which < length told
+  pub is : getD told which 0 ≡ v
+
+-- Bound 2: told are exactly the variables unbound before and bound after, each once
+pub record NewlyBound (before after : List Binding) (told : List ℕ) : Type 0 where
+  pub free : (i : ℕ) → i < length told → bindingOf before (getD told i 0) ≡ Free
+  pub bound : (i : ℕ) → i < length told → bindingOf after (getD told i 0) ≢ Free
+  pub all : (v : ℕ) → bindingOf before v ≡ Free → bindingOf after v ≢ Free → Among told v
+  pub once : (i j : ℕ) → i < j → j < length told → getD told i 0 ≢ getD told j 0
+
+-- Bound 1, 2: what the move m binds, in order: where an input-match or an equate succeeds what its unifier binds, else nothing
+pub data BindsBy (pr : Program) (s : State) (p : ℕ) (m : Move) : List Change → Type 0 where
+  by-match : {call : Literal} {es : List Pair} {cs : List Change} → ruleNumber m ≡ 26 → Matching pr s p call es → Unifies (s .vars) es cs → BindsBy pr s p m cs
+  by-equate : {e : Pair} {cs : List Change} → ruleNumber m ≡ 33 → Equating pr s p e → Unifies (s .vars) (e ∷ []) cs → BindsBy pr s p m cs
+  by-none : ruleNumber m ≢ 26 → ruleNumber m ≢ 33 → BindsBy pr s p m []
+
 -- ---- refusals: those of the plain call, then 11 for the row
 
 -- Bound 4: the bytes that tell n variables
@@ -53,7 +73,9 @@ pub record StepUntold (lim : Limits) (s : List ℕ) (l : Lent) (row : List ℕ) 
   pub after : State
   pub holds : Rule (programOf s relations clauses) (stateIn l) p rule after
   pub fits : Fits lim after
-  pub short : length row < bytesFor (length (stepBinds (programOf s relations clauses) (tablesIn l) p))
+  pub changes : List Change
+  pub binds : BindsBy (programOf s relations clauses) (stateIn l) p rule changes
+  pub short : length row < bytesFor (length changes)
 
 -- Bound 5: the same of the process whose turn it is
 pub record TurnUntold (lim : Limits) (s : List ℕ) (l : Lent) (row : List ℕ) : Type 0 where
@@ -94,25 +116,6 @@ pub record RefusingRow (Why : ℕ → ℕ → Type 0) (l : Lent) (row : List ℕ
   pub row-kept : refusalIn w ≢ 0 → row′ ≡ row
 
 -- ---- what is told
-
--- v stands in the list
-pub record Among (told : List ℕ) (v : ℕ) : Type 0 where
-  pub which : ℕ
-  pub there : which < length told
-  pub is : getD told which 0 ≡ v
-
--- Bound 2: told are exactly the variables unbound before and bound after, each once
-pub record NewlyBound (before after : List Binding) (told : List ℕ) : Type 0 where
-  pub free : (i : ℕ) → i < length told → bindingOf before (getD told i 0) ≡ Free
-  pub bound : (i : ℕ) → i < length told → bindingOf after (getD told i 0) ≢ Free
-  pub all : (v : ℕ) → bindingOf before v ≡ Free → bindingOf after v ≢ Free → Among told v
-  pub once : (i j : ℕ) → i < j → j < length told → getD told i 0 ≢ getD told j 0
-
--- Bound 1, 2: what the move m binds, in order: where an input-match or an equate succeeds what its unifier binds, else nothing
-pub data BindsBy (pr : Program) (s : State) (p : ℕ) (m : Move) : List Change → Type 0 where
-  by-match : {call : Literal} {es : List Pair} {cs : List Change} → ruleNumber m ≡ 26 → Matching pr s p call es → Unifies (s .vars) es cs → BindsBy pr s p m cs
-  by-equate : {e : Pair} {cs : List Change} → ruleNumber m ≡ 33 → Equating pr s p e → Unifies (s .vars) (e ∷ []) cs → BindsBy pr s p m cs
-  by-none : ruleNumber m ≢ 26 → ruleNumber m ≢ 33 → BindsBy pr s p m []
 
 -- Bound 4: the row holds these variables, and behind them what it held
 pub record RowHolds (row : List ℕ) (told : List ℕ) (row′ : List ℕ) : Type 0 where
