@@ -85,7 +85,7 @@ module _ (ps : List Process) (n : ℕ) (en : length ps ≡ n) where
         unfolding AllNoted
         hears u l si sa la lo b c e = (b, c, rw e (noted-child ps up q (noteIn silent said latest lowest up) (so up l .2) (child-is u up ∙ eq-eqb up up refl)))
 
-        module _ (u : up < q) (most : n ≤ 512) (a : length silent ≡ 512) (b : length said ≡ 512) (c : length latest ≡ 512) (d : length lowest ≡ 512) {f : ℕ} (ef : f ≡ noteOf (at ps q)) where
+        module _ (u : up < q) {k : ℕ} (most : n ≤ k) (a : length silent ≡ k) (b : length said ≡ k) (c : length latest ≡ k) (d : length lowest ≡ k) {f : ℕ} (ef : f ≡ noteOf (at ps q)) where
           hears-silent : f ≡ silentBit → AllNoted ps n q (set silent up silentBit) said latest lowest
           unfolding AllNoted
           hears-silent e p l = split (eqb up p)
@@ -100,7 +100,7 @@ module _ (ps : List Process) (n : ℕ) (en : length ps ≡ n) where
                   let w = so up (omega arith) in
                   rw (← ef, e, same, half-silent (getD silent up 0) (getD said up 0) (w .0) (w .1), and-comm (eqb (saidIn silent said up) 0) false)
 
-          pub all-silent : f ≡ silentBit → (length (set silent up silentBit) ≡ 512) × (length said ≡ 512) × (length latest ≡ 512) × (length lowest ≡ 512) × AllNoted ps n q (set silent up silentBit) said latest lowest
+          pub all-silent : f ≡ silentBit → (length (set silent up silentBit) ≡ k) × (length said ≡ k) × (length latest ≡ k) × (length lowest ≡ k) × AllNoted ps n q (set silent up silentBit) said latest lowest
           all-silent e = (length-set silent up silentBit ∙ a, b, c, d, hears-silent e)
 
           hears-told : (f ≡ silentBit → ⊥) → {sa la lo : List ℕ} → sa ≡ set said up (hear (saidIn silent said up) f) → la ≡ kept (eqb (saidIn silent said up) 0) latest up q → lo ≡ kept (eqb f goodNote) lowest up q
@@ -125,7 +125,7 @@ module _ (ps : List Process) (n : ℕ) (en : length ps ≡ n) where
                   rw (← ef, same, whole, el, eo, kept-same (eqb (saidIn silent said up) 0) latest up q (omega arith), kept-same (eqb f goodNote) lowest up q (omega arith), ne-eqb f silentBit ne, and-comm (eqb (saidIn silent said up) 0) true)
 
           pub all-told : (f ≡ silentBit → ⊥) → {sa la lo : List ℕ} → sa ≡ set said up (hear (saidIn silent said up) f) → la ≡ kept (eqb (saidIn silent said up) 0) latest up q → lo ≡ kept (eqb f goodNote) lowest up q
-              → (length silent ≡ 512) × (length sa ≡ 512) × (length la ≡ 512) × (length lo ≡ 512) × AllNoted ps n q silent sa la lo
+              → (length silent ≡ k) × (length sa ≡ k) × (length la ≡ k) × (length lo ≡ k) × AllNoted ps n q silent sa la lo
           all-told ne es el eo = (
             a,
             ap length es ∙ length-set said up (hear (saidIn silent said up) f) ∙ b,

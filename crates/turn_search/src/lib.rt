@@ -160,14 +160,15 @@ fn hear_told(
 fn hear_row(
     procs: &[u8],
     n: usize,
+    w: usize,
     silent: &mut [u8],
     said: &mut [u8],
     latest: &mut [u16],
     lowest: &mut [u16],
     q: usize,
 )
-    requires { ⌜ (n * rowSize ≤ length (now procs)) × (n ≤ 512) × (q < n) × Falls (procsOf (now procs) n) × (length (now silent) ≡ 512) × (length (now said) ≡ 512) × (length (now latest) ≡ 512) × (length (now lowest) ≡ 512) × AllNoted (procsOf (now procs) n) n (suc q) (now silent) (now said) (now latest) (now lowest) ⌝ }
-    ensures { λ _. ⌜ (length (now (silent .exit)) ≡ 512) × (length (now (said .exit)) ≡ 512) × (length (now (latest .exit)) ≡ 512) × (length (now (lowest .exit)) ≡ 512) × AllNoted (procsOf (now (procs .entry)) n) n q (now (silent .exit)) (now (said .exit)) (now (latest .exit)) (now (lowest .exit)) ⌝ }
+    requires { ⌜ (n * rowSize ≤ length (now procs)) × (n ≤ w) × (q < n) × Falls (procsOf (now procs) n) × (length (now silent) ≡ w) × (length (now said) ≡ w) × (length (now latest) ≡ w) × (length (now lowest) ≡ w) × AllNoted (procsOf (now procs) n) n (suc q) (now silent) (now said) (now latest) (now lowest) × (w ≤ 512) ⌝ }
+    ensures { λ _. ⌜ (length (now (silent .exit)) ≡ w) × (length (now (said .exit)) ≡ w) × (length (now (latest .exit)) ≡ w) × (length (now (lowest .exit)) ≡ w) × AllNoted (procsOf (now (procs .entry)) n) n q (now (silent .exit)) (now (said .exit)) (now (latest .exit)) (now (lowest .exit)) ⌝ }
 {
     let up = rows::parent_at(procs, n, q) as usize;
     if up < q {
@@ -209,13 +210,14 @@ fn pass(
     vars: &[u8],
     m: usize,
     last: usize,
+    w: usize,
     silent: &mut [u8],
     said: &mut [u8],
     latest: &mut [u16],
     lowest: &mut [u16],
 ) -> Found
-    requires { ⌜ (n * rowSize ≤ length (now procs)) × (n ≤ 512) × (m * cellSize ≤ length (now vars)) × Falls (procsOf (now procs) n) × (length (now silent) ≡ 512) × (length (now said) ≡ 512) × (length (now latest) ≡ 512) × (length (now lowest) ≡ 512) × AllNoted (procsOf (now procs) n) n n (now silent) (now said) (now latest) (now lowest) ⌝ }
-    ensures { λ r. ⌜ ((pr : Program) → r ≡ turnOf (canMove pr (stateIn (now (procs .entry)) n (now (vars .entry)) m)) n last) × (length (now (silent .exit)) ≡ 512) × (length (now (said .exit)) ≡ 512) × (length (now (latest .exit)) ≡ 512) × (length (now (lowest .exit)) ≡ 512) × AllNoted (procsOf (now (procs .entry)) n) n 0 (now (silent .exit)) (now (said .exit)) (now (latest .exit)) (now (lowest .exit)) ⌝ }
+    requires { ⌜ (n * rowSize ≤ length (now procs)) × (n ≤ w) × (m * cellSize ≤ length (now vars)) × Falls (procsOf (now procs) n) × (length (now silent) ≡ w) × (length (now said) ≡ w) × (length (now latest) ≡ w) × (length (now lowest) ≡ w) × AllNoted (procsOf (now procs) n) n n (now silent) (now said) (now latest) (now lowest) × (w ≤ 512) ⌝ }
+    ensures { λ r. ⌜ ((pr : Program) → r ≡ turnOf (canMove pr (stateIn (now (procs .entry)) n (now (vars .entry)) m)) n last) × (length (now (silent .exit)) ≡ w) × (length (now (said .exit)) ≡ w) × (length (now (latest .exit)) ≡ w) × (length (now (lowest .exit)) ≡ w) × AllNoted (procsOf (now (procs .entry)) n) n 0 (now (silent .exit)) (now (said .exit)) (now (latest .exit)) (now (lowest .exit)) ⌝ }
 {
     let mut behind = n;
     let mut round = n;
@@ -227,7 +229,7 @@ fn pass(
         let near = found(can, q, behind);
         behind = found(last < q, near, behind);
         round = found(can, q, round);
-        hear_row(procs, n, silent, said, latest, lowest, q);
+        hear_row(procs, n, w, silent, said, latest, lowest, q);
     }
     first_below(n, behind, round)
 }
@@ -236,13 +238,14 @@ fn pass(
 fn told_of(
     procs: &[u8],
     n: usize,
+    w: usize,
     silent: &[u8],
     said: &[u8],
     latest: &[u16],
     lowest: &[u16],
     who: Found,
 ) -> Told
-    requires { ⌜ (n * rowSize ≤ length (now procs)) × (n ≤ 512) × (length (now silent) ≡ 512) × (length (now said) ≡ 512) × (length (now latest) ≡ 512) × (length (now lowest) ≡ 512) × AllNoted (procsOf (now procs) n) n 0 (now silent) (now said) (now latest) (now lowest) × ((p : ℕ) → who ≡ At p → p < n) ⌝ }
+    requires { ⌜ (n * rowSize ≤ length (now procs)) × (n ≤ w) × (length (now silent) ≡ w) × (length (now said) ≡ w) × (length (now latest) ≡ w) × (length (now lowest) ≡ w) × AllNoted (procsOf (now procs) n) n 0 (now silent) (now said) (now latest) (now lowest) × ((p : ℕ) → who ≡ At p → p < n) × (w ≤ 512) ⌝ }
     ensures { λ r. ⌜ ((p : ℕ) → who ≡ At p → Tells (procsOf (now (procs .entry)) n) p r) ⌝ }
 {
     let Found::At(p) = who else {
@@ -252,8 +255,39 @@ fn told_of(
     children::told_by(procs, n, x)
 }
 
-// The next process behind the last that can move, coming round to the last itself, and what its children report.
-pub fn next(procs: &[u8], n: usize, vars: &[u8], m: usize, last: usize) -> Turn
+// Up to so many rows the notes take little room, which is soon set to zero.
+const FEW: usize = 64;
+
+// The same as `next`, for few rows.
+fn next_few(procs: &[u8], n: usize, vars: &[u8], m: usize, last: usize) -> Turn
+    requires { ⌜ (n * rowSize ≤ length (now procs)) × (n ≤ 64) × (m * cellSize ≤ length (now vars)) × Falls (procsOf (now procs) n) × (last < n) ⌝ }
+    ensures { λ r. ⌜ ((pr : Program) → r .who ≡ turnOf (canMove pr (stateIn (now (procs .entry)) n (now (vars .entry)) m)) n last) × ((p : ℕ) → r .who ≡ At p → Tells (procsOf (now (procs .entry)) n) p (r .told)) ⌝ }
+{
+    let mut silent = [0u8; FEW];
+    let mut said = [0u8; FEW];
+    let mut latest = [0u16; FEW];
+    let mut lowest = [0u16; FEW];
+    let who = pass(
+        procs,
+        n,
+        vars,
+        m,
+        last,
+        FEW,
+        &mut silent,
+        &mut said,
+        &mut latest,
+        &mut lowest,
+    );
+    let told = told_of(procs, n, FEW, &silent, &said, &latest, &lowest, who);
+    Turn {
+        who: who,
+        told: told,
+    }
+}
+
+// The same, for as many as there can be.
+fn next_many(procs: &[u8], n: usize, vars: &[u8], m: usize, last: usize) -> Turn
     requires { ⌜ (n * rowSize ≤ length (now procs)) × (n ≤ 512) × (m * cellSize ≤ length (now vars)) × Falls (procsOf (now procs) n) × (last < n) ⌝ }
     ensures { λ r. ⌜ ((pr : Program) → r .who ≡ turnOf (canMove pr (stateIn (now (procs .entry)) n (now (vars .entry)) m)) n last) × ((p : ℕ) → r .who ≡ At p → Tells (procsOf (now (procs .entry)) n) p (r .told)) ⌝ }
 {
@@ -267,14 +301,35 @@ pub fn next(procs: &[u8], n: usize, vars: &[u8], m: usize, last: usize) -> Turn
         vars,
         m,
         last,
+        codes::MOST_PROCS,
         &mut silent,
         &mut said,
         &mut latest,
         &mut lowest,
     );
-    let told = told_of(procs, n, &silent, &said, &latest, &lowest, who);
+    let told = told_of(
+        procs,
+        n,
+        codes::MOST_PROCS,
+        &silent,
+        &said,
+        &latest,
+        &lowest,
+        who,
+    );
     Turn {
         who: who,
         told: told,
     }
+}
+
+// The next process behind the last that can move, coming round to the last itself, and what its children report.
+pub fn next(procs: &[u8], n: usize, vars: &[u8], m: usize, last: usize) -> Turn
+    requires { ⌜ (n * rowSize ≤ length (now procs)) × (n ≤ 512) × (m * cellSize ≤ length (now vars)) × Falls (procsOf (now procs) n) × (last < n) ⌝ }
+    ensures { λ r. ⌜ ((pr : Program) → r .who ≡ turnOf (canMove pr (stateIn (now (procs .entry)) n (now (vars .entry)) m)) n last) × ((p : ℕ) → r .who ≡ At p → Tells (procsOf (now (procs .entry)) n) p (r .told)) ⌝ }
+{
+    if n <= FEW {
+        return next_few(procs, n, vars, m, last);
+    }
+    next_many(procs, n, vars, m, last)
 }

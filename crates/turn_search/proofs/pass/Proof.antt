@@ -13,10 +13,10 @@ use Rattle.turn_search.proofs.pass.Statement.{statement}
 use Rattle.turn_search.proofs.pass.Tie as tie
 
 abbrev Inv-loop : tie.InvT-loop
-Inv-loop procs n vars m last silent₀ said₀ latest₀ lowest₀ behind₀ round₀ q₀ silent said latest lowest behind round q = (q ≤ n) × (length silent ≡ 512) × (length said ≡ 512) × (length latest ≡ 512) × (length lowest ≡ 512) × AllNoted (procsOf procs n) n q silent said latest lowest × Swept (stateIn procs n vars m) n last q behind round
+Inv-loop procs n vars m last w silent₀ said₀ latest₀ lowest₀ behind₀ round₀ q₀ silent said latest lowest behind round q = (q ≤ n) × (length silent ≡ w) × (length said ≡ w) × (length latest ≡ w) × (length lowest ≡ w) × AllNoted (procsOf procs n) n q silent said latest lowest × Swept (stateIn procs n vars m) n last q behind round
 
 abbrev μ-loop : tie.MeasureT-loop
-μ-loop procs n vars m last silent₀ said₀ latest₀ lowest₀ behind₀ round₀ q₀ silent said latest lowest behind round q = q
+μ-loop procs n vars m last w silent₀ said₀ latest₀ lowest₀ behind₀ round₀ q₀ silent said latest lowest behind round q = q
 
 pub pass-spec : {M : Type 1} → statement M
 pass-spec =
@@ -34,7 +34,7 @@ pass-spec =
     (λ c κs. tt)
     (λ c κs. tt)
     (λ c κs. let s = (c .before .before .before .before .before .before .before .before .before .before .before .loop .inv) in
-    ((c .before .before .before .before .before .before .before .before .before .before .before .before .before .before .before .before .before .before .pre .0), (c .before .before .before .before .before .before .before .before .before .before .before .before .before .before .before .before .before .before .pre .1), omega arith, (c .before .before .before .before .before .before .before .before .before .before .before .before .before .before .before .before .before .before .pre .3), s .1, s .2, s .3, s .4, all-less _ _ _ _ _ _ _ (omega arith) (s .5)))
+    ((c .before .before .before .before .before .before .before .before .before .before .before .before .before .before .before .before .before .before .pre .0), (c .before .before .before .before .before .before .before .before .before .before .before .before .before .before .before .before .before .before .pre .1), omega arith, (c .before .before .before .before .before .before .before .before .before .before .before .before .before .before .before .before .before .before .pre .3), s .1, s .2, s .3, s .4, all-less _ _ _ _ _ _ _ (omega arith) (s .5), (c .before .before .before .before .before .before .before .before .before .before .before .before .before .before .before .before .before .before .pre .9)))
     (λ c. omega arith)
     (λ c. let u = c .before .before .before .before .before .before .before .before in
     let f = u .before .before .before .before .before in
