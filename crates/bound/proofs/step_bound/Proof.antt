@@ -24,11 +24,26 @@ step-bound-spec =
     (λ c. search needs)
     (λ c. search needs)
     (λ c. search needs)
-    (λ c. step-nobody _ _ _ _ (c .before .before .before .before .before .before .before .enter .ensures) (c .before .before .before .before .before .e .given .1) _ (c .before .before .proc-count .ensures .0) (c .before .if1 .taken) (c .refusal2 .ensures))
-    (λ c κs. let i = inside-of _ _ _ (c .before .before .before .before .before .before .before .enter .ensures) (c .before .before .before .before .before .e .given .1) in let en = (c .before .before .proc-count .ensures) in (omega (arith, i .rows, en .0), en .1))
-    (λ c κs. let i = inside-of _ _ _ (c .before .before .before .before .before .before .before .before .before .before .before .before .enter .ensures) (c .before .before .before .before .before .before .before .before .before .before .e .given .1) in let en = (c .before .before .before .before .before .before .before .proc-count .ensures .0) in (i, omega (arith, en, (c .before .before .before .before .before .before .if1 .left)), told-of _ _ (sym en) (c .before .before .before .before .ask .ensures)))
+    (λ c. let c1 = c .before in
+    let c2 = c1 .before in
+    let c3 = c2 .before .before .before in
+    let c4 = c3 .before .before in
+    step-nobody _ _ _ _ (c4 .enter .ensures) (c3 .e .given .1) _ (c2 .proc-count .ensures .0) (c1 .if1 .taken) (c .refusal2 .ensures))
+    (λ c κs. let c1 = c .before .before in
+    let c2 = c1 .before .before .before in
+    let c3 = c2 .before .before in
+    let i = inside-of _ _ _ (c3 .enter .ensures) (c2 .e .given .1) in let en = (c1 .proc-count .ensures) in (omega (arith, i .rows, en .0), en .1))
+    (λ c κs. let c1 = c .before .before .before .before in
+    let c2 = c1 .before .before in
+    let c3 = c2 .before in
+    let c4 = c3 .before .before .before in
+    let c5 = c4 .before .before in
+    let i = inside-of _ _ _ (c5 .enter .ensures) (c4 .e .given .1) in let en = (c3 .proc-count .ensures .0) in (i, omega (arith, en, (c2 .if1 .left)), told-of _ _ (sym en) (c1 .ask .ensures)))
     (λ c. search needs)
     (λ c. search needs)
     (λ c. search needs)
     (λ c. search needs)
-    (λ c. step-done _ _ _ _ (c .before .before .before .before .before .before .before .before .before .before .before .before .before .before .before .before .before .before .before .before .before .enter .ensures) (c .before .before .before .before .before .before .before .before .before .before .before .before .before .before .before .before .before .before .before .e .given .1) _ (c .before .before .before .before .before .before .before .before .step-in .ensures)))
+    (λ c. let c1 = c .before .before .before .before .before .before .before .before in
+    let c2 = c1 .before .before .before .before .before .before .before .before .before .before .before in
+    let c3 = c2 .before .before in
+    step-done _ _ _ _ (c3 .enter .ensures) (c2 .e .given .1) _ (c1 .step-in .ensures)))

@@ -21,4 +21,7 @@ turn-bound-spec =
     (λ c. search needs)
     (λ c. search needs)
     (λ c. search needs)
-    (λ c. turn-done _ _ _ _ (c .before .before .before .before .before .before .before .before .before .before .before .before .before .before .before .before .enter .ensures) (c .before .before .before .before .before .before .before .before .before .before .before .before .before .before .e .given .1) (c .before .before .before .before .before .before .before .before .turn-in .ensures)))
+    (λ c. let c1 = c .before .before .before .before .before .before .before .before in
+    let c2 = c1 .before .before .before .before .before .before in
+    let c3 = c2 .before .before in
+    turn-done _ _ _ _ (c3 .enter .ensures) (c2 .e .given .1) (c1 .turn-in .ensures)))

@@ -16,9 +16,15 @@ turn-in-spec =
     (λ c. search needs)
     (λ c. search needs)
     (λ c. turn-none _ _ _ _ _ _ (c .before .before .before .whose .ensures .who) (c .before .enum-told .given .1) (c .refusal .ensures))
-    (λ c κs. ((c .before .before .before .before .before .before .before .before .before .before .before .before .before .before .before .before .pre), turn-below _ (c .before .before .before .before .before .before .before .whose .ensures .who) (c .before .before .before .before .before .f .given .1), λ w. (c .before .before .before .before .before .before .before .whose .ensures .told) _ (c .before .before .before .before .before .f .given .1)))
+    (λ c κs. let c1 = c .before .before .before .before .before in
+    let c2 = c1 .before .before in
+    let c3 = c2 .before .before .before .before .before .before .before .before .before in
+    ((c3 .pre), turn-below _ (c2 .whose .ensures .who) (c1 .f .given .1), λ w. (c2 .whose .ensures .told) _ (c1 .f .given .1)))
     (λ c. search needs)
     (λ c. search needs)
     (λ c. search needs)
     (λ c. search needs)
-    (λ c. turn-some _ _ _ _ _ _ (c .before .before .before .before .before .before .before .before .before .before .before .before .before .before .before .before .whose .ensures .who) (c .before .before .before .before .before .before .before .before .before .before .before .before .before .before .f .given .1) (c .before .before .before .before .before .before .before .before .step-in .ensures)))
+    (λ c. let c1 = c .before .before .before .before .before .before .before .before in
+    let c2 = c1 .before .before .before .before .before .before in
+    let c3 = c2 .before .before in
+    turn-some _ _ _ _ _ _ (c3 .whose .ensures .who) (c2 .f .given .1) (c1 .step-in .ensures)))
