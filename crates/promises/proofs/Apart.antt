@@ -10,6 +10,7 @@ use native.Mathlib.Omega.{arith}
 use native.Mathlib.Nat.{le-of-suc-le-suc, not-suc-le-zero}
 use Rattle.parlog.proofs.Bools.{split}
 use Rattle.parlog.proofs.Changing.{changed-is, changed-only}
+use Rattle.parlog.specs.Listed.{Among, at-head, further}
 use Rattle.parlog.specs.Notions.{all-done, Changed, higher-left, higher-right, Leads, Meets, one-done, onward, same-constant, same-variable, to-left, to-right, unbound, Unifies}
 use Rattle.parlog.specs.Tables.{bindingOf}
 use Rattle.parlog.specs.Unify.{changed}
@@ -19,7 +20,7 @@ use Rattle.parlog.specs.declared.Change.{Change}
 use Rattle.parlog.specs.declared.Pair.{Pair}
 use Rattle.parlog.specs.declared.Term.{Term}
 use Rattle.parlog.specs.declared.Term.the-variants.{Var}
-use Rattle.promises.specs.Bound.{Among, NewlyBound}
+use Rattle.promises.specs.Bound.{NewlyBound}
 use Rattle.unify.specs.Pending.{noChange, varsBound}
 
 -- the variables of changes are below n
@@ -109,15 +110,15 @@ apart-once vs (c ∷ cs) x (suc i) (suc j) l h = apart-once vs cs (x .2) i j (le
 
 -- v is changed, or it is not
 data Sought (cs : List Change) (v : ℕ) : Type 0 where
-  is-there : (i : ℕ) → i < length cs → getD cs i noChange .var ≡ v → Sought cs v
+  is-there : Among v (varsBound cs) → Sought cs v
   is-not : ((i : ℕ) → i < length cs → getD cs i noChange .var ≢ v) → Sought cs v
 
 sought : (cs : List Change) (v : ℕ) → Sought cs v
 sought [] v = is-not (λ i h. absurd (not-suc-le-zero h))
-sought (c ∷ cs) v = split (eqb (c .var) v) (λ e. is-there 0 (omega arith) (eqb-true (c .var) v e)) (λ e. later (eqb-false (c .var) v e) (sought cs v))
+sought (c ∷ cs) v = split (eqb (c .var) v) (λ e. is-there (rw (eqb-true (c .var) v e) at-head)) (λ e. later (eqb-false (c .var) v e) (sought cs v))
   where
     later : c .var ≢ v → Sought cs v → Sought (c ∷ cs) v
-    later n (is-there i h e) = is-there (suc i) (omega arith) e
+    later n (is-there a) = is-there (further a)
     later n (is-not f) = is-not (among n f)
       where
         among : c .var ≢ v → ((i : ℕ) → i < length cs → getD cs i noChange .var ≢ v) → (i : ℕ) → i < length (c ∷ cs) → getD (c ∷ cs) i noChange .var ≢ v
@@ -142,6 +143,6 @@ module _ (vs : List Binding) (cs : List Change) (u : Under (length vs) cs) (x : 
     once = λ i j l h e. apart-once vs cs x i j l (rw many at h) (sym (at-var j) ∙ sym e ∙ at-var i);
   }
     where
-      found : (v : ℕ) → bindingOf vs v ≡ Free → bindingOf (changed vs cs) v ≢ Free → Sought cs v → Among (varsBound cs) v
-      found v f b (is-there i h e) = record { which = i; there = rw many h; is = at-var i ∙ e }
+      found : (v : ℕ) → bindingOf vs v ≡ Free → bindingOf (changed vs cs) v ≢ Free → Sought cs v → Among v (varsBound cs)
+      found v f b (is-there a) = a
       found v f b (is-not n) = absurd (b (changed-is vs cs .kept v n ∙ f))

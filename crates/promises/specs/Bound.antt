@@ -7,6 +7,7 @@ use lib.ListN.{drop, getD, length}
 use Rattle.bound_row.specs.Row.{boundBytes}
 use Rattle.capi.specs.Tells.{StepBoundTells, SupplyBoundTells, TurnBoundTells}
 use Rattle.parlog.specs.Limits.{Limits}
+use Rattle.parlog.specs.Listed.{Among}
 use Rattle.parlog.specs.Notions.{Leads, Unifies}
 use Rattle.parlog.specs.Numbers.{ruleNumber}
 use Rattle.parlog.specs.Program.{Literal, Program, programOf}
@@ -39,20 +40,14 @@ pub record SupplyBoundMeets (lim : Limits) (s : List ℕ) (l : Lent) (row : List
 
 -- ---- what is bound
 
--- v stands in the list
-pub record Among (told : List ℕ) (v : ℕ) : Type 0 where
-  pub which : ℕ
-  pub there : which < length told
-  pub is : getD told which 0 ≡ v
-
 -- Bound 2: told are exactly the variables unbound before and bound after, each once
 pub record NewlyBound (before after : List Binding) (told : List ℕ) : Type 0 where
   pub free : (i : ℕ) → i < length told → bindingOf before (getD told i 0) ≡ Free
   pub bound : (i : ℕ) → i < length told → bindingOf after (getD told i 0) ≢ Free
-  pub all : (v : ℕ) → bindingOf before v ≡ Free → bindingOf after v ≢ Free → Among told v
+  pub all : (v : ℕ) → bindingOf before v ≡ Free → bindingOf after v ≢ Free → Among v told
   pub once : (i j : ℕ) → i < j → j < length told → getD told i 0 ≢ getD told j 0
 
--- Bound 1, 2: what the move m binds, in order: where an input-match or an equate succeeds what its unifier binds, else nothing
+-- Bound 1, 2: what the move m binds, in order: where an input-match (rule 26) or an equate (rule 33) succeeds what its unifier binds, else nothing
 pub data BindsBy (pr : Program) (s : State) (p : ℕ) (m : Move) : List Change → Type 0 where
   by-match : {call : Literal} {es : List Pair} {cs : List Change} → ruleNumber m ≡ 26 → Matching pr s p call es → Unifies (s .vars) es cs → BindsBy pr s p m cs
   by-equate : {e : Pair} {cs : List Change} → ruleNumber m ≡ 33 → Equating pr s p e → Unifies (s .vars) (e ∷ []) cs → BindsBy pr s p m cs

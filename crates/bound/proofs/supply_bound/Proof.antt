@@ -18,8 +18,20 @@ supply-bound-spec =
     (λ c. search needs)
     (λ c. supply-short _ _ _ _ _ _ (c .before .before .before .before .before .decided .ensures) (c .before .before .before .a .given .1) (c .before .if1 .taken) (c .refusal .ensures))
     (λ c κs. let w = writes-of _ _ _ _ _ (c .before .before .before .before .decided .ensures) (c .before .before .a .given .1) in omega (arith, w .head))
-    (λ c κs. let w = writes-of _ _ _ _ _ (c .before .before .before .before .before .before .decided .ensures) (c .before .before .before .before .a .given .1) in (omega (arith, w .cells, (c .before .var-count .ensures .0)), omega (arith, w .row, (c .before .var-count .ensures .0)), constant-small _ (w .constant)))
+    (λ c κs. let c1 = c .before in
+    let c2 = c1 .before .before .before in
+    let c3 = c2 .before .before in
+    let w = writes-of _ _ _ _ _ (c3 .decided .ensures) (c2 .a .given .1) in (omega (arith, w .cells, (c1 .var-count .ensures .0)), omega (arith, w .row, (c1 .var-count .ensures .0)), constant-small _ (w .constant)))
     (λ c κs. tt)
     (λ c. search needs)
     (λ c. search needs)
-    (λ c. supply-told _ _ _ _ _ _ (c .before .before .before .before .before .before .before .before .before .before .before .before .before .decided .ensures) (c .before .before .before .before .before .before .before .before .before .before .before .a .given .1) (c .before .before .before .before .before .before .before .before .before .if1 .left) (supply-given _ _ _ _ _ (c .before .before .before .before .before .before .before .before .before .before .before .before .before .decided .ensures) (c .before .before .before .before .before .before .before .before .before .before .before .a .given .1) (c .before .before .before .before .before .before .before .before .var-count .ensures .0) (c .before .before .before .before .before .before .bind .ensures) (λ b. omega (arith, (c .before .before .before .before .before .before .before .before .before .before .before .before .before .before .before .before .before .before .shared-slice-known2 .given) b)) (λ b. omega (arith, (c .before .before .before .before .before .before .before .before .before .before .before .before .before .before .before .before .before .shared-slice-known3 .given) b)) (λ b. omega (arith, (c .before .before .before .before .slice-known3 .given) b))) (c .before .before .tell-one .ensures)))
+    (λ c. let c1 = c .before .before in
+    let c2 = c1 .before .before in
+    let c3 = c2 .before .before in
+    let c4 = c3 .before .before in
+    let c5 = c4 .before in
+    let c6 = c5 .before .before in
+    let c7 = c6 .before .before in
+    let c8 = c7 .before .before .before .before in
+    let c9 = c8 .before in
+    supply-told _ _ _ _ _ _ (c7 .decided .ensures) (c6 .a .given .1) (c5 .if1 .left) (supply-given _ _ _ _ _ (c7 .decided .ensures) (c6 .a .given .1) (c4 .var-count .ensures .0) (c3 .bind .ensures) (λ b. omega (arith, (c9 .shared-slice-known2 .given) b)) (λ b. omega (arith, (c8 .shared-slice-known3 .given) b)) (λ b. omega (arith, (c2 .slice-known3 .given) b))) (c1 .tell-one .ensures)))

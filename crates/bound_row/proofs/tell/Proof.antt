@@ -7,7 +7,7 @@ use lib.ListN.{drop, length, take}
 use native.Mathlib.Omega.{arith}
 use Rattle.lay.specs.Lay.{laid}
 use Rattle.unify.specs.Pending.{varsBound}
-use Rattle.bound_row.specs.Row.{boundBytes, twos}
+use Rattle.bound_row.specs.Row.{twos}
 use Rattle.bound_row.proofs.Rows.{tell-done, tell-more, tell-start}
 use Rattle.bound_row.proofs.tell.Statement.{statement}
 use Rattle.bound_row.proofs.tell.Tie as tie
@@ -32,6 +32,10 @@ tell-spec =
     (λ c κs. omega (arith, (c .before .before .before .before .loop .inv .1)))
     (λ c. search needs)
     (λ c. search needs)
-    (λ c. (omega arith, omega (arith, (c .before .before .put22 .ensures .place), (c .before .before .before .before .before .before .before .loop .inv .1)), search needs, lays-length (c .before .before .put22 .ensures) ∙ (c .before .before .before .before .before .before .before .loop .inv .3), tell-more _ _ (omega arith) _ _ _ (c .before .before .before .before .before .before .before .loop .inv .4) (c .before .before .before .before .before .before .loop-test .taken) (rw (c .before .before .before .before .wide-u32 .ensures) at (c .before .before .put22 .ensures))))
+    (λ c. let c1 = c .before .before in
+    let c2 = c1 .before .before in
+    let c3 = c2 .before .before in
+    let c4 = c3 .before in
+    (omega arith, omega (arith, (c1 .put22 .ensures .place), (c4 .loop .inv .1)), search needs, lays-length (c1 .put22 .ensures) ∙ (c4 .loop .inv .3), tell-more _ _ (omega arith) _ _ _ (c4 .loop .inv .4) (c3 .loop-test .taken) (rw (c2 .wide-u32 .ensures) at (c1 .put22 .ensures))))
     (λ c. (c .before .loop .inv .3) ∙ lays-length (c .before .before .before .before .put2 .ensures))
     (λ c. tell-done _ _ (omega arith) _ _ _ (c .before .loop .inv .4) (c .loop-test .left) ∙ tell-start _ _ (omega arith) _ (c .before .before .before .before .put2 .ensures)))
