@@ -3,8 +3,8 @@
  *
  *   index_job IMAGE RECORDS [SLICE] <ARRIVALS
  *
- * IMAGE is a file (build one with plan.c), RECORDS how many records its goal places, SLICE the most steps of one run
- * call (default 50). The goal's variables stand as index.plan says: for record r, from 1 on, 3(r - 1) is the place that is
+ * IMAGE is a file (build one with plan.c), RECORDS how many records its goal places, SLICE how many turns are made before
+ * arrivals are looked for again (default 50). The goal's variables stand as index.plan says: for record r, from 1 on, 3(r - 1) is the place that is
  * free before it, the next one its key, the one after that its place. An arrival is a line
  *
  *   RECORD FIELD VALUE [STEPS]            FIELD is free, key or place; # begins a comment
@@ -137,6 +137,43 @@ static void tell_waiting(struct job *job)
     }
 }
 
+/* Whether a process sleeps on a variable that was bound just now, so that it wakes by that. */
+static int wakes(const struct job *job, unsigned process, const uint8_t *bound)
+{
+    const uint8_t *row = rissobarm_plan_row(&job->run, process);
+    unsigned n, k;
+
+    if (row[RISSOBARM_ROW_MODE] != RISSOBARM_MODE_SUSPENDED)
+        return 0;
+    for (n = 0; n < row[RISSOBARM_ROW_NOTE_COUNT]; n++)
+        for (k = 0; k < rissobarm_bound_count(bound); k++)
+            if (rissobarm_word_at(row + RISSOBARM_ROW_NOTES + 2 * n) == rissobarm_bound_at(bound, k))
+                return 1;
+    return 0;
+}
+
+/* Tells of each record whom the variables bound have woken: by an arrival (from 0) anyone, by a record those of others. */
+static void tell_woken(const struct job *job, const uint8_t *bound, unsigned from)
+{
+    unsigned count = rissobarm_bound_count(bound) > 0 ? rissobarm_plan_processes(&job->run) : 0, r, p;
+
+    for (r = 1; r <= job->records; r++) {
+        unsigned told = 0;
+
+        for (p = 0; p < count && r != from; p++) {
+            if (!wakes(job, p, bound) || record_of(job, p) != r)
+                continue;
+            if (told == 0 && from > 0)
+                printf("step %u: record %u", steps_made(job), from);
+            if (told++ == 0)
+                printf("%s wakes record %u: process", from > 0 ? "" : " ", r);
+            printf(" %u", p);
+        }
+        if (told > 0)
+            printf("\n");
+    }
+}
+
 /* Rows are never used twice in a run, so this is final: cut the plan into smaller ones. */
 static void tell_room(struct job *job)
 {
@@ -177,15 +214,18 @@ static void look_ahead(struct arrival *next)
     }
 }
 
-/* A value comes in: a supply, between two run calls. */
+/* A value comes in: a supply, between two turns. */
 static void deliver(struct job *job, struct arrival *next)
 {
+    uint8_t bound[RISSOBARM_BOUND_SIZE];
     unsigned variable = FIELDS * (next->record - 1) + next->field;
-    uint64_t answer = rissobarm_plan_supply(&job->run, variable, next->value);
+    uint64_t answer = rissobarm_plan_supply_bound(&job->run, bound, sizeof bound, variable, next->value);
 
     printf("step %u: %s of record %u arrives as %u\n", steps_made(job), field_names[next->field], next->record,
            next->value);
-    if (rissobarm_refusal(answer) != RISSOBARM_ACCEPTED)
+    if (rissobarm_refusal(answer) == RISSOBARM_ACCEPTED)
+        tell_woken(job, bound, 0);
+    else
         say_refusal("  supply", answer);
     next->pending = 0;
 }
@@ -201,7 +241,22 @@ static void deliver_due(struct job *job, struct arrival *next)
 
 /* ---- the job ---- */
 
-/* What follows the end of one run call; -1 where the run goes on. */
+/* Up to a slice of turns, with whom each has woken; then a run call tells where the run stands, and makes no step. */
+static uint64_t run_slice(struct job *job)
+{
+    uint8_t bound[RISSOBARM_BOUND_SIZE];
+    unsigned made = 0;
+
+    while (made < job->slice &&
+           rissobarm_refusal(rissobarm_plan_turn_bound(&job->run, bound, sizeof bound)) == RISSOBARM_ACCEPTED) {
+        tell_woken(job, bound, record_of(job, rissobarm_word_at(job->run.head + RISSOBARM_HEAD_LAST)));
+        made++;
+    }
+    /* a limit of one step where there is none to make, so that want of room is told and not the budget */
+    return rissobarm_plan_run(&job->run, made < job->slice);
+}
+
+/* What follows the end of one slice; -1 where the run goes on. */
 static int after_slice(struct job *job, struct arrival *next, unsigned end)
 {
     switch (end) {
@@ -239,7 +294,7 @@ static int work(struct job *job)
         return REFUSED;
     }
     while (how < 0) {
-        answer = rissobarm_plan_run(&job->run, job->slice);
+        answer = run_slice(job);
         if (rissobarm_refusal(answer) != RISSOBARM_ACCEPTED) {
             say_refusal("run", answer);
             return REFUSED;

@@ -1,10 +1,11 @@
 """The PARLOG process machine from Python: a Plan is a run of an image, in rows that it lends to librissobarm.so."""
 import ctypes
+import struct
 
 LIMIT = 65535  # of one run call
 ENDS = {1: 'success', 2: 'failure', 3: 'waiting', 4: 'room', 5: 'budget'}
 ROWS = (10, 12288, 4096)  # bytes of head, processes and variables
-VALUES = 64  # bytes for the values of all goal variables
+VALUES, BOUND = 64, 10  # bytes for the values of all goal variables, for a list of variables bound
 LIBRARY = ctypes.CDLL('librissobarm.so.0')
 
 
@@ -47,7 +48,15 @@ class Plan:
                 return end, made
 
     def supply(self, variable, value):
-        self.call('supply', variable, value)
+        """Binds a goal variable; the variable that took the binding, in a list."""
+        return self.bound('supply', variable, value)[1]
+
+    def bound(self, name, *numbers):
+        """A step, turn or supply: its word, and the variables that it bound, in their order."""
+        row = ctypes.create_string_buffer(BOUND)
+        word = self.call(name + '_bound', *numbers, row=(row, ctypes.c_size_t(BOUND)))
+        count, *variables = struct.unpack('<5H', row.raw)
+        return word, variables[:count]
 
     def value(self, variable):
         """A constant, or None where it is open."""

@@ -72,7 +72,8 @@ enum {
 
 /* Bytes that are always enough for the further row of a call; any length is taken that has room for what is written. */
 enum {
-    RISSOBARM_VALUES_SIZE = RISSOBARM_OWN_LIMIT * RISSOBARM_VARIABLE_ROW /* of rissobarm_values */
+    RISSOBARM_VALUES_SIZE = RISSOBARM_OWN_LIMIT * RISSOBARM_VARIABLE_ROW, /* of rissobarm_values */
+    RISSOBARM_BOUND_SIZE = 2 + 2 * RISSOBARM_ARITY_LIMIT                  /* of a list of variables bound */
 };
 
 /* ---- images ---- */
@@ -344,6 +345,27 @@ static inline uint32_t rissobarm_touched(uint64_t answer)
 {
     return (uint32_t)(answer >> 32);
 }
+
+/* ---- what a step, a turn or a supply has bound ---- */
+
+/*
+ * rissobarm_step, rissobarm_turn and rissobarm_supply with a list of the variables that were bound, in the order in which they
+ * were: their count, then the number of each, all of two bytes. A move that binds none, which is every one but the success of
+ * an input-match or an equate, writes the count 0; a supply writes the one variable that took the binding, which is the value of
+ * the goal variable that was asked for. Words, tables and refusals are those of the plain call; then 11 when bound has no room
+ * for the list.
+ */
+uint64_t rissobarm_step_bound(const uint8_t *image, size_t image_len, uint8_t *head, size_t head_len,
+                              uint8_t *procs, size_t procs_len, uint8_t *vars, size_t vars_len,
+                              uint8_t *bound, size_t bound_len, uint32_t process);
+
+uint64_t rissobarm_turn_bound(const uint8_t *image, size_t image_len, uint8_t *head, size_t head_len,
+                              uint8_t *procs, size_t procs_len, uint8_t *vars, size_t vars_len,
+                              uint8_t *bound, size_t bound_len);
+
+uint64_t rissobarm_supply_bound(const uint8_t *image, size_t image_len, const uint8_t *head, size_t head_len,
+                                const uint8_t *procs, size_t procs_len, uint8_t *vars, size_t vars_len,
+                                uint8_t *bound, size_t bound_len, uint32_t variable, uint32_t value);
 
 /* ---- run ---- */
 

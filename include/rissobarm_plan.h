@@ -138,6 +138,19 @@ static inline uint64_t rissobarm_plan_turn(struct rissobarm_plan *plan)
     return rissobarm_turn(RISSOBARM_PLAN_LENT(plan));
 }
 
+/* Makes the move of one process and lists the variables bound; RISSOBARM_BOUND_SIZE bytes are always enough. */
+static inline uint64_t rissobarm_plan_step_bound(struct rissobarm_plan *plan, uint8_t *bound, size_t bound_len,
+                                                 uint32_t process)
+{
+    return rissobarm_step_bound(RISSOBARM_PLAN_LENT(plan), bound, bound_len, process);
+}
+
+/* Makes the move of the process whose turn it is and lists the variables bound. */
+static inline uint64_t rissobarm_plan_turn_bound(struct rissobarm_plan *plan, uint8_t *bound, size_t bound_len)
+{
+    return rissobarm_turn_bound(RISSOBARM_PLAN_LENT(plan), bound, bound_len);
+}
+
 /*
  * Makes turns as rissobarm_run does, with a limit of 32 bits: calls it with up to RISSOBARM_RUN_LIMIT steps at a time until
  * the limit is used up or the run ends otherwise, at least once. Answers the word that a single call with such a limit would:
@@ -165,6 +178,13 @@ static inline uint64_t rissobarm_plan_run(struct rissobarm_plan *plan, uint32_t 
 static inline uint64_t rissobarm_plan_supply(struct rissobarm_plan *plan, uint32_t variable, uint32_t value)
 {
     return rissobarm_supply(RISSOBARM_PLAN_LENT(plan), variable, value);
+}
+
+/* Binds the value of a goal variable to a constant and lists the variable that took it. */
+static inline uint64_t rissobarm_plan_supply_bound(struct rissobarm_plan *plan, uint8_t *bound, size_t bound_len,
+                                                   uint32_t variable, uint32_t value)
+{
+    return rissobarm_supply_bound(RISSOBARM_PLAN_LENT(plan), bound, bound_len, variable, value);
 }
 
 /* Gives the value of a goal variable. */
@@ -197,6 +217,18 @@ static inline uint64_t rissobarm_plan_watch(const struct rissobarm_plan *plan, u
 static inline unsigned rissobarm_word_at(const uint8_t *bytes)
 {
     return bytes[0] + 256u * bytes[1];
+}
+
+/* How many variables a list of those bound has. */
+static inline unsigned rissobarm_bound_count(const uint8_t *bound)
+{
+    return rissobarm_word_at(bound);
+}
+
+/* One of them, counted from 0 in the order in which they were bound. */
+static inline unsigned rissobarm_bound_at(const uint8_t *bound, unsigned k)
+{
+    return rissobarm_word_at(bound + 2 + 2 * k);
 }
 
 /* The sort of one of the values that were written. */

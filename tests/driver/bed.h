@@ -17,6 +17,7 @@ struct bed {
     uint8_t beside[ROW_ROOM];      /* the reference's */
     size_t further_length;         /* of the next call, where it was told */
     unsigned calls;                /* made so far */
+    bool was_short;                /* whether the last call can have been refused for its further row alone */
     struct rows ours;              /* the reference's */
     struct rows before;            /* both sides' before the last call */
     size_t sizes[LENT_ROWS];       /* the lengths that the next call is lent */

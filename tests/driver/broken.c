@@ -13,13 +13,13 @@ static bool go_table_call(struct journey *journey)
 
     switch (random_below(random, 6)) {
     case 0:
-        return go(journey, STEPS, random_below(random, count + 1), 0);
+        return go_move(journey, STEPS, random_below(random, count + 1), 0);
     case 1:
-        return go(journey, TURNS, 0, 0);
+        return go_move(journey, TURNS, 0, 0);
     case 2:
         return go(journey, RUNS, random_below(random, 4), 0);
     case 3:
-        return go(journey, SUPPLIES, random_below(random, 4), random_below(random, 4));
+        return go_move(journey, SUPPLIES, random_below(random, 4), random_below(random, 4));
     case 4:
         return go_values(journey);
     default:

@@ -46,8 +46,29 @@ static uint64_t watch_archive(struct bed *bed, const struct event *event)
     return memcmp(bed->wide.bytes, wide_rows(event), event->a) == 0 ? answer : UINT64_MAX;
 }
 
+/* The calls with a list of the variables bound. */
+static uint64_t list_reference(struct bed *bed, const struct event *event)
+{
+    if (event->kind == STEPS)
+        return reference_step_bound(OURS(bed), OUR_FURTHER(bed), event->a);
+    if (event->kind == TURNS)
+        return reference_turn_bound(OURS(bed), OUR_FURTHER(bed));
+    return reference_supply_bound(OURS(bed), OUR_FURTHER(bed), event->a, event->b);
+}
+
+static uint64_t list_archive(struct bed *bed, const struct event *event)
+{
+    if (event->kind == STEPS)
+        return rissobarm_step_bound(THEIRS(bed), THEIR_FURTHER(bed), event->a);
+    if (event->kind == TURNS)
+        return rissobarm_turn_bound(THEIRS(bed), THEIR_FURTHER(bed));
+    return rissobarm_supply_bound(THEIRS(bed), THEIR_FURTHER(bed), event->a, event->b);
+}
+
 uint64_t call_reference(struct bed *bed, const struct event *event)
 {
+    if (event->form == LISTED)
+        return list_reference(bed, event);
     switch (event->kind) {
     case LOADS:
         return reference_load(bed->source->bytes, bed->source->length);
@@ -72,6 +93,8 @@ uint64_t call_reference(struct bed *bed, const struct event *event)
 
 uint64_t call_archive(struct bed *bed, const struct event *event)
 {
+    if (event->form == LISTED)
+        return list_archive(bed, event);
     switch (event->kind) {
     case LOADS:
         return rissobarm_load(bed->image.bytes, bed->image.length);
@@ -94,10 +117,22 @@ uint64_t call_archive(struct bed *bed, const struct event *event)
     }
 }
 
+#define BESIDE(bed, rows) \
+    (bed)->image.bytes, (bed)->image.length, (rows)->head, RISSOBARM_HEAD_SIZE, (rows)->procs, RISSOBARM_PROCS_SIZE, \
+        (rows)->vars, RISSOBARM_VARS_SIZE
+
 uint64_t call_turn(const struct bed *bed, struct rows *rows)
 {
-    return rissobarm_turn(bed->image.bytes, bed->image.length, rows->head, RISSOBARM_HEAD_SIZE, rows->procs,
-                          RISSOBARM_PROCS_SIZE, rows->vars, RISSOBARM_VARS_SIZE);
+    return rissobarm_turn(BESIDE(bed, rows));
+}
+
+uint64_t call_plain(const struct bed *bed, const struct event *event, struct rows *rows)
+{
+    if (event->kind == STEPS)
+        return rissobarm_step(BESIDE(bed, rows), event->a);
+    if (event->kind == TURNS)
+        return call_turn(bed, rows);
+    return rissobarm_supply(BESIDE(bed, rows), event->a, event->b);
 }
 
 uint64_t call_value(const struct bed *bed, uint32_t variable)

@@ -155,16 +155,29 @@ static bool tell_shapes(void)
     return enough & tell("tags", 0, "pairs that no rule makes, of 63", "", pairs_seen(), 63);
 }
 
+/* Lists of the variables bound, by how many they name. */
+static bool tell_lists(void)
+{
+    bool enough = true;
+    unsigned k;
+
+    for (k = 0; k <= RISSOBARM_ARITY_LIMIT; k++)
+        enough &= tell("bound", k, "variables in one list", "", counts.lists[k], 1);
+    return enough;
+}
+
 static void tell_totals(void)
 {
-    unsigned k;
+    unsigned form, k;
 
     printf("%" PRIu64 " cases, %" PRIu64 " images (%" PRIu64 " accepted)\n", counts.cases, counts.images, counts.accepted);
     printf("%" PRIu64 " calls let in with tables that no run made\n", counts.legal);
     printf("%" PRIu64 " steps by number, %" PRIu64 " by turn, %" PRIu64 " in runs\ncalls:", counts.by_number,
            counts.steps - counts.by_number, counts.run_steps);
-    for (k = 0; k < CALLS; k++)
-        printf(" %s %" PRIu64, event_name(k), counts.calls[k]);
+    for (form = 0; form < FORMS; form++)
+        for (k = 0; k < CALLS; k++)
+            if (counts.calls[form][k] > 0)
+                printf(" %s%s %" PRIu64, event_name(k), form_name(form), counts.calls[form][k]);
     printf("\n");
 }
 
@@ -177,6 +190,7 @@ bool counts_tell(uint64_t least_broken)
     enough &= tell_names("seen", features, counts.features, 0, FEATURES);
     enough &= tell_broken(least_broken);
     enough &= tell_shapes();
+    enough &= tell_lists();
     tell_totals();
     return enough;
 }

@@ -37,7 +37,9 @@ struct counts {
     uint64_t cases;
     uint64_t images;
     uint64_t accepted;              /* images that were loaded */
-    uint64_t calls[CALLS];
+    uint64_t calls[FORMS][CALLS];
+    uint64_t listed;                /* calls with a list of the variables bound */
+    uint64_t lists[RISSOBARM_ARITY_LIMIT + 1]; /* lists by how many they name */
     uint64_t steps;                 /* moves made one by one, by number or by turn */
     uint64_t by_number;             /* those by number */
     uint64_t run_steps;             /* moves made inside runs */

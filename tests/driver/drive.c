@@ -3,15 +3,28 @@
 
 #include "counts.h"
 
-bool go_row(struct journey *journey, unsigned kind, unsigned row, uint32_t a, uint32_t b)
+static bool go_event(struct journey *journey, struct event event)
 {
-    struct event event = { (uint8_t)kind, (uint8_t)row, a, b };
     struct story *story = journey->story;
 
     if (story->count == STORY_ROOM)
         return true;
     story->events[story->count++] = event;
     return bed_play(journey->bed, &event);
+}
+
+bool go_row(struct journey *journey, unsigned kind, unsigned row, uint32_t a, uint32_t b)
+{
+    struct event event = { (uint8_t)kind, PLAIN, (uint8_t)row, a, b };
+
+    return go_event(journey, event);
+}
+
+bool go_form(struct journey *journey, unsigned kind, unsigned form, uint32_t a, uint32_t b)
+{
+    struct event event = { (uint8_t)kind, (uint8_t)form, THE_HEAD, a, b };
+
+    return go_event(journey, event);
 }
 
 bool go(struct journey *journey, unsigned kind, uint32_t a, uint32_t b)
@@ -131,6 +144,15 @@ bool go_values(struct journey *journey)
            go(journey, ALL_VALUES, 0, random_once(journey->random, 4));
 }
 
+/* Two of three with a list, its row about as long as some move needs it. */
+bool go_move(struct journey *journey, unsigned kind, uint32_t a, uint32_t b)
+{
+    if (random_once(journey->random, 3))
+        return go(journey, kind, a, b);
+    return go_length(journey, 2 + 2 * random_below(journey->random, RISSOBARM_ARITY_LIMIT + 1)) &&
+           go_form(journey, kind, LISTED, a, kind == SUPPLIES ? b : (uint32_t)random_once(journey->random, 4));
+}
+
 static bool go_run(struct journey *journey)
 {
     uint32_t limit = draw_limit(journey);
@@ -155,7 +177,7 @@ static bool go_supply(struct journey *journey)
 {
     uint32_t variable = draw_variable(journey);
 
-    return go(journey, SUPPLIES, variable, draw_constant(journey));
+    return go_move(journey, SUPPLIES, variable, draw_constant(journey));
 }
 
 bool go_anywhere(struct journey *journey)
@@ -164,9 +186,9 @@ bool go_anywhere(struct journey *journey)
     case 0:
         return go(journey, LOADS, 0, 0);
     case 1:
-        return random_once(journey->random, 4) ? go(journey, STARTS, 0, 0) : go(journey, TURNS, 0, 0);
+        return random_once(journey->random, 4) ? go(journey, STARTS, 0, 0) : go_move(journey, TURNS, 0, 0);
     case 2:
-        return go(journey, TURNS, 0, 0);
+        return go_move(journey, TURNS, 0, 0);
     case 3:
         return go_run(journey);
     case 4:
@@ -176,7 +198,7 @@ bool go_anywhere(struct journey *journey)
     case 6:
         return go_watch(journey);
     default:
-        return go(journey, STEPS, bed_accepts(journey->bed) ? draw_process(journey) : 0, 0);
+        return go_move(journey, STEPS, bed_accepts(journey->bed) ? draw_process(journey) : 0, 0);
     }
 }
 
@@ -205,21 +227,21 @@ static bool go_by_temper(struct journey *journey, unsigned temper)
         temper = random_below(journey->random, MIXED);
     switch (temper) {
     case STEPPING:
-        return go(journey, STEPS, draw_process(journey), 0);
+        return go_move(journey, STEPS, draw_process(journey), 0);
     case RUNNING:
         return go_run(journey);
     default:
-        return go(journey, TURNS, 0, 0);
+        return go_move(journey, TURNS, 0, 0);
     }
 }
 
-/* Whether the last answer says that time or values are needed: nothing can move, or there is no room. */
+/* Whether the last answer says that time or values are needed: nothing can move, or there is no room in the tables. */
 static bool stands(const struct bed *bed)
 {
     unsigned refusal = rissobarm_refusal(bed->answer), end = rissobarm_end(bed->answer);
 
     if (refusal != RISSOBARM_ACCEPTED)
-        return refusal == RISSOBARM_STILL || refusal == RISSOBARM_ROOM;
+        return refusal == RISSOBARM_STILL || (refusal == RISSOBARM_ROOM && !bed->was_short);
     return bed->answer % 256 == 0 && end == RISSOBARM_END_WAITING;
 }
 

@@ -12,8 +12,8 @@
 enum event_kind {
     LOADS,
     STARTS,
-    STEPS,    /* a the process */
-    TURNS,
+    STEPS,    /* a the process; b whether, in another form than the plain one, that is made beside it */
+    TURNS,    /* b as for a step */
     RUNS,     /* a the limit, b whether turns are made beside it */
     SUPPLIES, /* a the variable, b the value */
     VALUES,   /* a the variable */
@@ -27,8 +27,16 @@ enum event_kind {
     EVENT_KINDS
 };
 
+/* Forms of a step, a turn or a supply. */
+enum event_form {
+    PLAIN,
+    LISTED, /* with a list of the variables bound */
+    FORMS
+};
+
 struct event {
     uint8_t kind;
+    uint8_t form;
     uint8_t row;
     uint32_t a;
     uint32_t b;
@@ -47,7 +55,8 @@ struct story {
 /* An event as a line of text. */
 void event_print(const struct event *event);
 
-/* The name of a kind of event. */
+/* The name of a kind of event, and of a form. */
 const char *event_name(unsigned kind);
+const char *form_name(unsigned form);
 
 #endif

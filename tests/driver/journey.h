@@ -14,8 +14,12 @@ struct journey {
 /* Puts an event down and plays it; false where something is wrong. */
 bool go(struct journey *journey, unsigned kind, uint32_t a, uint32_t b);
 
-/* The same for an event on one row. */
+/* The same for an event on one row, or in a form. */
 bool go_row(struct journey *journey, unsigned kind, unsigned row, uint32_t a, uint32_t b);
+bool go_form(struct journey *journey, unsigned kind, unsigned form, uint32_t a, uint32_t b);
+
+/* A step, a turn or a supply in any form, its further row of any length. */
+bool go_move(struct journey *journey, unsigned kind, uint32_t a, uint32_t b);
 
 /* How a run is driven. */
 enum temper {

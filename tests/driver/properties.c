@@ -59,9 +59,11 @@ static unsigned numbers_refused(const struct bed *bed, const struct event *event
 }
 
 /* Whether a call that is let in can have this refusal. */
-static bool refusal_possible(unsigned kind, unsigned refusal)
+static bool refusal_possible(const struct event *event, unsigned refusal)
 {
-    switch (kind) {
+    if (event->form != PLAIN && refusal == RISSOBARM_ROOM)
+        return true;
+    switch (event->kind) {
     case STEPS:
     case TURNS:
         return refusal == RISSOBARM_ACCEPTED || refusal == RISSOBARM_STILL || refusal == RISSOBARM_ROOM;
@@ -88,7 +90,7 @@ bool entry_right(struct bed *bed, const struct event *event, const struct entry 
     numbers = numbers_refused(bed, event);
     if (numbers != RISSOBARM_ACCEPTED)
         return bed->answer == numbers || bed_fault(bed, "refusal %u where the numbers come to %u", refusal, numbers);
-    if (!refusal_possible(event->kind, refusal))
+    if (!refusal_possible(event, refusal))
         return bed_fault(bed, "refusal %u of a call that is let in", refusal);
     return refusal == RISSOBARM_ACCEPTED || bed->answer == refusal || bed_fault(bed, "more than a number in a refusal");
 }

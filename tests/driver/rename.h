@@ -3,6 +3,9 @@
 #define reference_start rissobarm_start
 #define reference_step rissobarm_step
 #define reference_turn rissobarm_turn
+#define reference_step_bound rissobarm_step_bound
+#define reference_turn_bound rissobarm_turn_bound
+#define reference_supply_bound rissobarm_supply_bound
 #define reference_run rissobarm_run
 #define reference_supply rissobarm_supply
 #define reference_value rissobarm_value
@@ -26,3 +29,9 @@
 #define ref_unify standin_unify
 #define ref_rule standin_rule
 #define ref_move standin_move
+#define ref_put16 standin_put16
+#define ref_open standin_open
+#define ref_step standin_step
+#define ref_next_in_turn standin_next_in_turn
+#define ref_supply standin_supply
+#define ref_move_answer standin_move_answer

@@ -60,7 +60,7 @@ static void seen_room(const struct bed *bed, const struct event *event)
     unsigned processes = RISSOBARM_PROCESS_LIMIT - process_count(&bed->ours);
     unsigned variables = RISSOBARM_VARIABLE_LIMIT - variable_count(&bed->ours);
 
-    if (event->kind != STEPS)
+    if (event->kind != STEPS || bed->was_short)
         return;
     counts.features[NO_VARIABLE_LEFT] += processes >= MOST_CHILDREN;
     counts.features[NO_PROCESS_LEFT] += variables >= MOST_VARIABLES;
@@ -92,7 +92,6 @@ static void seen_refusal(const struct bed *bed, const struct event *event, const
     counts.refusals[refusal]++;
     if (refusal == RISSOBARM_ROOM)
         seen_room(bed, event);
-    counts.features[SHORT_ROW] += refusal == RISSOBARM_ROOM && event->kind == ALL_VALUES;
     if (refusal == RISSOBARM_STATE && entry->broken == 1)
         counts.broken[entry->first]++;
 }
@@ -112,9 +111,6 @@ static void seen_accepted(const struct bed *bed, const struct event *event)
         counts.features[SUPPLY_AT_END] += bed->ours.procs[RISSOBARM_ROW_MODE] == RISSOBARM_MODE_DORMANT;
         counts.features[WOKEN_BY_SUPPLY] += wakes_somebody(bed);
         break;
-    case ALL_VALUES:
-        counts.features[JUST_ENOUGH] += bed->further.length == further_written(bed, event);
-        break;
     default:
         break;
     }
@@ -122,7 +118,8 @@ static void seen_accepted(const struct bed *bed, const struct event *event)
 
 void seen(const struct bed *bed, const struct event *event, const struct entry *entry)
 {
-    counts.calls[event->kind]++;
+    counts.calls[event->form][event->kind]++;
+    counts.listed += event->form == LISTED;
     counts.features[LONGEST_IMAGE] += event->kind == LOADS && bed->source->length == RISSOBARM_IMAGE_LIMIT;
     if (rissobarm_refusal(bed->answer) != RISSOBARM_ACCEPTED) {
         seen_refusal(bed, event, entry);
@@ -133,5 +130,8 @@ void seen(const struct bed *bed, const struct event *event, const struct entry *
         counts.features[CHANCE_LET_IN] += bed->scattered;
     }
     counts.by_number += event->kind == STEPS;
+    counts.features[JUST_ENOUGH] += further_lent(event) && bed->further.length == further_written(bed, event);
+    if (event->form == LISTED)
+        counts.lists[word_at(bed->further.bytes)]++;
     seen_accepted(bed, event);
 }

@@ -87,6 +87,24 @@ static void try_values(void)
     hold("values: its number", rissobarm_number_at(values, 0) == RISSOBARM_CONSTANT_LIMIT);
 }
 
+/* The variables bound: none by a suspension, one by the supply; without room for the list nothing moves. */
+static void try_bound(void)
+{
+    uint8_t bound[RISSOBARM_BOUND_SIZE] = { 9, 9, 9 };
+    uint64_t step;
+
+    rissobarm_plan_start(&run, waits, sizeof waits);
+    hold("bound: too short", rissobarm_refusal(rissobarm_plan_turn_bound(&run, bound, 1)) == RISSOBARM_ROOM);
+    hold("bound: nothing moves", rissobarm_plan_steps(&run) == 0 && bound[0] == 9);
+    step = rissobarm_plan_step_bound(&run, bound, 2, 0);
+    hold("bound: by a step", rissobarm_rule(step) == RISSOBARM_RULE_OR_PAR_START && rissobarm_bound_count(bound) == 0);
+    hold("bound: the byte behind", bound[2] == 9);
+    rissobarm_plan_run(&run, LARGE_LIMIT);
+    hold("bound: nothing moves any more", rissobarm_plan_turn_bound(&run, bound, 0) == RISSOBARM_STILL);
+    hold("bound: by a supply", rissobarm_plan_supply_bound(&run, bound, sizeof bound, 0, 1) == RISSOBARM_ACCEPTED);
+    hold("bound: the goal's variable", rissobarm_bound_count(bound) == 1 && rissobarm_bound_at(bound, 0) == 0);
+}
+
 static void try_room(void)
 {
     rissobarm_plan_start(&run, fills, sizeof fills);
@@ -105,6 +123,7 @@ static void try_refused(void)
     hold("turn refused too", rissobarm_plan_turn(&run) == answer);
     hold("supply refused", rissobarm_plan_supply(&run, 0, 1) == answer);
     hold("value refused", rissobarm_plan_value(&run, 0) == answer);
+    hold("turn with a list refused", rissobarm_plan_turn_bound(&run, other.vars, 0) == answer);
     hold("values refused", rissobarm_plan_values(&run, other.vars, 0) == answer);
 }
 
@@ -158,6 +177,7 @@ int main(void)
 {
     try_waiting();
     try_values();
+    try_bound();
     try_room();
     try_refused();
     try_long();

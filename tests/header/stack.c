@@ -11,10 +11,11 @@
 #include <ucontext.h>
 
 enum { STACK_ROOM = 262144, PAINT = 0xA5, IMAGES = 20, LARGE_RUN = 5000 };
-enum deed { NOTHING, LOAD, START, STEP, TURN, RUN, SUPPLY, VALUE, WATCH, VALUES, DEEDS };
+enum deed { NOTHING, LOAD, START, STEP, TURN, RUN, SUPPLY, VALUE, WATCH, VALUES, STEP_BOUND, TURN_BOUND, SUPPLY_BOUND, DEEDS };
 
 static const char *const names[DEEDS] = { "nothing", "load",   "start", "step",  "turn",
-                                          "run",     "supply", "value", "watch", "values" };
+                                          "run",     "supply", "value", "watch", "values",
+                                          "step with a list",  "turn with a list", "supply with a list" };
 
 static uint8_t stack[STACK_ROOM];
 static ucontext_t here, there;
@@ -36,6 +37,12 @@ static void make(void)
     case RUN: answer = rissobarm_run(RISSOBARM_PLAN_LENT(&plan), LARGE_RUN); break;
     case SUPPLY: answer = rissobarm_supply(RISSOBARM_PLAN_LENT(&plan), 0, 1); break;
     case VALUE: answer = rissobarm_value(RISSOBARM_PLAN_LENT(&plan), 0); break;
+    case STEP_BOUND:
+        answer = rissobarm_step_bound(RISSOBARM_PLAN_LENT(&plan), further, sizeof further,
+                                      rissobarm_word_at(plan.head + RISSOBARM_HEAD_LAST));
+        break;
+    case TURN_BOUND: answer = rissobarm_turn_bound(RISSOBARM_PLAN_LENT(&plan), further, sizeof further); break;
+    case SUPPLY_BOUND: answer = rissobarm_supply_bound(RISSOBARM_PLAN_LENT(&plan), further, sizeof further, 0, 1); break;
     case VALUES: answer = rissobarm_values(RISSOBARM_PLAN_LENT(&plan), further, sizeof further); break;
     case WATCH: answer = rissobarm_watch(plan.procs, sizeof plan.procs); break;
     default: break;
@@ -70,6 +77,8 @@ static void measure_all(void)
     measure(VALUES);
     measure(WATCH);
     measure(STEP);
+    measure(STEP_BOUND);
+    measure(SUPPLY_BOUND);
     measure(SUPPLY);
 }
 
@@ -81,7 +90,7 @@ static void measure_image(struct random *random)
     image_by_recipe(&image, random, &full_recipe);
     rissobarm_plan_start(&plan, image.bytes, image.length);
     do {
-        measure(TURN);
+        measure(turns % 2 == 0 ? TURN : TURN_BOUND);
     } while (rissobarm_refusal(answer) == RISSOBARM_ACCEPTED && ++turns < LARGE_RUN);
     measure_all();
     measure(START);

@@ -414,6 +414,7 @@ int main(void)
     commit_case();
     values_case();
     watch_case();
+    bound_cases();
     printf("marked: %u as told, %u not\n", passed, failed);
     return failed == 0 ? 0 : 1;
 }

@@ -47,4 +47,7 @@ uint64_t value(unsigned variable);
 void say(const char *name, bool good, const char *what);
 void say_run(const char *name, bool good);
 
+/* The worked examples of the change requests. */
+void bound_cases(void);
+
 #endif

@@ -43,6 +43,17 @@ uint64_t reference_supply(const uint8_t *image, size_t image_len, uint8_t *head,
                           uint8_t *procs, size_t procs_len, uint8_t *vars, size_t vars_len,
                           uint32_t variable, uint32_t value);
 
+/* Step, turn and supply with a list of the variables bound: their count, then each, two bytes each; answers as theirs. */
+uint64_t reference_step_bound(const uint8_t *image, size_t image_len, uint8_t *head, size_t head_len,
+                              uint8_t *procs, size_t procs_len, uint8_t *vars, size_t vars_len,
+                              uint8_t *bound, size_t bound_len, uint32_t process);
+uint64_t reference_turn_bound(const uint8_t *image, size_t image_len, uint8_t *head, size_t head_len,
+                              uint8_t *procs, size_t procs_len, uint8_t *vars, size_t vars_len,
+                              uint8_t *bound, size_t bound_len);
+uint64_t reference_supply_bound(const uint8_t *image, size_t image_len, uint8_t *head, size_t head_len,
+                                uint8_t *procs, size_t procs_len, uint8_t *vars, size_t vars_len,
+                                uint8_t *bound, size_t bound_len, uint32_t variable, uint32_t value);
+
 /* Accepted: sort in bits 8-15 (1 constant, 2 variable), its number in bits 32-63. */
 uint64_t reference_value(const uint8_t *image, size_t image_len, uint8_t *head, size_t head_len,
                          uint8_t *procs, size_t procs_len, uint8_t *vars, size_t vars_len,

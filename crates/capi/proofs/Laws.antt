@@ -1,16 +1,21 @@
 -- From the answers of the calls below to the words that C is given.
 use mathlib.Core.Path.{_≡_}
-use mathlib.Core.List.{List}
+use mathlib.Core.Bool.{Bool, false, true}
+use mathlib.Core.List.{[], _∷_, List}
 use Prim.Native.Nat.{_/_, _≤_, ℕ}
+use lib.Dec.{leb}
 use lib.ListN.{length}
 use native.Mathlib.Omega.{arith}
 use Rattle.capi.specs.Tells.{RunTells, StartTells, StepTells, SupplyTells, Tells, TurnTells, ValuesTells, ValueTells, WatchTells}
+use Rattle.bound.specs.Calls.{RowCall, RowSays, stepBoundCall, stepTells, supplyBoundCall, supplyTells, tellBy, tellIn, turnBoundCall}
+use Rattle.bound_row.specs.Row.{boundBytes}
+use Rattle.capi.specs.Tells.{RowTells, RunTells, StartTells, StepTells, SupplyTells, Tells, TurnTells, ValueTells, WatchTells}
 use Rattle.load.specs.Fields.{refusalOf}
 use Rattle.machine.specs.Starting.{StartSays}
 use Rattle.machine.specs.Supplying.{SupplySays}
-use Rattle.parlog.specs.Calls.{valueCall}
+use Rattle.parlog.specs.Calls.{stepCall, supplyCall, turnCall, valueCall}
 use Rattle.parlog.specs.Limits.{Limits, Usable}
-use Rattle.parlog.specs.Load.{loadOf}
+use Rattle.parlog.specs.Load.{loadOf, refusal}
 use Rattle.parlog.specs.Numbers.{loadNumbers, Numbers, refusedAs, runNumbers, startNumbers, stepNumbers, supplyNumbers, valueNumbers, watchNumbers, word}
 use Rattle.parlog.specs.Run.{watchOf}
 use Rattle.parlog.specs.Tables.{Lent, procsOf, rowSize}
@@ -21,7 +26,9 @@ use Rattle.parlog.specs.declared.Ran.{Ran}
 use Rattle.parlog.specs.declared.Refusal.{Refusal}
 use Rattle.parlog.specs.declared.Started.{Started}
 use Rattle.parlog.specs.declared.Stepped.{Stepped}
+use Rattle.parlog.specs.declared.Stepped.the-variants.{Moved, Unmoved}
 use Rattle.parlog.specs.declared.Supplied.{Supplied}
+use Rattle.parlog.specs.declared.Supplied.the-variants.{Given, Ungiven}
 use Rattle.parlog.specs.declared.Valued.{Valued}
 use Rattle.rows.proofs.Tables.{procs-length}
 use Rattle.run.specs.Running.{RunSays, TurnSays}
@@ -106,3 +113,37 @@ watch-tells p e k = word-of e (λ f. watchNumbers (reached f)) k
 -- a row of processes that a word can tell throughout: the watch itself
 pub watch-whole : (p : List ℕ) {w : ℕ} → length p / rowSize ≤ 4294967296 → WatchTells p w → w ≡ word (watchNumbers (watchOf (procsOf p (length p / rowSize))))
 watch-whole p h k = rw (k, watch-reached (procsOf p (length p / rowSize)) (rw (procs-length p (length p / rowSize)) h))
+
+-- ---- the variables bound, told in a row more
+
+pub row-tells : {A : Type 0} {c : RowCall A} {a : A} {h p v w : List ℕ} → RowSays c a h p v w → (f : A → Numbers) {r : ℕ} → r ≡ word (f a) → RowTells (f (c .answer)) (c .lent) (c .row) r h p v w
+row-tells says f k = record { answer = word-of (says .answer) f k; head = says .head; procs = says .procs; vars = says .vars; row = says .row }
+
+step-says-fits : (a : Stepped) (after l : Lent) (row vs : List ℕ) → StepFits a → StepFits (stepTells a after l row vs .answer)
+step-says-fits (Unmoved r) after l row vs h = h
+step-says-fits (Moved m) after l row vs h = unfold tellIn in by (leb (length (boundBytes vs)) (length row))
+  where
+    by : (b : Bool) → StepFits (tellBy b (Unmoved (refusal 11 0)) (Moved m) after l row (boundBytes vs) .answer)
+    by false = omega arith
+    by true = h
+
+supply-says-fits : (a : Supplied) (after l : Lent) (row : List ℕ) → SupplyFits a → SupplyFits (supplyTells a after l row .answer)
+supply-says-fits (Ungiven r) after l row h = h
+supply-says-fits (Given u) after l row h = unfold tellIn in by (leb (length (boundBytes (u ∷ []))) (length row))
+  where
+    by : (b : Bool) → SupplyFits (tellBy b (Ungiven (refusal 11 0)) (Given u) after l row (boundBytes (u ∷ [])) .answer)
+    by false = omega arith
+    by true = tt
+
+module _ (lim : Limits) (s : List ℕ) (l : Lent) (row : List ℕ) {h p v w : List ℕ} where
+  pub step-bound-fit : (i : ℕ) {a : Stepped} → RowSays (stepBoundCall lim s l row i) a h p v w → Usable lim → StepFits a
+  unfolding stepBoundCall
+  step-bound-fit i says ok = fits-of (says .answer) StepFits (step-says-fits (stepCall lim s l i .answer) (stepCall lim s l i .lent) l row _ (step-fits lim ok s l i))
+
+  pub turn-bound-fit : {a : Stepped} → RowSays (turnBoundCall lim s l row) a h p v w → Usable lim → StepFits a
+  unfolding turnBoundCall
+  turn-bound-fit says ok = fits-of (says .answer) StepFits (step-says-fits (turnCall lim s l .answer) (turnCall lim s l .lent) l row _ (turn-fits lim ok s l))
+
+  pub supply-bound-fit : (x c : ℕ) {a : Supplied} → RowSays (supplyBoundCall lim s l row x c) a h p v w → SupplyFits a
+  unfolding supplyBoundCall
+  supply-bound-fit x c says = fits-of (says .answer) SupplyFits (supply-says-fits (supplyCall lim s l x c .answer) (supplyCall lim s l x c .lent) l row (supply-fits lim s l x c))

@@ -3,6 +3,7 @@ use mathlib.Core.Path.{_≡_}
 use mathlib.Core.List.{List}
 use Prim.Native.Nat.{_/_, ℕ}
 use lib.ListN.{length}
+use Rattle.bound.specs.Calls.{stepBoundCall, supplyBoundCall, turnBoundCall}
 use Rattle.parlog.specs.Calls.{runCall, startCall, stepCall, supplyCall, turnCall, valueCall}
 use Rattle.parlog.specs.Limits.{Limits}
 use Rattle.parlog.specs.Load.{loadOf}
@@ -55,3 +56,28 @@ pub record ValuesTells (lim : Limits) (s : List ℕ) (l : Lent) (row : List ℕ)
 -- Turns 5: of a watch over bytes: any row of processes, as far as a word can tell its number
 abbrev pub WatchTells : List ℕ → ℕ → Type 0
 WatchTells p r = r ≡ word (watchNumbers (reached (watchOf (procsOf p (length p / rowSize)))))
+
+-- ---- the variables bound, told in a row more
+
+-- Turns 10, Bound 3: the word of these numbers, and these rows
+pub record RowTells (n : Numbers) (l : Lent) (q : List ℕ) (r : ℕ) (h p v w : List ℕ) : Type 0 where
+  pub answer : r ≡ word n
+  pub head : h ≡ l .head
+  pub procs : p ≡ l .procs
+  pub vars : v ≡ l .vars
+  pub row : w ≡ q
+
+-- of the step of process i
+abbrev pub StepBoundTells : Limits → List ℕ → Lent → List ℕ → ℕ → ℕ → List ℕ → List ℕ → List ℕ → List ℕ → Type 0
+StepBoundTells lim s l row i r h p v w =
+    RowTells (stepNumbers (stepBoundCall lim s l row i .answer)) (stepBoundCall lim s l row i .lent) (stepBoundCall lim s l row i .row) r h p v w
+
+-- of a turn
+abbrev pub TurnBoundTells : Limits → List ℕ → Lent → List ℕ → ℕ → List ℕ → List ℕ → List ℕ → List ℕ → Type 0
+TurnBoundTells lim s l row r h p v w =
+    RowTells (stepNumbers (turnBoundCall lim s l row .answer)) (turnBoundCall lim s l row .lent) (turnBoundCall lim s l row .row) r h p v w
+
+-- of a supply of c for variable x of the goal
+abbrev pub SupplyBoundTells : Limits → List ℕ → Lent → List ℕ → ℕ → ℕ → ℕ → List ℕ → List ℕ → List ℕ → List ℕ → Type 0
+SupplyBoundTells lim s l row x c r h p v w =
+    RowTells (supplyNumbers (supplyBoundCall lim s l row x c .answer)) (supplyBoundCall lim s l row x c .lent) (supplyBoundCall lim s l row x c .row) r h p v w

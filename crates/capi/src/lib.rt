@@ -1,6 +1,6 @@
 // What a C program calls: numbers and byte rows alone. Each answer is one word.
 use parlog::Loaded;
-ghost use Rattle.capi.specs.Tells.{LoadTells, RunTells, StartTells, StepTells, SupplyTells, TurnTells, ValueTells, ValuesTells, WatchTells};
+ghost use Rattle.capi.specs.Tells.{LoadTells, RunTells, StartTells, StepBoundTells, StepTells, SupplyBoundTells, SupplyTells, TurnBoundTells, TurnTells, ValueTells, ValuesTells, WatchTells};
 ghost use Rattle.parlog.specs.Limits.{small};
 ghost use Rattle.parlog.specs.Tables.{lent};
 
@@ -128,4 +128,54 @@ pub extern "C" fn rissobarm_watch(procs: &[u8]) -> u64
 {
     let a = watch_rows::watch_rows(procs);
     words::watch_word(a)
+}
+
+// ---- the variables bound, told in a row more
+
+// Makes the step of one process, and tells the variables that it bound.
+#[no_mangle]
+pub extern "C" fn rissobarm_step_bound(
+    image: &[u8],
+    head: &mut [u8],
+    procs: &mut [u8],
+    vars: &mut [u8],
+    bound: &mut [u8],
+    process: u32,
+) -> u64
+    ensures { λ r. ⌜ StepBoundTells small (now (image .entry)) (lent (now (head .entry)) (now (procs .entry)) (now (vars .entry))) (now (bound .entry)) process r (now (head .exit)) (now (procs .exit)) (now (vars .exit)) (now (bound .exit)) ⌝ }
+{
+    let a = bound::step_bound(image, head, procs, vars, bound, process);
+    words::step_word(a)
+}
+
+// Makes the turn, and tells the variables that it bound.
+#[no_mangle]
+pub extern "C" fn rissobarm_turn_bound(
+    image: &[u8],
+    head: &mut [u8],
+    procs: &mut [u8],
+    vars: &mut [u8],
+    bound: &mut [u8],
+) -> u64
+    ensures { λ r. ⌜ TurnBoundTells small (now (image .entry)) (lent (now (head .entry)) (now (procs .entry)) (now (vars .entry))) (now (bound .entry)) r (now (head .exit)) (now (procs .exit)) (now (vars .exit)) (now (bound .exit)) ⌝ }
+{
+    let a = bound::turn_bound(image, head, procs, vars, bound);
+    words::step_word(a)
+}
+
+// Makes the supply, and tells the variable that takes the binding.
+#[no_mangle]
+pub extern "C" fn rissobarm_supply_bound(
+    image: &[u8],
+    head: &[u8],
+    procs: &[u8],
+    vars: &mut [u8],
+    bound: &mut [u8],
+    variable: u32,
+    value: u32,
+) -> u64
+    ensures { λ r. ⌜ SupplyBoundTells small (now (image .entry)) (lent (now (head .entry)) (now (procs .entry)) (now (vars .entry))) (now (bound .entry)) variable value r (now (head .entry)) (now (procs .entry)) (now (vars .exit)) (now (bound .exit)) ⌝ }
+{
+    let a = bound::supply_bound(image, head, procs, vars, bound, variable, value);
+    words::supply_word(a)
 }

@@ -229,7 +229,7 @@ fn asked(
 }
 
 // The same, with the tests that come first.
-fn decided(
+pub fn decided(
     image: &[u8],
     head: &[u8],
     procs: &[u8],

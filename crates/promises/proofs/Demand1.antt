@@ -48,7 +48,7 @@ use Rattle.values.specs.declared.Gathered.the-variants.{Ungathered, Values}
 
 -- ---- from the reasons to the word
 
-data Answered (Why : ℕ → ℕ → Type 0) (w : ℕ) : Type 0 where
+pub data Answered (Why : ℕ → ℕ → Type 0) (w : ℕ) : Type 0 where
   a-refusal : {n o : ℕ} → Why n o → Answered Why w
   no-refusal : refusalIn w ≡ 0 → Answered Why w
 
@@ -56,7 +56,7 @@ module _ {Why : ℕ → ℕ → Type 0} (w : ℕ) (numbered : (n o : ℕ) → Wh
   given-so : {n o : ℕ} → Why n o → (refusalIn w ≡ n) × (largeIn w ≡ o)
   given-so {n} {o} y = let a = numbered n o y in refused-told w (refusal n o) (omega (arith, a .1)) (says n o y)
 
-  refuses-by : Answered Why w → RefusesBy Why w
+  pub refuses-by : Answered Why w → RefusesBy Why w
   refuses-by a = record { numbered = λ {n} {o} y. numbered n o y; given = given-so; only = go a }
     where
       go : Answered Why w → refusalIn w ≢ 0 → Why (refusalIn w) (largeIn w)
@@ -133,7 +133,7 @@ module _ (lim : Limits) (s : List ℕ) (l : Lent) where
 
 -- ---- step
 
-step-numbered : {lim : Limits} {s : List ℕ} {l : Lent} {p n o : ℕ} → StepRefused lim s l p n o → (1 ≤ n) × (n ≤ 14)
+pub step-numbered : {lim : Limits} {s : List ℕ} {l : Lent} {p n o : ℕ} → StepRefused lim s l p n o → (1 ≤ n) × (n ≤ 14)
 step-numbered (step-away a) = let b = away-numbered a in (b .0, omega (arith, b .1))
 step-numbered (no-process i h) = (omega arith, omega arith)
 step-numbered (no-rule-for i h n) = (omega arith, omega arith)
@@ -171,7 +171,7 @@ module _ (lim : Limits) (s : List ℕ) (l : Lent) (p : ℕ) where
 
 -- ---- turn
 
-turn-numbered : {lim : Limits} {s : List ℕ} {l : Lent} {n o : ℕ} → TurnRefused lim s l n o → (1 ≤ n) × (n ≤ 14)
+pub turn-numbered : {lim : Limits} {s : List ℕ} {l : Lent} {n o : ℕ} → TurnRefused lim s l n o → (1 ≤ n) × (n ≤ 14)
 turn-numbered (turn-away a) = let b = away-numbered a in (b .0, omega (arith, b .1))
 turn-numbered (nobody i h) = (omega arith, omega arith)
 turn-numbered (no-room-in-turn i h n) = (omega arith, omega arith)
@@ -262,7 +262,7 @@ module _ (lim : Limits) (s : List ℕ) (l : Lent) (limit : ℕ) where
 
 -- ---- supply
 
-supply-numbered : {lim : Limits} {s : List ℕ} {l : Lent} {v k n o : ℕ} → SupplyRefused lim s l v k n o → (1 ≤ n) × (n ≤ 14)
+pub supply-numbered : {lim : Limits} {s : List ℕ} {l : Lent} {v k n o : ℕ} → SupplyRefused lim s l v k n o → (1 ≤ n) × (n ≤ 14)
 supply-numbered (supply-away a) = let b = away-numbered a in (b .0, omega (arith, b .1))
 supply-numbered (no-variable i h) = (omega arith, omega arith)
 supply-numbered (no-constant i h g) = (omega arith, omega arith)

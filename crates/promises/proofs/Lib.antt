@@ -17,3 +17,8 @@ pub mod Demand3
 pub mod Exports
 pub mod Watching
 pub mod Lent
+pub mod Apart
+pub mod Newly
+pub mod Bound
+pub mod BoundSupply
+pub mod Computed

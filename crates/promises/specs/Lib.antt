@@ -3,3 +3,5 @@ pub mod Outcomes
 pub mod Refusals
 pub mod Moves
 pub mod Reach
+pub mod Bound
+pub mod BoundCases

@@ -27,7 +27,7 @@ pub struct View {
 // ---- a turn
 
 // Whose turn it is, and what its children report.
-fn whose(head: &[u8], procs: &[u8], vars: &[u8]) -> Turn
+pub fn whose(head: &[u8], procs: &[u8], vars: &[u8]) -> Turn
     requires { ⌜ Turning small (now head) (now procs) (now vars) ⌝ }
     ensures { λ r. ⌜ WhoseSays (lent (now (head .entry)) (now (procs .entry)) (now (vars .entry))) r ⌝ }
 {

@@ -1,5 +1,6 @@
 // The step by number: the move of one process, over lent bytes.
 use children::Told;
+use move_plan::Plan;
 use parlog::Loaded;
 use parlog::Stepped;
 use parlog::codes;
@@ -12,7 +13,7 @@ ghost use Rattle.parlog.specs.Limits.{small};
 ghost use Rattle.parlog.specs.Run.{counted};
 ghost use Rattle.parlog.specs.Tables.{at, lent, procCount, procsOf, rowSize};
 ghost use Rattle.program_index.specs.Indexed.{Indexed};
-ghost use Rattle.step.specs.Stepping.{StepSays, SteppedSays};
+ghost use Rattle.step.specs.Stepping.{CarriedOut, Carries, PlannedSays, StepSays, SteppedSays};
 
 // The limits of a run.
 const PROCS: usize = codes::MOST_PROCS;
@@ -27,6 +28,57 @@ fn count(steps: u32) -> u32
         return steps + 1;
     }
     steps
+}
+
+// What a step was decided to be: what refuses it, 0 where nothing does, and its plan.
+pub struct Planning {
+    pub number: u8,
+    pub plan: Plan,
+}
+
+// What the step of process p will do, in tables that keep the rules; it only reads.
+pub fn planned(
+    image: &[u8],
+    rels: usize,
+    clauses: usize,
+    ix: &[u16; program_index::SIZE],
+    head: &[u8],
+    procs: &[u8],
+    vars: &[u8],
+    p: usize,
+    told: Told,
+) -> Planning
+    requires { ⌜ Inside small (now image) rels clauses (lent (now head) (now procs) (now vars)) × (p < procCount (now head)) × (at (procsOf (now procs) (procCount (now head))) p .mode ≡ 3 → Tells (procsOf (now procs) (procCount (now head))) p told) × Indexed (now image) rels clauses (now ix) ⌝ }
+    ensures { λ r. ⌜ PlannedSays small (now (image .entry)) rels clauses (lent (now (head .entry)) (now (procs .entry)) (now (vars .entry))) p r ⌝ }
+{
+    let n = head::proc_count(head);
+    let m = head::var_count(head);
+    let plan = moves::rule_of(image, rels, clauses, ix, procs, n, vars, m, p, told);
+    if !plan.acts {
+        return Planning {
+            number: codes::STILL,
+            plan,
+        };
+    }
+    if !move_plan::fits(PROCS, VARS, n, m, plan) {
+        return Planning {
+            number: codes::ROOM,
+            plan,
+        };
+    }
+    Planning { number: 0, plan }
+}
+
+// The step of process p by its plan, which nothing refuses: it writes the tables.
+pub fn carry_out(head: &mut [u8], procs: &mut [u8], vars: &mut [u8], p: usize, plan: Plan)
+    requires { ⌜ Carries small (lent (now head) (now procs) (now vars)) p plan ⌝ }
+    ensures { λ _. ⌜ CarriedOut (lent (now (head .entry)) (now (procs .entry)) (now (vars .entry))) p plan (now (head .exit)) (now (procs .exit)) (now (vars .exit)) ⌝ }
+{
+    let n = head::proc_count(head);
+    let m = head::var_count(head);
+    let steps = count(head::marker_steps(head));
+    move_write::write(procs, n, vars, m, p, plan);
+    head::put_head(head, n + plan.count, m + plan.fresh, p, steps);
 }
 
 // The step of process p, in tables that keep the rules; nothing is written before it is known to be made.
@@ -44,25 +96,19 @@ pub fn stepped(
     requires { ⌜ Inside small (now image) rels clauses (lent (now head) (now procs) (now vars)) × (p < procCount (now head)) × (at (procsOf (now procs) (procCount (now head))) p .mode ≡ 3 → Tells (procsOf (now procs) (procCount (now head))) p told) × Indexed (now image) rels clauses (now ix) ⌝ }
     ensures { λ r. ⌜ SteppedSays small (now (image .entry)) rels clauses (lent (now (head .entry)) (now (procs .entry)) (now (vars .entry))) p r (now (head .exit)) (now (procs .exit)) (now (vars .exit)) ⌝ }
 {
-    let n = head::proc_count(head);
-    let m = head::var_count(head);
-    let plan = moves::rule_of(image, rels, clauses, ix, procs, n, vars, m, p, told);
-    if !plan.acts {
-        return Stepped::Unmoved(entry::refusal(codes::STILL));
+    let d = planned(image, rels, clauses, ix, head, procs, vars, p, told);
+    let number = d.number;
+    if number != 0 {
+        return Stepped::Unmoved(entry::refusal(number));
     }
-    if !move_plan::fits(PROCS, VARS, n, m, plan) {
-        return Stepped::Unmoved(entry::refusal(codes::ROOM));
-    }
-    let made = head::marker_steps(head);
-    let steps = count(made);
+    let plan = d.plan;
     let mv = plan.mv;
-    move_write::write(procs, n, vars, m, p, plan);
-    head::put_head(head, n + plan.count, m + plan.fresh, p, steps);
+    carry_out(head, procs, vars, p, plan);
     Stepped::Moved(mv)
 }
 
 // What process p is told of its children; only one that waits asks.
-fn ask(procs: &[u8], n: usize, p: usize) -> Told
+pub fn ask(procs: &[u8], n: usize, p: usize) -> Told
     requires { ⌜ (n * rowSize ≤ length (now procs)) × (n ≤ 65535) ⌝ }
     ensures { λ t. ⌜ (at (procsOf (now (procs .entry)) n) p .mode ≡ 3 → Tells (procsOf (now (procs .entry)) n) p t) ⌝ }
 {

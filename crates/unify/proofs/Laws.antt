@@ -19,7 +19,7 @@ use Rattle.parlog.specs.declared.Met.the-variants.{Bind}
 use Rattle.parlog.specs.declared.Pair.{Pair}
 use Rattle.parlog.specs.declared.Term.{Term}
 use Rattle.parlog.specs.declared.Term.the-variants.{Const, Var}
-use Rattle.unify.specs.Pending.{latest, newerOf, noChange, noPair, outcome, pending, top, under}
+use Rattle.unify.specs.Pending.{boundIn, boundVars, latest, newerOf, noChange, noPair, outcome, pending, top, under}
 use Rattle.unify.specs.declared.Unified.{Unified}
 use Rattle.vars.proofs.Tables.{vars-at, vars-length, vars-past}
 
@@ -116,6 +116,19 @@ outcome-ok u e = rw e
 pub outcome-clash : (u : Unified) → u .ok ≡ false → outcome u ≡ clash
 unfolding outcome
 outcome-clash u e = rw e
+
+-- ---- the variables told
+
+pub bound-ok : (u : Unified) → u .ok ≡ true → boundIn u ≡ boundVars (outcome u)
+unfolding boundIn boundVars
+bound-ok u e = rw (outcome-ok u e)
+
+pub bound-clash : (u : Unified) → u .ok ≡ false → u .count ≡ 0 → boundIn u ≡ boundVars (outcome u)
+unfolding boundIn boundVars pending
+bound-clash u e z = rw (outcome-clash u e, z)
+
+pub bound-same : (u : Unified) {o : Outcome} → boundIn u ≡ boundVars (outcome u) → outcome u ≡ o → boundIn u ≡ boundVars o
+bound-same u e h = e ∙ ap boundVars h
 
 -- ---- the pairs
 

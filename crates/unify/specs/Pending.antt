@@ -1,6 +1,6 @@
 -- The unifier that the code carries, and what its pending bindings say.
 use mathlib.Core.Bool.{Bool, cond, false, true}
-use mathlib.Core.List.{[], _∷_, List}
+use mathlib.Core.List.{[], _∷_, List, map}
 use Prim.Native.Nat.{_<_, _≤_, suc, ℕ}
 use lib.Dec.{eqb}
 use lib.ListN.{getD, length, take}
@@ -32,6 +32,23 @@ outcomeBy false cs = clash
 -- what a unifier came to so far
 unfoldable pub outcome : Unified → Outcome
 outcome u = outcomeBy (u .ok) (pending u)
+
+-- ---- what is told: the variables bound
+
+-- the variables of changes, in their order
+abbrev pub varsBound : List Change → List ℕ
+varsBound cs = map (λ c. c .var) cs
+
+-- Bound 1: the variables that unifying binds, in order; a clash binds none
+unfoldable pub boundVars : Outcome → List ℕ
+boundVars clash = []
+boundVars (bound cs) = varsBound cs
+
+-- the variables that a unifier tells
+unfoldable pub boundIn : Unified → List ℕ
+boundIn u = varsBound (pending u)
+
+-- ---- the table under changes
 
 -- the binding of v after one change, where it was b
 unfoldable pub newerOf : Change → Binding → ℕ → Binding

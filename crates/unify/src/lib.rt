@@ -12,7 +12,7 @@ ghost use Prim.Native.Nat.{_+_, _*_, _≤_, _<_};
 ghost use lib.ListN.{length, take};
 ghost use Rattle.parlog.specs.Tables.{bindingOf, cellSize, varsIn};
 ghost use Rattle.parlog.specs.Unify.{bound, isBound, joined, meet, meetVars, someBound, unify, unifyOne, value, valueOf};
-ghost use Rattle.unify.specs.Pending.{Below, latest, newerOf, outcome, pending, top, under};
+ghost use Rattle.unify.specs.Pending.{Below, boundIn, boundVars, latest, newerOf, outcome, pending, top, under};
 
 // A unifier so far: whether no two constants clashed, and the bindings in the order made.
 pub struct Unified {
@@ -81,7 +81,7 @@ fn value_under(vars: &[u8], n: usize, u: Unified, t: Term) -> Term
 
 // Nothing bound yet.
 fn nothing() -> Unified
-    ensures { λ r. ⌜ (outcome r ≡ bound []) × (pending r ≡ []) × (r .count ≡ 0) × (length (r .binds) ≡ 4) ⌝ }
+    ensures { λ r. ⌜ (outcome r ≡ bound []) × (pending r ≡ []) × (r .count ≡ 0) × (length (r .binds) ≡ 4) × (boundIn r ≡ boundVars (outcome r)) ⌝ }
 {
     let none = Change {
         var: 0,
@@ -132,17 +132,17 @@ fn meet(x: Term, y: Term) -> Met
     }
 }
 
-// The unifier with what two values more come to.
+// The unifier with what two values more come to; a clash binds nothing.
 fn join(u: Unified, m: Met) -> Unified
     requires { ⌜ (u .ok ≡ true) × (u .count < 4) × (length (u .binds) ≡ 4) ⌝ }
-    ensures { λ r. ⌜ (outcome r ≡ joined (pending u) m) × (r .count ≤ u .count + 1) × (length (r .binds) ≡ 4) ⌝ }
+    ensures { λ r. ⌜ (outcome r ≡ joined (pending u) m) × (r .count ≤ u .count + 1) × (length (r .binds) ≡ 4) × (boundIn r ≡ boundVars (outcome r)) ⌝ }
 {
     let n = u.count;
     let mut binds = u.binds;
     match m {
         Met::Clash => Unified {
             ok: false,
-            count: n,
+            count: 0,
             binds: binds,
         },
         Met::Same => u,
@@ -159,8 +159,8 @@ fn join(u: Unified, m: Met) -> Unified
 
 // One pair more; a clash stays one.
 fn unify_one(vars: &[u8], n: usize, u: Unified, p: Pair) -> Unified
-    requires { ⌜ (n * cellSize ≤ length (now vars)) × (top (p .left) ≤ n) × (top (p .right) ≤ n) × (u .count < 4) × (length (u .binds) ≡ 4) ⌝ }
-    ensures { λ r. ⌜ (outcome r ≡ unifyOne (varsIn (now (vars .entry)) n) (outcome u) p) × (r .count ≤ u .count + 1) × (length (r .binds) ≡ 4) ⌝ }
+    requires { ⌜ (n * cellSize ≤ length (now vars)) × (top (p .left) ≤ n) × (top (p .right) ≤ n) × (u .count < 4) × (length (u .binds) ≡ 4) × (boundIn u ≡ boundVars (outcome u)) ⌝ }
+    ensures { λ r. ⌜ (outcome r ≡ unifyOne (varsIn (now (vars .entry)) n) (outcome u) p) × (r .count ≤ u .count + 1) × (length (r .binds) ≡ 4) × (boundIn r ≡ boundVars (outcome r)) ⌝ }
 {
     let ok = u.ok;
     if !ok {
@@ -174,10 +174,10 @@ fn unify_one(vars: &[u8], n: usize, u: Unified, p: Pair) -> Unified
     join(u, m)
 }
 
-// The first of these pairs, from the left.
+// The first of these pairs, from the left; it tells the variables bound, in order, and none after a clash.
 pub fn unify(vars: &[u8], n: usize, pairs: [Pair; codes::MOST_ARITY], count: usize) -> Unified
     requires { ⌜ (n * cellSize ≤ length (now vars)) × (count ≤ 4) × Below n count pairs ⌝ }
-    ensures { λ r. ⌜ (outcome r ≡ unify (varsIn (now (vars .entry)) n) (take count pairs)) × (r .count ≤ count) × (length (r .binds) ≡ 4) ⌝ }
+    ensures { λ r. ⌜ (outcome r ≡ unify (varsIn (now (vars .entry)) n) (take count pairs)) × (r .count ≤ count) × (length (r .binds) ≡ 4) × (boundIn r ≡ boundVars (unify (varsIn (now (vars .entry)) n) (take count pairs))) ⌝ }
 {
     let mut u = nothing();
     let mut i = 0;

@@ -1,0 +1,2 @@
+-- What stands in the row.
+pub mod Row
