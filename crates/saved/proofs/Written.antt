@@ -1,19 +1,21 @@
 -- What the loops of the writers and readers keep.
 use mathlib.Core.Path.{_∙_, _≡_, ap, sym}
+use mathlib.Core.Bool.{_&&_, Bool}
 use mathlib.Core.List.{[], _++_, _∷_, append-nil, List}
-use Prim.Native.Nat.{_*_, _+_, _≤_, ℕ}
+use Prim.Native.Nat.{_*_, _+_, _<_, _≤_, ℕ}
+use lib.Dec.{eqb, lit<}
 use lib.ListN.{drop, drop-of-length-le, getD, length}
 use native.Mathlib.Omega.{arith}
-use native.Mathlib.Nat.{add-zero, zero-add}
+use native.Mathlib.Nat.{add-assoc, add-zero, zero-add}
 use Rattle.lay.proofs.Laws.{laid-length, laid-none, laid-start, laid-then, lays-then}
 use Rattle.lay.specs.Lay.{laid, Lays}
 use Rattle.parlog.specs.Records.{frontSize}
-use Rattle.parlog.specs.Tables.{cellSize, Lent, procCount, rowsBytes, rowSize, varCount, written, zeros}
+use Rattle.parlog.specs.Tables.{cellSize, headSize, Lent, procCount, rowsBytes, rowSize, u16At, varCount, written, zeros}
 use Rattle.rows.proofs.Laws.{wiped-all, zeros-length}
 use Rattle.rows.specs.Rows.{wiped}
-use Rattle.saved.proofs.Bytes.{from-length, from-none, from-snoc, head-record-length, process-record-length, rows-more, rows-none, stack-length}
+use Rattle.saved.proofs.Bytes.{from-at, from-length, from-none, from-snoc, head-record-length, process-record-length, rows-more, rows-none, stack-length}
 use Rattle.saved.specs.Form.{bytesFrom, headLength, headRecord, numbers, processLength, processRecord, recordOf, savedBytes, variableLength, variableRecord}
-use Rattle.saved.specs.Restored.{processIn, variableIn}
+use Rattle.saved.specs.Restored.{countsAgree, headIn, processIn, variableIn}
 
 -- ---- laid one behind the other
 
@@ -111,3 +113,19 @@ pub whole-laid : (l : Lent) (image : ℕ) {o p q r : List ℕ} {n m i j k : ℕ}
     → Lays o r 0 (savedBytes l image) k
 unfolding savedBytes
 whole-laid l image en em a b d = lays-then (lays-then a (rw en at b)) (rw em at d)
+
+-- ---- the counts
+
+module _ (x : List ℕ) where
+  counts-at : (k : ℕ) → k + 1 < headSize → u16At (headIn x) k ≡ u16At x (frontSize + k)
+  counts-at k h =
+      let a : getD (headIn x) k 0 ≡ getD x (frontSize + k) 0 = from-at x frontSize headSize k (omega arith) in
+      let b : getD (headIn x) (k + 1) 0 ≡ getD x (frontSize + k + 1) 0 = simp add-assoc (from-at x frontSize headSize (k + 1) h) in
+      cc
+
+  pub counts-said : (a b : ℕ) {n m : ℕ} {q : Bool} → n ≡ u16At x 4 → m ≡ u16At x 6 → q ≡ (eqb n a && eqb m b) → q ≡ countsAgree x a b
+  unfolding countsAgree
+  counts-said a b {n} {m} en em eq =
+      let u : procCount (headIn x) ≡ n = counts-at 0 (lit< tt) ∙ sym en in
+      let v : varCount (headIn x) ≡ m = counts-at 2 (lit< tt) ∙ sym em in
+      eq ∙ rw (u, v)

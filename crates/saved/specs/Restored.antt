@@ -1,10 +1,12 @@
 -- A saved run as tables: where each row stands in it, once its records have passed their tests. Lengths are fixed, so that places can be counted.
 use mathlib.Core.Path.{_≡_}
+use mathlib.Core.Bool.{_&&_, Bool}
 use mathlib.Core.List.{List}
 use Prim.Native.Nat.{_*_, _+_, ℕ}
+use lib.Dec.{eqb}
 use Rattle.parlog.specs.Limits.{Limits}
 use Rattle.parlog.specs.Records.{frontSize, wordAt}
-use Rattle.parlog.specs.Tables.{cellSize, headSize, lent, Lent, rowsBytes, rowSize, written, zeros}
+use Rattle.parlog.specs.Tables.{cellSize, headSize, lent, Lent, procCount, rowsBytes, rowSize, varCount, written, zeros}
 use Rattle.saved.specs.Form.{bytesFrom, headLength, numbers, processLength, variableLength}
 
 -- Saved 2: the ten bytes of the head
@@ -14,6 +16,10 @@ headIn x = bytesFrom x frontSize headSize
 -- Saved 2: the image's length
 abbrev pub imageLength : List ℕ → ℕ
 imageLength x = wordAt x (frontSize + headSize)
+
+-- Saved 9: the head's counts are those of the records
+unfoldable pub countsAgree : List ℕ → ℕ → ℕ → Bool
+countsAgree x a b = eqb (procCount (headIn x)) a && eqb (varCount (headIn x)) b
 
 -- Saved 3: the row of process i
 abbrev pub processIn : List ℕ → ℕ → List ℕ

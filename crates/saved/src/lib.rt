@@ -10,7 +10,7 @@ ghost use Rattle.parlog.specs.Tables.{cellSize, headSize, lent, procCount, rows
 ghost use Rattle.lay.specs.Lay.{Lays};
 ghost use Rattle.saved.specs.Form.{bytesFrom, headRecord, lengthOf, numbers, processRecord, recordOf, savedBytes, savedSize, variableRecord};
 ghost use Rattle.saved.specs.Reading.{faultAt, kindWrong, readSaved, refusalIn, seenWith};
-ghost use Rattle.saved.specs.Restored.{cellsIn, imageLength, RestoreSays, rowsIn};
+ghost use Rattle.saved.specs.Restored.{cellsIn, countsAgree, imageLength, RestoreSays, rowsIn};
 ghost use Rattle.saved.specs.declared.Reading.the-variants.{Broken};
 
 // ---- the form
@@ -29,7 +29,11 @@ pub const PROCESS_LENGTH: usize = 28;
 
 pub const VARIABLE_LENGTH: usize = 8;
 
-// Where the image's length stands.
+// Where the head's counts and the image's length stand.
+const HEAD_PROCS: usize = codes::RECORD_BODY + codes::HEAD_PROCS;
+
+const HEAD_VARS: usize = codes::RECORD_BODY + codes::HEAD_VARS;
+
 const IMAGE_LENGTH: usize = codes::RECORD_BODY + codes::HEAD_SIZE;
 
 // What is known of a saved run between two records: the kind of the one before, 0 where there is none, and how many processes and variables were read.
@@ -298,6 +302,16 @@ pub fn image_length(s: &[u8]) -> usize
     ensures { λ r. ⌜ (r ≡ imageLength (now (s .entry))) × (r ≤ 65535) ⌝ }
 {
     word(s, IMAGE_LENGTH)
+}
+
+// The head's counts are those of the records.
+pub fn counts_agree(s: &[u8], a: usize, b: usize) -> bool
+    requires { ⌜ 16 ≤ length (now s) ⌝ }
+    ensures { λ r. ⌜ r ≡ countsAgree (now (s .entry)) a b ⌝ }
+{
+    let n = basics::wide_u16(rows::get_u16(s, HEAD_PROCS));
+    let m = basics::wide_u16(rows::get_u16(s, HEAD_VARS));
+    basics::and(n == a, m == b)
 }
 
 // The rows of the first n processes, and zeros behind them.

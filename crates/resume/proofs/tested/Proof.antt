@@ -1,0 +1,69 @@
+use borrow.Author.Needs.{needs}
+use Rattle.resume.proofs.tested.Statement.{statement}
+use Rattle.resume.proofs.tested.Tie as tie
+use Rattle.resume.proofs.tested.Reads as reads
+use Rattle.resume.proofs.tested.Lts as lts
+use Rattle.entry.proofs.refusal.Reads as refusal-reads
+use Rattle.resume.proofs.fits.Reads as fits-reads
+use Rattle.saved.proofs.image_length.Reads as image-length-reads
+use Rattle.saved.proofs.read.Reads as read-reads
+
+-- src/lib.rt:110:9
+read-requires : tie.Need-read-requires
+read-requires c κs = search needs
+
+-- src/lib.rt:111:24
+enum-known-seen : tie.Need-enum-known-seen
+enum-known-seen c = search needs
+
+-- src/lib.rt:112:9
+enum-told : tie.Need-enum-told
+enum-told c = search needs
+
+-- src/lib.rt:112:9
+returns : tie.Need-returns
+returns c = ?
+
+-- src/lib.rt:114:8
+image-length-requires : tie.Need-image-length-requires
+image-length-requires c κs = ?
+
+-- src/lib.rt:115:32
+refusal-requires : tie.Need-refusal-requires
+refusal-requires c κs = search needs
+
+-- src/lib.rt:115:9
+returns-2 : tie.Need-returns-2
+returns-2 c = ?
+
+-- src/lib.rt:117:9
+fits-requires : tie.Need-fits-requires
+fits-requires c κs = ?
+
+-- src/lib.rt:118:32
+refusal-requires-2 : tie.Need-refusal-requires-2
+refusal-requires-2 c κs = search needs
+
+-- src/lib.rt:118:9
+returns-3 : tie.Need-returns-3
+returns-3 c = ?
+
+-- src/lib.rt:98:1
+returns-4 : tie.Need-returns-4
+returns-4 c = ?
+
+pub tested-spec : {M : Type 1} → statement M
+tested-spec =
+    tie.close
+    (tie.spec
+    read-requires
+    enum-known-seen
+    enum-told
+    returns
+    image-length-requires
+    refusal-requires
+    returns-2
+    fits-requires
+    refusal-requires-2
+    returns-3
+    returns-4)

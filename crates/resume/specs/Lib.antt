@@ -1,0 +1,3 @@
+-- The two calls.
+pub mod Calls
+pub mod Says
