@@ -1,5 +1,5 @@
 -- The ways through a resume.
-use mathlib.Core.Path.{_∙_, _≡_, sym}
+use mathlib.Core.Path.{_∙_, _≡_, ap, sym}
 use mathlib.Core.Bool.{_&&_, Bool, false, true}
 use mathlib.Core.List.{List}
 use Prim.Native.Nat.{_*_, _≤_, ℕ}
@@ -11,7 +11,7 @@ use Rattle.entry.proofs.Held.{count-procs, count-vars, same-lent, tables-state}
 use Rattle.load.specs.Fields.{refusalOf}
 use Rattle.parlog.proofs.Assume.{assume-counts, full-sizes}
 use Rattle.parlog.proofs.Bools.{and-true, never, not-so, true-and}
-use Rattle.parlog.specs.Limits.{Limits}
+use Rattle.parlog.specs.Limits.{Limits, small}
 use Rattle.parlog.specs.Load.{loadOf, refusal}
 use Rattle.parlog.specs.Program.{Program, programOf}
 use Rattle.parlog.specs.Scan.{every}
@@ -98,7 +98,15 @@ pub restored-lent : (lim : Limits) (x : List ℕ) (a b p v : ℕ) {h ps vs : Lis
 unfolding resumedLent
 restored-lent lim x a b p v {h} {ps} {vs} t ep ev = same-lent (lent h ps vs) (lent (headIn x) (rowsIn x a (lim .procs * rowSize)) (cellsIn x a b (lim .vars * cellSize))) (t .head-is) (t .procs-are ∙ rw ep) (t .vars-are ∙ rw ev)
 
+pub keeps-law : (pr : Program) (x : List ℕ) (a b : ℕ) {ok : Bool} {p v : ℕ} {h ps vs : List ℕ} → ok ≡ lentOk small pr (lent h ps vs) → RestoreSays x a b p v h ps vs → p ≡ 12288 → v ≡ 4096
+    → ok ≡ lentOk small pr (resumedLent small x a b)
+unfolding small
+keeps-law pr x a b {p = p} {v} e t ep ev = e ∙ ap (lentOk small pr) (restored-lent small x a b p v t ep ev)
+
 -- ---- the tests
+
+pub read-inside : (x : List ℕ) {g : Reading} {a b : ℕ} → g ≡ readSaved x → g ≡ Whole a b → savedSize a b ≤ length x
+read-inside x is e = let F = read-formed x (sym is ∙ e) in let s = F .size in omega arith
 
 module _ (lim : Limits) (pr : Program) (image : ℕ) (l : Lent) (x : List ℕ) {g : Reading} (is : g ≡ readSaved x) where
   pub tested-broken : {f : Refusal} → g ≡ Broken f → TestedSays lim pr image l x g
@@ -107,9 +115,6 @@ module _ (lim : Limits) (pr : Program) (image : ℕ) (l : Lent) (x : List ℕ) {
   module _ {a b : ℕ} (e : g ≡ Whole a b) {n : ℕ} (en : n ≡ imageLength x) where
     formed : Formed x a b
     formed = read-formed x (sym is ∙ e)
-
-    pub tested-inside : savedSize a b ≤ length x
-    tested-inside = let s = formed .size in omega arith
 
     pub tested-foreign : (n ≡ image → ⊥) → {f : Refusal} → f ≡ refusal 15 0 → TestedSays lim pr image l x (Broken f)
     tested-foreign h ef =
@@ -123,8 +128,8 @@ module _ (lim : Limits) (pr : Program) (image : ℕ) (l : Lent) (x : List ℕ) {
       pub tested-state : ok ≡ false → {f : Refusal} → f ≡ refusal 8 0 → TestedSays lim pr image l x (Broken f)
       tested-state h ef = record { call = rw (sym is ∙ e, ours, sym test ∙ h, ef); restores = tt }
 
-      pub tested-whole : ok ≡ true → TestedSays lim pr image l x g
-      tested-whole h = rw e (record { call = rw (sym is ∙ e, ours, sym test ∙ h); restores = resumable-restores lim pr l x a b formed (sym test ∙ h) })
+      pub tested-whole : ok ≡ true → TestedSays lim pr image l x (Whole a b)
+      tested-whole h = record { call = rw (sym is ∙ e, ours, sym test ∙ h); restores = resumable-restores lim pr l x a b formed (sym test ∙ h) }
 
 module _ (lim : Limits) (s : List ℕ) (l : Lent) (x : List ℕ) {o : Loaded} (is : o ≡ loadOf s) where
   pub decided-refused : {f r : Refusal} → o ≡ Refused f → r ≡ refusalOf o → DecidedSays lim s l x (Broken r)

@@ -49,6 +49,7 @@ module _ (lim : Limits) (s : List ℕ) (l : Lent) (row : List ℕ) {e : Loaded} 
         let i : size ≡ length (savedBytes l (length s)) = sym same-size in
         record { answer = rw (k, z) (ap Stored i); row-is = rw (k, z) (w .row ∙ laid-start (savedBytes l (length s)) row enough); few = few }
 
-  -- what the writer may count on
-  pub save-writes : {r c : ℕ} → e ≡ Accepted r c → (headSize ≤ length (l .head)) × (procCount (l .head) * rowSize ≤ length (l .procs)) × (varCount (l .head) * cellSize ≤ length (l .vars))
-  save-writes q = let i = inside-of lim s l told q in let h = i .head in (omega arith, i .rows, i .cells)
+-- what the writer may count on
+pub save-writes : (lim : Limits) (s : List ℕ) (l : Lent) {e : Loaded} {r c : ℕ} → EnterSays lim s l e → e ≡ Accepted r c
+    → (headSize ≤ length (l .head)) × (procCount (l .head) * rowSize ≤ length (l .procs)) × (varCount (l .head) * cellSize ≤ length (l .vars))
+save-writes lim s l told q = let i = inside-of lim s l told q in let h = i .head in (omega arith, i .rows, i .cells)

@@ -1,3 +1,4 @@
+use Rattle.resume.proofs.Resuming.{decided-refused, decided-tested}
 use borrow.Author.Needs.{needs}
 use Rattle.resume.proofs.decided.Statement.{statement}
 use Rattle.resume.proofs.decided.Tie as tie
@@ -25,15 +26,15 @@ refusal-requires c κs = search needs
 
 -- src/lib.rt:130:9
 returns : tie.Need-returns
-returns c = ?
+returns c = decided-refused _ _ _ _ (c .before .before .before .load .ensures .0) (c .before .enum-told .given .1) (c .refusal .ensures)
 
 -- src/lib.rt:132:5
 tested-requires : tie.Need-tested-requires
-tested-requires c κs = ?
+tested-requires c κs = let h = rw (c .before .l .given .1) at (c .before .before .before .load .ensures .1) in (h .0, h .1)
 
 -- src/lib.rt:124:1
 returns-2 : tie.Need-returns-2
-returns-2 c = ?
+returns-2 c = decided-tested _ _ _ _ (c .before .before .before .before .load .ensures .0) (c .before .before .l .given .1) (c .tested .ensures)
 
 pub decided-spec : {M : Type 1} → statement M
 decided-spec =

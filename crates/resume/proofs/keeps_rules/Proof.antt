@@ -1,3 +1,5 @@
+use Rattle.parlog.specs.Limits.{small}
+use Rattle.resume.proofs.Resuming.{keeps-law}
 use borrow.Author.Needs.{needs}
 use Rattle.resume.proofs.keeps_rules.Statement.{statement}
 use Rattle.resume.proofs.keeps_rules.Tie as tie
@@ -40,7 +42,8 @@ lent-ok-requires c κs = search needs
 
 -- src/lib.rt:52:1
 returns : tie.Need-returns
-returns c = ?
+unfolding small
+returns c = keeps-law _ _ _ _ (c .lent-ok .ensures) (c .before .before .before .before .before .before .before .restore .ensures) (search needs) (search needs)
 
 pub keeps-rules-spec : {M : Type 1} → statement M
 keeps-rules-spec =

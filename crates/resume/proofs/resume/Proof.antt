@@ -1,3 +1,6 @@
+use native.Mathlib.Omega.{arith}
+use Rattle.parlog.specs.Limits.{small}
+use Rattle.resume.proofs.Resuming.{resume-refused, resume-restored, resume-restores}
 use borrow.Author.Needs.{needs}
 use Rattle.resume.proofs.resume.Statement.{statement}
 use Rattle.resume.proofs.resume.Tie as tie
@@ -37,11 +40,17 @@ same-length-3 c = search needs
 
 -- src/lib.rt:148:9
 returns : tie.Need-returns
-returns c = ?
+returns c = resume-refused _ _ _ _ (c .before .before .before .decided .ensures) (c .before .enum-told .given .1) (c .refusal .ensures)
 
 -- src/lib.rt:150:5
 restore-requires : tie.Need-restore-requires
-restore-requires c κs = ?
+unfolding small
+restore-requires c κs = let r = resume-restores _ _ _ _ (c .before .before .before .before .before .before .decided .ensures) (c .before .before .before .before .d .given .1) in
+    let n = r .procs in
+    let v = r .vars in
+    let a = r .procs-most in
+    let b = r .vars-most in
+    (omega arith, omega arith, r .inside, r .head, omega arith, omega arith, omega arith, omega arith)
 
 -- src/lib.rt:136:1
 same-length-4 : tie.Need-same-length-4
@@ -57,7 +66,7 @@ same-length-6 c = search needs
 
 -- src/lib.rt:136:1
 returns-2 : tie.Need-returns-2
-returns-2 c = ?
+returns-2 c = resume-restored _ _ _ _ (c .before .before .before .before .before .before .before .before .before .before .before .before .before .decided .ensures) (c .before .before .before .before .before .before .before .before .before .before .before .d .given .1) (c .before .before .before .before .before .before .restore .ensures)
 
 pub resume-spec : {M : Type 1} → statement M
 resume-spec =
