@@ -4,7 +4,7 @@ use mathlib.Core.List.{List}
 use Prim.Native.Nat.{_/_, _≤_, ℕ}
 use lib.ListN.{length}
 use native.Mathlib.Omega.{arith}
-use Rattle.capi.specs.Tells.{RunTells, StartTells, StepTells, SupplyTells, Tells, TurnTells, ValueTells, WatchTells}
+use Rattle.capi.specs.Tells.{ResumeTells, RunTells, SaveTells, StartTells, StepTells, SupplyTells, Tells, TurnTells, ValueTells, WatchTells}
 use Rattle.load.specs.Fields.{refusalOf}
 use Rattle.machine.specs.Starting.{StartSays}
 use Rattle.machine.specs.Supplying.{SupplySays}
@@ -13,6 +13,7 @@ use Rattle.parlog.specs.Limits.{Limits, Usable}
 use Rattle.parlog.specs.Load.{loadOf}
 use Rattle.parlog.specs.Numbers.{loadNumbers, Numbers, refusedAs, runNumbers, startNumbers, stepNumbers, supplyNumbers, valueNumbers, watchNumbers, word}
 use Rattle.parlog.specs.Run.{watchOf}
+use Rattle.parlog.specs.Stories.{told}
 use Rattle.parlog.specs.Tables.{Lent, procsOf, rowSize}
 use Rattle.parlog.specs.declared.Found.{Found}
 use Rattle.parlog.specs.declared.Loaded.{Loaded}
@@ -23,11 +24,16 @@ use Rattle.parlog.specs.declared.Started.{Started}
 use Rattle.parlog.specs.declared.Stepped.{Stepped}
 use Rattle.parlog.specs.declared.Supplied.{Supplied}
 use Rattle.parlog.specs.declared.Valued.{Valued}
+use Rattle.resume.specs.Says.{ResumeSays, SaveSays}
+use Rattle.resume.specs.declared.Resumed.{Resumed}
+use Rattle.resume.specs.declared.Saved.{Saved}
 use Rattle.rows.proofs.Tables.{procs-length}
 use Rattle.run.specs.Running.{RunSays, TurnSays}
 use Rattle.step.specs.Stepping.{StepSays}
 use Rattle.words.proofs.Fitting.{run-fits, start-fits, step-fits, supply-fits, turn-fits, value-fits, watch-reached}
+use Rattle.words.proofs.Nights.{save-fits}
 use Rattle.words.specs.Fits.{reached, RunFits, StartFits, StepFits, SupplyFits, ValueFits}
+use Rattle.words.specs.Nights.{resumeNumbers, SaveFits, saveNumbers}
 
 module _ (s : List ℕ) {l : Loaded} (is : l ≡ loadOf s) where
   pub load-refused : {f r : Refusal} {w : ℕ} → l ≡ Refused f → r ≡ refusalOf l → w ≡ word (refusedAs r) → w ≡ word (loadNumbers (loadOf s))
@@ -97,3 +103,15 @@ watch-tells p e k = word-of e (λ f. watchNumbers (reached f)) k
 -- a row of processes that a word can tell throughout: the watch itself
 pub watch-whole : (p : List ℕ) {w : ℕ} → length p / rowSize ≤ 4294967296 → WatchTells p w → w ≡ word (watchNumbers (watchOf (procsOf p (length p / rowSize))))
 watch-whole p h k = rw (k, watch-reached (procsOf p (length p / rowSize)) (rw (procs-length p (length p / rowSize)) h))
+
+-- ---- a run saved, and gone on with
+
+module _ (lim : Limits) (s : List ℕ) (l : Lent) (row : List ℕ) {a : Saved} {row′ : List ℕ} (told : SaveSays lim s l row a row′) where
+  pub save-fit : SaveFits a
+  save-fit = save-fits lim s l row a (told .answer) (told .few)
+
+  pub save-tells : {w : ℕ} → w ≡ word (saveNumbers a) → SaveTells lim s l row w row′
+  save-tells k = record { answer = word-of (told .answer) saveNumbers k; row-is = told .row-is }
+
+pub resume-tells : (lim : Limits) (s : List ℕ) (l : Lent) (x : List ℕ) {a : Resumed} {h p v : List ℕ} → ResumeSays lim s l x a h p v → {w : ℕ} → w ≡ word (resumeNumbers a) → ResumeTells lim s l x w h p v
+resume-tells lim s l x told k = tells-of (told .answer) resumeNumbers (told .head) (told .procs) (told .vars) k

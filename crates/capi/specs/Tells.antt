@@ -9,7 +9,9 @@ use Rattle.parlog.specs.Load.{loadOf}
 use Rattle.parlog.specs.Numbers.{loadNumbers, Numbers, runNumbers, startNumbers, stepNumbers, supplyNumbers, valueNumbers, watchNumbers, word}
 use Rattle.parlog.specs.Run.{watchOf}
 use Rattle.parlog.specs.Tables.{Lent, procsOf, rowSize}
+use Rattle.resume.specs.Calls.{resumeCall, saveCall}
 use Rattle.words.specs.Fits.{reached}
+use Rattle.words.specs.Nights.{resumeNumbers, saveNumbers}
 
 -- Turns 10: the word of these numbers, and these rows
 pub record Tells (n : Numbers) (l : Lent) (r : ℕ) (h p v : List ℕ) : Type 0 where
@@ -49,3 +51,14 @@ ValueTells lim s l x r = r ≡ word (valueNumbers (valueCall lim s l x))
 -- Turns 5: of a watch over bytes: any row of processes, as far as a word can tell its number
 abbrev pub WatchTells : List ℕ → ℕ → Type 0
 WatchTells p r = r ≡ word (watchNumbers (reached (watchOf (procsOf p (length p / rowSize)))))
+
+-- ---- a run saved, and gone on with
+
+-- Saved 4, 11: of a save: the word, and the row afterwards; the tables are lent to read only
+pub record SaveTells (lim : Limits) (s : List ℕ) (l : Lent) (row : List ℕ) (r : ℕ) (row′ : List ℕ) : Type 0 where
+  pub answer : r ≡ word (saveNumbers (saveCall lim s l row .answer))
+  pub row-is : row′ ≡ saveCall lim s l row .row
+
+-- Saved 10, 11: of a resume from the saved run x, which is lent to read only
+abbrev pub ResumeTells : Limits → List ℕ → Lent → List ℕ → ℕ → List ℕ → List ℕ → List ℕ → Type 0
+ResumeTells lim s l x r h p v = Tells (resumeNumbers (resumeCall lim s l x .answer)) (resumeCall lim s l x .lent) r h p v
