@@ -13,7 +13,6 @@ use Rattle.parlog.specs.Limits.{Limits, Usable}
 use Rattle.parlog.specs.Load.{loadOf}
 use Rattle.parlog.specs.Numbers.{loadNumbers, Numbers, refusedAs, runNumbers, startNumbers, stepNumbers, supplyNumbers, valueNumbers, watchNumbers, word}
 use Rattle.parlog.specs.Run.{watchOf}
-use Rattle.parlog.specs.Stories.{told}
 use Rattle.parlog.specs.Tables.{Lent, procsOf, rowSize}
 use Rattle.parlog.specs.declared.Found.{Found}
 use Rattle.parlog.specs.declared.Loaded.{Loaded}
@@ -114,4 +113,4 @@ module _ (lim : Limits) (s : List ℕ) (l : Lent) (row : List ℕ) {a : Saved} {
   save-tells k = record { answer = word-of (told .answer) saveNumbers k; row-is = told .row-is }
 
 pub resume-tells : (lim : Limits) (s : List ℕ) (l : Lent) (x : List ℕ) {a : Resumed} {h p v : List ℕ} → ResumeSays lim s l x a h p v → {w : ℕ} → w ≡ word (resumeNumbers a) → ResumeTells lim s l x w h p v
-resume-tells lim s l x told k = tells-of (told .answer) resumeNumbers (told .head) (told .procs) (told .vars) k
+resume-tells lim s l x t k = tells-of (t .answer) resumeNumbers (t .head) (t .procs) (t .vars) k

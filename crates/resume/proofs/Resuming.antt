@@ -32,13 +32,18 @@ use Rattle.saved.specs.declared.Reading.{Reading}
 use Rattle.saved.specs.declared.Reading.the-variants.{Broken, Whole}
 
 -- tables that keep the rules have no more rows than there may be
-lent-few : (lim : Limits) (pr : Program) (l : Lent) → lentOk lim pr l ≡ true → (procCount (l .head) ≤ lim .procs) × (varCount (l .head) ≤ lim .vars)
+pub lent-few : (lim : Limits) (pr : Program) (l : Lent) → lentOk lim pr l ≡ true → (procCount (l .head) ≤ lim .procs) × (varCount (l .head) ≤ lim .vars)
 unfolding lentOk
 lent-few lim pr l e =
     let a = and-true (fullSize lim l) (every (cellKnown (l .vars)) (varCount (l .head)) && tablesOk lim pr (tablesIn l)) e in
     let b = and-true (every (cellKnown (l .vars)) (varCount (l .head))) (tablesOk lim pr (tablesIn l)) (a .1) in
     let k = assume-counts lim pr (tablesIn l .state) (tables-state lim pr (tablesIn l) (b .1)) in
     (omega (arith, count-procs l, k .1), omega (arith, count-vars l, k .3))
+
+-- so has a saved run that keeps them
+pub resumed-few : (lim : Limits) (pr : Program) (x : List ℕ) (a b : ℕ) → lentOk lim pr (resumedLent lim x a b) ≡ true → (procCount (headIn x) ≤ lim .procs) × (varCount (headIn x) ≤ lim .vars)
+unfolding resumedLent
+resumed-few lim pr x a b ok = lent-few lim pr (resumedLent lim x a b) ok
 
 -- ---- all of 8
 
