@@ -21,9 +21,8 @@ use Rattle.promises.specs.Reach.{Came, from-start, Later}
 use Rattle.promises.specs.Refusals.{LetIn}
 use Rattle.refusals.proofs.Exactly.{accepted-right}
 use Rattle.refusals.specs.Right.{RightImage}
-use Rattle.resume.proofs.Copied.{copied-put}
+use Rattle.resume.proofs.Copied.{copied, copied-put}
 use Rattle.rows.proofs.Laws.{zeros-length}
-use Rattle.turn_forms.proofs.Core.{copied}
 
 -- a fresh start written over itself
 module _ (lim : Limits) (usable : Usable lim) (pr : Program) (few : pr .goalVars ≤ 255) where

@@ -140,7 +140,6 @@ module _ (lim : Limits) (s : List ℕ) (r c p : ℕ) where
       let ts = run-turns lim s r c l (a .enters) (a .same) e .turns in
       run-is-turns ts (serve-turns ts f a (serve f) n (subst (λ (es : List Event). Served lim pr p n (tablesIn l) es) (sym (turns-events ts f)) x))
   serve {l} (a-supply-call e f) a n x = supply-case a f (serve f (open-left a (left-supply lim s l (a .enters) e))) e x
-
   serve {l} (a-night {l′ = l′} e f) a n x =
       let b = read-back lim s l l′ e (a .enters) in
       a-night-between (serve f (open-night a e) n (subst (λ (y : Tables). Served lim pr p n y (events f)) (sym (b .tables)) x))

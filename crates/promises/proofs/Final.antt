@@ -46,7 +46,7 @@ use Rattle.promises.proofs.Keeping.{Goes, goes-run, goes-step, goes-sup
 use Rattle.promises.proofs.Whose.{move-can, no-room, room-not}
 use Rattle.promises.specs.Reach.{Later}
 use Rattle.promises.specs.Refusals.{LacksRoom, LetIn, stateIn}
-use Rattle.turn_forms.proofs.Core.{copied}
+use Rattle.resume.proofs.Copied.{copied}
 
 -- ---- what a rule makes
 

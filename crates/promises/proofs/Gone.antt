@@ -20,13 +20,12 @@ use Rattle.promises.specs.Reach.{Came, from-start, Night}
 use Rattle.promises.specs.Refusals.{LetIn}
 use Rattle.refusals.proofs.Exactly.{accepted-right}
 use Rattle.refusals.specs.Right.{RightImage}
-use Rattle.resume.proofs.Copied.{cells-there, copied-put, over-past, rows-there, same-saves}
+use Rattle.resume.proofs.Copied.{cells-there, copied, copied-put, over-past, rows-there, same-saves}
 use Rattle.saved.specs.Form.{savedBytes}
-use Rattle.turn_forms.proofs.Core.{copied}
 
 -- ---- tables over zeros
 
-module _ (lim : Limits) (s : List ℕ) {r c : ℕ} where
+module _ (lim : Limits) (s : List ℕ) (r c : ℕ) where
   abbrev pr : Program
   pr = programOf s r c
 
@@ -48,7 +47,7 @@ module _ (lim : Limits) (s : List ℕ) {r c : ℕ} where
 
   module _ (usable : Usable lim) (right : RightImage s r c) {l : Lent} where
     came-zeroed : Came lim s l → LetIn lim s l r c × Zeroed l
-    came-zeroed (from-start {k} {l′} {w = w} meets z later) =
+    came-zeroed (from-start {l = k} {l′} {w = w} meets z later) =
         let e = accepted-right s .1 right in
         let b = begun-at lim usable s k w l′ meets z e in
         later-by lim s Zeroed zeroed-goes zeroed-night (kept-start lim usable s k w l′ meets z right) (start-zeroed l′ (b .0) (b .1)) later
@@ -60,8 +59,7 @@ module _ (lim : Limits) (s : List ℕ) {r c : ℕ} where
     pub zeros-behind : Came lim s l → ((j : ℕ) → procCount (l .head) * rowSize ≤ j → getD (l .procs) j 0 ≡ 0) × ((j : ℕ) → varCount (l .head) * cellSize ≤ j → getD (l .vars) j 0 ≡ 0)
     zeros-behind came =
         let (i, q) = came-zeroed came in
-        let e : l ≡ copied lim l = q ∙ sym (copied-put lim pr l (let-tables i) (zeroed-twice l i q)) in
-        (
+        let e : l ≡ copied lim l = q ∙ sym (copied-put lim pr l (let-tables i) (zeroed-twice l i q)) in (
           λ j h. ap (λ (k : Lent). getD (k .procs) j 0) e ∙ over-past (l .procs) (procCount (l .head) * rowSize) (lim .procs * rowSize) (rows-there lim pr l (let-tables i)) j h,
           λ j h. ap (λ (k : Lent). getD (k .vars) j 0) e ∙ over-past (l .vars) (varCount (l .head) * cellSize) (lim .vars * cellSize) (cells-there lim pr l (let-tables i)) j h,
         )

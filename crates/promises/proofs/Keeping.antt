@@ -33,7 +33,7 @@ use Rattle.promises.specs.Reach.{Later, no-call, then-night, then-run, t
 use Rattle.promises.specs.Refusals.{LetIn}
 use Rattle.refusals.proofs.Exactly.{accepted-right}
 use Rattle.refusals.specs.Right.{RightImage}
-use Rattle.turn_forms.proofs.Core.{copied}
+use Rattle.resume.proofs.Copied.{copied}
 
 -- ---- from tables to tables
 

@@ -29,8 +29,7 @@ use Rattle.promises.specs.Refusals.{is-foreign, LetIn, no-tables, Refusi
 use Rattle.refusals.proofs.Exactly.{accepted-right, refused-exactly, refused-number}
 use Rattle.refusals.proofs.RuledExactly.{lent-exactly, sizes-exactly}
 use Rattle.refusals.proofs.Tests.{Decides, refuted, refutes}
-use Rattle.refusals.specs.Right.{Whole}
-use Rattle.resume.proofs.Copied.{cells-there, copied-good, copied-tables, over-past, resume-save, rows-there}
+use Rattle.resume.proofs.Copied.{cells-there, copied, copied-good, copied-tables, over-past, resume-save, rows-there}
 use Rattle.resume.proofs.Resuming.{resumed-few}
 use Rattle.resume.specs.Calls.{resumable, resumeCall, saveBy, saveCall}
 use Rattle.resume.specs.declared.Resumed.the-variants.{Restored}
@@ -43,8 +42,7 @@ use Rattle.saved.specs.Formed.{BadSaved, no-record, saved-body, saved-cut, save
 use Rattle.saved.specs.Reading.{readSaved}
 use Rattle.saved.specs.Restored.{countsAgree, headIn, imageLength, resumedLent}
 use Rattle.saved.specs.declared.Reading.{Reading}
-use Rattle.saved.specs.declared.Reading.the-variants.{Broken}
-use Rattle.turn_forms.proofs.Core.{copied}
+use Rattle.saved.specs.declared.Reading.the-variants.{Broken, Whole}
 use Rattle.words.proofs.Nights.{image-near, told-near}
 use Rattle.words.specs.Nights.{resumeNumbers, saveNumbers, toldRefusal}
 

@@ -1,4 +1,3 @@
 pub mod Saving
 pub mod Resuming
 pub mod Copied
-pub mod Computed

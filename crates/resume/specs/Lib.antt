@@ -1,4 +1,3 @@
 -- The two calls.
 pub mod Calls
 pub mod Says
-pub mod Instances
