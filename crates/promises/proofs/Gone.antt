@@ -3,7 +3,7 @@ use mathlib.Core.Path.{_∙_, _≡_, ap, sym}
 use mathlib.Core.Bool.{true}
 use mathlib.Core.List.{List}
 use Prim.Native.Nat.{_*_, _≤_, ℕ}
-use lib.ListN.{getD, length}
+use lib.ListN.{getD, length, take}
 use Rattle.entry.proofs.Held.{cells-fit, put-over, rows-fit}
 use Rattle.parlog.specs.Limits.{Limits, Usable}
 use Rattle.parlog.specs.Program.{Program, programOf}
@@ -13,9 +13,10 @@ use Rattle.promises.proofs.Arrive.{no-bytes-full, noBytes, zeros-twice}
 use Rattle.promises.proofs.Demand2.{begun-at}
 use Rattle.promises.proofs.Entry.{let-ok, let-tables}
 use Rattle.promises.proofs.Keeping.{Goes, goes-more, goes-ok, kept-start, later-by}
-use Rattle.promises.proofs.Nights.{night-copied}
+use Rattle.promises.proofs.Nights.{demand-2-save, night-copied, saved-front}
 use Rattle.promises.proofs.RunTurns.{put-same}
 use Rattle.promises.specs.Moves.{AllBytes}
+use Rattle.promises.specs.Outcomes.{largeIn, refusalIn, SaveMeets}
 use Rattle.promises.specs.Reach.{Came, from-start, Night}
 use Rattle.promises.specs.Refusals.{LetIn}
 use Rattle.refusals.proofs.Exactly.{accepted-right}
@@ -70,11 +71,20 @@ module _ (lim : Limits) (s : List ℕ) (r c : ℕ) where
         let (i, q) = came-zeroed came in
         night-copied lim s l l′ night i ∙ copied-put lim pr l (let-tables i) (zeroed-twice l i q) ∙ sym q
 
--- THE LAW: runs with equal tables are saved as equal bytes
-pub equal-runs : (lim : Limits) (s : List ℕ) (l k : Lent) {r c : ℕ} → LetIn lim s l r c → LetIn lim s k r c → AllBytes l → AllBytes k → tablesIn l ≡ tablesIn k
-    → savedBytes l (length s) ≡ savedBytes k (length s)
-equal-runs lim s l k {r} {c} i j bl bk e =
-    let pr : Program = programOf s r c in
-    let a = copied-put lim pr l (let-tables i) (put-same lim s l i bl) in
-    let b = copied-put lim pr k (let-tables j) (put-same lim s k j bk) in
-    same-saves lim pr l k (let-tables i) (let-tables j) (a ∙ rw e (sym b)) (length s)
+-- ---- equal runs
+
+module _ (lim : Limits) (s : List ℕ) (l k : Lent) {r c : ℕ} (i : LetIn lim s l r c) (j : LetIn lim s k r c) (bl : AllBytes l) (bk : AllBytes k) (e : tablesIn l ≡ tablesIn k) where
+  equal-bytes : savedBytes l (length s) ≡ savedBytes k (length s)
+  equal-bytes =
+      let pr : Program = programOf s r c in
+      let a = copied-put lim pr l (let-tables i) (put-same lim s l i bl) in
+      let b = copied-put lim pr k (let-tables j) (put-same lim s k j bk) in
+      same-saves lim pr l k (let-tables i) (let-tables j) (a ∙ rw e (sym b)) (length s)
+
+  -- THE LAW: runs with equal tables are saved as equal bytes
+  pub equal-runs : (row row′ stored stored′ : List ℕ) (w w′ : ℕ) → SaveMeets lim s l row w stored → refusalIn w ≡ 0 → SaveMeets lim s k row′ w′ stored′ → refusalIn w′ ≡ 0
+      → (largeIn w ≡ largeIn w′) × (take (largeIn w) stored ≡ take (largeIn w′) stored′)
+  equal-runs row row′ stored stored′ w w′ a za b zb =
+      let f = demand-2-save lim s l row w stored a za in
+      let g = demand-2-save lim s k row′ w′ stored′ b zb in
+      (f .size ∙ ap length equal-bytes ∙ sym (g .size), saved-front s l row w stored f ∙ equal-bytes ∙ sym (saved-front s k row′ w′ stored′ g))

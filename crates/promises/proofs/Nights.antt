@@ -112,6 +112,11 @@ module _ (lim : Limits) (s : List ℕ) (l : Lent) (row : List ℕ) where
         go (is-unsaved {n} {o} y) = let g = demand-1-save .by .given y in let m = save-numbered y in absurd (omega (arith, g .0, m .0))
         go (is-stored e k) = k
 
+-- what a save tells of the row is the saved run
+pub saved-front : (s : List ℕ) (l : Lent) (row : List ℕ) (w : ℕ) (row′ : List ℕ) → SavesRun s l row w row′ → take (largeIn w) row′ ≡ savedBytes l (length s)
+unfolding written
+saved-front s l row w row′ k = rw (k .size, k .bytes) (take-append-seam (savedBytes l (length s)) (drop (length (savedBytes l (length s))) row))
+
 -- ---- a resume
 
 bad-saved-numbered : {x : List ℕ} {n o : ℕ} → BadSaved x n o → (1 ≤ n) × (n ≤ 15)
@@ -262,8 +267,7 @@ module _ (lim : Limits) (s : List ℕ) (l l′ : Lent) (night : Night lim s l l�
   evening-saves = demand-2-save lim s l (night .row) (night .evening) (night .stored) (night .saves) (night .accepted)
 
   read-is : take (largeIn (night .evening)) (night .stored) ≡ savedBytes l (length s)
-  unfolding written
-  read-is = rw (evening-saves .size, evening-saves .bytes) (take-append-seam (savedBytes l (length s)) (drop (length (savedBytes l (length s))) (night .row)))
+  read-is = saved-front s l (night .row) (night .evening) (night .stored) evening-saves
 
   morning-is : resumeCall lim s (night .other) (take (largeIn (night .evening)) (night .stored)) ≡ record { answer = Restored; lent = copied lim l }
   morning-is =
