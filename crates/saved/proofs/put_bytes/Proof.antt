@@ -15,13 +15,13 @@ abbrev μ-loop : tie.MeasureT-loop
 μ-loop out₀ at row from n next₀ k₀ out next k = n - k
 
 loop-again : tie.Need-loop-again Inv-loop μ-loop
-loop-again c = let i = (c .before .before .before .before .before .before .loop .inv) in
-    let b = bytes-step (c .before .before .before .before .before .before .before .before .before .args .out .now) (c .before .before .before .before .before .before .before .before .before .args .row .now) (c .before .before .before .before .before .before .before .before .before .args .at) (c .before .before .before .before .before .before .before .before .before .args .from) (c .before .before .before .before .before .before .loop .k) (i .1) (i .2) (i .3) (c .before .before .put .ensures) in
+loop-again c = let s = c .before .before .before .before .before .before .before .before .before in let i = (c .before .before .before .before .before .before .loop .inv) in
+    let b = bytes-step (s .args .out .now) (s .args .row .now) (s .args .at) (s .args .from) (c .before .before .before .before .before .before .loop .k) (i .1) (i .2) (i .3) (c .before .before .put .ensures) in
     (search needs, b .0, b .1, b .2)
 
 returns : tie.Need-returns Inv-loop μ-loop
-returns c = let i = (c .before .loop .inv) in
-    bytes-end (c .before .before .before .before .args .out .now) (c .before .before .before .before .args .row .now) (c .before .before .before .before .args .at) (c .before .before .before .before .args .from) (c .before .loop .k) (c .before .before .before .before .args .n) (i .0) (c .loop-test .left) (i .3)
+returns c = let s = c .before .before .before .before in let i = (c .before .loop .inv) in
+    bytes-end (s .args .out .now) (s .args .row .now) (s .args .at) (s .args .from) (c .before .loop .k) (s .args .n) (i .0) (c .loop-test .left) (i .3)
 
 pub put-bytes-spec : {M : Type 1} → statement M
 put-bytes-spec =
@@ -29,7 +29,7 @@ put-bytes-spec =
     (tie.spec
     Inv-loop
     μ-loop
-    (λ c. (search needs, search needs, search needs, bytes-none (c .before .before .args .out .now) (c .before .before .args .row .now) (c .before .before .args .at) (c .before .before .args .from)))
+    (λ c. let s = c .before .before in (search needs, search needs, search needs, bytes-none (s .args .out .now) (s .args .row .now) (s .args .at) (s .args .from)))
     (λ c. search needs)
     (λ c. search needs)
     (λ c κs. search needs)

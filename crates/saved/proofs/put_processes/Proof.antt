@@ -19,13 +19,13 @@ abbrev μ-loop : tie.MeasureT-loop
 
 loop-again : tie.Need-loop-again Inv-loop μ-loop
 unfolding processRecord
-loop-again c = let i = (c .before .before .before .before .before .loop .inv) in
-    let b = stack-step (processRecord (c .before .before .before .before .before .before .before .before .args .procs .now)) (c .before .before .before .before .before .before .before .before .args .out .now) (c .before .before .before .before .before .before .before .before .args .at) (c .before .before .before .before .before .loop .i) 28 (process-record-length (c .before .before .before .before .before .before .before .before .args .procs .now) (c .before .before .before .before .before .loop .i)) (i .2) (i .3) (c .before .before .put-record .ensures) in
+loop-again c = let s = c .before .before .before .before .before .before .before .before in let i = (c .before .before .before .before .before .loop .inv) in
+    let b = stack-step (processRecord (s .args .procs .now)) (s .args .out .now) (s .args .at) (c .before .before .before .before .before .loop .i) 28 (process-record-length (s .args .procs .now) (c .before .before .before .before .before .loop .i)) (i .2) (i .3) (c .before .before .put-record .ensures) in
     (search needs, omega (arith, b .0), b .1, b .2)
 
 returns : tie.Need-returns Inv-loop μ-loop
-returns c = let i = (c .before .loop .inv) in
-    stack-end (processRecord (c .before .before .before .before .args .procs .now)) (c .before .before .before .before .args .out .now) (c .before .before .before .before .args .at) (c .before .loop .i) (c .before .before .before .before .args .n) (i .0) (c .loop-test .left) (i .3)
+returns c = let s = c .before .before .before .before in let i = (c .before .loop .inv) in
+    stack-end (processRecord (s .args .procs .now)) (s .args .out .now) (s .args .at) (c .before .loop .i) (s .args .n) (i .0) (c .loop-test .left) (i .3)
 
 pub put-processes-spec : {M : Type 1} → statement M
 put-processes-spec =
@@ -33,7 +33,7 @@ put-processes-spec =
     (tie.spec
     Inv-loop
     μ-loop
-    (λ c. (search needs, search needs, search needs, stack-none (processRecord (c .before .before .args .procs .now)) (c .before .before .args .out .now) (c .before .before .args .at)))
+    (λ c. let s = c .before .before in (search needs, search needs, search needs, stack-none (processRecord (s .args .procs .now)) (s .args .out .now) (s .args .at)))
     (λ c. search needs)
     (λ c κs. search needs)
     (λ c. search needs)

@@ -1,4 +1,4 @@
-use Prim.Native.Nat.{_*_, _+_, _≤_, _-_}
+use Prim.Native.Nat.{_*_, _≤_, _-_}
 use mathlib.Core.Path.{_≡_}
 use native.Mathlib.Omega.{arith}
 use borrow.Author.Needs.{needs}
@@ -18,13 +18,13 @@ abbrev μ-loop : tie.MeasureT-loop
 μ-loop s n procs₀ i₀ procs i = n - i
 
 loop-again : tie.Need-loop-again Inv-loop μ-loop
-loop-again c = let i = (c .before .before .before .before .before .loop .inv) in
-    (search needs, search needs, search needs, search needs, rows-laid (processIn (c .before .before .before .before .before .before .before .before .before .before .before .before .args .s .now)) 24 (process-in-length (c .before .before .before .before .before .before .before .before .before .before .before .before .args .s .now)) _ (c .before .before .before .before .before .loop .i) (i .4) ((c .before .before .put-bytes .ensures) .row))
+loop-again c = let s = c .before .before .before .before .before .before .before .before .before .before .before .before in let i = (c .before .before .before .before .before .loop .inv) in
+    (search needs, search needs, search needs, search needs, rows-laid (processIn (s .args .s .now)) 24 (process-in-length (s .args .s .now)) _ (c .before .before .before .before .before .loop .i) (i .4) ((c .before .before .put-bytes .ensures) .row))
 
 returns : tie.Need-returns Inv-loop μ-loop
 unfolding rowsIn
-returns c = let i = (c .before .loop .inv) in
-    table-done (processIn (c .before .before .before .before .before .before .before .before .args .s .now)) 24 (process-in-length (c .before .before .before .before .before .before .before .before .args .s .now)) _ (length (c .before .before .before .before .before .before .before .before .args .procs .now)) (c .before .loop .i) (c .before .before .before .before .before .before .before .before .args .n) (search needs) (i .4) (i .0) (c .loop-test .left) (omega arith)
+returns c = let s = c .before .before .before .before .before .before .before .before in let i = (c .before .loop .inv) in
+    table-done (processIn (s .args .s .now)) 24 (process-in-length (s .args .s .now)) _ (length (s .args .procs .now)) (c .before .loop .i) (s .args .n) (search needs) (i .4) (i .0) (c .loop-test .left) (omega arith)
 
 pub take-processes-spec : {M : Type 1} → statement M
 take-processes-spec =
@@ -33,7 +33,7 @@ take-processes-spec =
     Inv-loop
     μ-loop
     (λ c κs. search needs)
-    (λ c. (search needs, search needs, search needs, search needs, table-begin (processIn (c .before .before .before .before .before .before .args .s .now)) (c .before .before .before .before .before .before .args .procs .now) _ _ (search needs) (search needs) (c .before .before .wipe .ensures)))
+    (λ c. let s = c .before .before .before .before .before .before in (search needs, search needs, search needs, search needs, table-begin (processIn (s .args .s .now)) (s .args .procs .now) _ _ (search needs) (search needs) (c .before .before .wipe .ensures)))
     (λ c. search needs)
     (λ c. search needs)
     (λ c. search needs)

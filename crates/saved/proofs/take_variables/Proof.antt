@@ -1,4 +1,4 @@
-use Prim.Native.Nat.{_*_, _+_, _≤_, _-_}
+use Prim.Native.Nat.{_*_, _≤_, _-_}
 use mathlib.Core.Path.{_≡_}
 use native.Mathlib.Omega.{arith}
 use borrow.Author.Needs.{needs}
@@ -18,13 +18,13 @@ abbrev μ-loop : tie.MeasureT-loop
 μ-loop s a n vars₀ i₀ vars i = n - i
 
 loop-again : tie.Need-loop-again Inv-loop μ-loop
-loop-again c = let i = (c .before .before .before .before .before .loop .inv) in
-    (search needs, search needs, search needs, search needs, rows-laid (variableIn (c .before .before .before .before .before .before .before .before .before .before .before .before .args .s .now) (c .before .before .before .before .before .before .before .before .before .before .before .before .args .a)) 4 (variable-in-length (c .before .before .before .before .before .before .before .before .before .before .before .before .args .s .now) (c .before .before .before .before .before .before .before .before .before .before .before .before .args .a)) _ (c .before .before .before .before .before .loop .i) (i .4) ((c .before .before .put-bytes .ensures) .row))
+loop-again c = let s = c .before .before .before .before .before .before .before .before .before .before .before .before in let i = (c .before .before .before .before .before .loop .inv) in
+    (search needs, search needs, search needs, search needs, rows-laid (variableIn (s .args .s .now) (s .args .a)) 4 (variable-in-length (s .args .s .now) (s .args .a)) _ (c .before .before .before .before .before .loop .i) (i .4) ((c .before .before .put-bytes .ensures) .row))
 
 returns : tie.Need-returns Inv-loop μ-loop
 unfolding cellsIn
-returns c = let i = (c .before .loop .inv) in
-    table-done (variableIn (c .before .before .before .before .before .before .before .before .args .s .now) (c .before .before .before .before .before .before .before .before .args .a)) 4 (variable-in-length (c .before .before .before .before .before .before .before .before .args .s .now) (c .before .before .before .before .before .before .before .before .args .a)) _ (length (c .before .before .before .before .before .before .before .before .args .vars .now)) (c .before .loop .i) (c .before .before .before .before .before .before .before .before .args .n) (search needs) (i .4) (i .0) (c .loop-test .left) (omega arith)
+returns c = let s = c .before .before .before .before .before .before .before .before in let i = (c .before .loop .inv) in
+    table-done (variableIn (s .args .s .now) (s .args .a)) 4 (variable-in-length (s .args .s .now) (s .args .a)) _ (length (s .args .vars .now)) (c .before .loop .i) (s .args .n) (search needs) (i .4) (i .0) (c .loop-test .left) (omega arith)
 
 pub take-variables-spec : {M : Type 1} → statement M
 take-variables-spec =
@@ -33,7 +33,7 @@ take-variables-spec =
     Inv-loop
     μ-loop
     (λ c κs. search needs)
-    (λ c. (search needs, search needs, search needs, search needs, table-begin (variableIn (c .before .before .before .before .before .before .args .s .now) (c .before .before .before .before .before .before .args .a)) (c .before .before .before .before .before .before .args .vars .now) _ _ (search needs) (search needs) (c .before .before .wipe .ensures)))
+    (λ c. let s = c .before .before .before .before .before .before in (search needs, search needs, search needs, search needs, table-begin (variableIn (s .args .s .now) (s .args .a)) (s .args .vars .now) _ _ (search needs) (search needs) (c .before .before .wipe .ensures)))
     (λ c. search needs)
     (λ c. search needs)
     (λ c. search needs)
