@@ -52,7 +52,7 @@ pub data Answered (Why : ℕ → ℕ → Type 0) (w : ℕ) : Type 0 where
   a-refusal : {n o : ℕ} → Why n o → Answered Why w
   no-refusal : refusalIn w ≡ 0 → Answered Why w
 
-module _ {Why : ℕ → ℕ → Type 0} (w : ℕ) (numbered : (n o : ℕ) → Why n o → (1 ≤ n) × (n ≤ 14)) (says : (n o : ℕ) → Why n o → w ≡ word (refusedAs (refusal n o))) where
+module _ {Why : ℕ → ℕ → Type 0} (w : ℕ) (numbered : (n o : ℕ) → Why n o → (1 ≤ n) × (n ≤ 15)) (says : (n o : ℕ) → Why n o → w ≡ word (refusedAs (refusal n o))) where
   given-so : {n o : ℕ} → Why n o → (refusalIn w ≡ n) × (largeIn w ≡ o)
   given-so {n} {o} y = let a = numbered n o y in refused-told w (refusal n o) (omega (arith, a .1)) (says n o y)
 
@@ -67,12 +67,12 @@ module _ {Why : ℕ → ℕ → Type 0} (w : ℕ) (numbered : (n o : ℕ) → Wh
   kept-by (a-refusal {n} {o} y) k h = k n o y
   kept-by (no-refusal e) k h = absurd (h e)
 
-  refusing : {A : Type 0} {l l′ : A} → Answered Why w → ((n o : ℕ) → Why n o → l′ ≡ l) → Refusing Why l w l′
+  pub refusing : {A : Type 0} {l l′ : A} → Answered Why w → ((n o : ℕ) → Why n o → l′ ≡ l) → Refusing Why l w l′
   refusing a k = record { by = refuses-by a; kept = kept-by a k }
 
 -- ---- load
 
-bad-numbered : {s : List ℕ} {n o : ℕ} → BadImage s n o → (1 ≤ n) × (n ≤ 14)
+bad-numbered : {s : List ℕ} {n o : ℕ} → BadImage s n o → (1 ≤ n) × (n ≤ 15)
 bad-numbered b = let a = refused-number b in (a .0, omega (arith, a .1))
 
 module _ (s : List ℕ) (w : ℕ) (meets : LoadMeets s w) where
@@ -92,7 +92,7 @@ module _ (s : List ℕ) (w : ℕ) (meets : LoadMeets s w) where
 
 -- ---- start
 
-start-numbered : {lim : Limits} {s : List ℕ} {l : Lent} {n o : ℕ} → StartRefused lim s l n o → (1 ≤ n) × (n ≤ 14)
+start-numbered : {lim : Limits} {s : List ℕ} {l : Lent} {n o : ℕ} → StartRefused lim s l n o → (1 ≤ n) × (n ≤ 15)
 start-numbered (start-image b) = bad-numbered b
 start-numbered (start-sizes e h) = (omega arith, omega arith)
 
@@ -133,7 +133,7 @@ module _ (lim : Limits) (s : List ℕ) (l : Lent) where
 
 -- ---- step
 
-pub step-numbered : {lim : Limits} {s : List ℕ} {l : Lent} {p n o : ℕ} → StepRefused lim s l p n o → (1 ≤ n) × (n ≤ 14)
+pub step-numbered : {lim : Limits} {s : List ℕ} {l : Lent} {p n o : ℕ} → StepRefused lim s l p n o → (1 ≤ n) × (n ≤ 15)
 step-numbered (step-away a) = let b = away-numbered a in (b .0, omega (arith, b .1))
 step-numbered (no-process i h) = (omega arith, omega arith)
 step-numbered (no-rule-for i h n) = (omega arith, omega arith)
@@ -171,7 +171,7 @@ module _ (lim : Limits) (s : List ℕ) (l : Lent) (p : ℕ) where
 
 -- ---- turn
 
-pub turn-numbered : {lim : Limits} {s : List ℕ} {l : Lent} {n o : ℕ} → TurnRefused lim s l n o → (1 ≤ n) × (n ≤ 14)
+pub turn-numbered : {lim : Limits} {s : List ℕ} {l : Lent} {n o : ℕ} → TurnRefused lim s l n o → (1 ≤ n) × (n ≤ 15)
 turn-numbered (turn-away a) = let b = away-numbered a in (b .0, omega (arith, b .1))
 turn-numbered (nobody i h) = (omega arith, omega arith)
 turn-numbered (no-room-in-turn i h n) = (omega arith, omega arith)
@@ -237,7 +237,7 @@ module _ (lim : Limits) (s : List ℕ) (l : Lent) where
 
 -- ---- run
 
-run-numbered : {lim : Limits} {s : List ℕ} {l : Lent} {n o : ℕ} → RunRefused lim s l n o → (1 ≤ n) × (n ≤ 14)
+run-numbered : {lim : Limits} {s : List ℕ} {l : Lent} {n o : ℕ} → RunRefused lim s l n o → (1 ≤ n) × (n ≤ 15)
 run-numbered (run-away a) = let b = away-numbered a in (b .0, omega (arith, b .1))
 
 module _ (lim : Limits) (s : List ℕ) (l : Lent) (limit : ℕ) where
@@ -262,7 +262,7 @@ module _ (lim : Limits) (s : List ℕ) (l : Lent) (limit : ℕ) where
 
 -- ---- supply
 
-pub supply-numbered : {lim : Limits} {s : List ℕ} {l : Lent} {v k n o : ℕ} → SupplyRefused lim s l v k n o → (1 ≤ n) × (n ≤ 14)
+pub supply-numbered : {lim : Limits} {s : List ℕ} {l : Lent} {v k n o : ℕ} → SupplyRefused lim s l v k n o → (1 ≤ n) × (n ≤ 15)
 supply-numbered (supply-away a) = let b = away-numbered a in (b .0, omega (arith, b .1))
 supply-numbered (no-variable i h) = (omega arith, omega arith)
 supply-numbered (no-constant i h g) = (omega arith, omega arith)
@@ -300,7 +300,7 @@ module _ (lim : Limits) (s : List ℕ) (l : Lent) (v k : ℕ) where
 
 -- ---- value
 
-value-numbered : {lim : Limits} {s : List ℕ} {l : Lent} {v n o : ℕ} → ValueRefused lim s l v n o → (1 ≤ n) × (n ≤ 14)
+value-numbered : {lim : Limits} {s : List ℕ} {l : Lent} {v n o : ℕ} → ValueRefused lim s l v n o → (1 ≤ n) × (n ≤ 15)
 value-numbered (value-away a) = let b = away-numbered a in (b .0, omega (arith, b .1))
 value-numbered (no-variable-seen i h) = (omega arith, omega arith)
 
