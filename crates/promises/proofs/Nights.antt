@@ -97,8 +97,8 @@ module _ (lim : Limits) (s : List ℕ) (l : Lent) (row : List ℕ) where
             is-stored (k .0) (record { size = k .1; fits = ltb-false (length row) (length bytes) h; bytes = meets .contract .row-is ∙ rw (e, h) }))
 
     -- Saved 4: refused exactly where there is a reason, ROOM exactly where the row is shorter than the saved run; and a refusal leaves the row as it was
-    pub demand-1-save : Refusing (SaveRefused lim s l row) row w row′
-    demand-1-save = refusing w (λ n o y. save-numbered y) save-word (go saving-so) save-kept
+    pub demand-1-save : Refusing 15 (SaveRefused lim s l row) row w row′
+    demand-1-save = refusing w (λ n o y. save-numbered y) (omega arith) save-word (go saving-so) save-kept
       where
         go : Saving → Answered (SaveRefused lim s l row) w
         go (is-unsaved y) = a-refusal y
@@ -230,8 +230,8 @@ module _ (lim : Limits) (s : List ℕ) (l : Lent) (x : List ℕ) where
         load (Accepted r c) e = read r c e (readSaved x) refl
 
     -- Saved 5 to 9: refused exactly where there is a reason, and then every lent byte is as it was
-    pub demand-1-resume : Refusing (ResumeRefused lim s l x) l w l′
-    demand-1-resume = refusing w (λ n o y. resume-numbered y) resume-word (go resuming-so) resume-kept
+    pub demand-1-resume : Refusing 15 (ResumeRefused lim s l x) l w l′
+    demand-1-resume = refusing w (λ n o y. resume-numbered y) (omega arith) resume-word (go resuming-so) resume-kept
       where
         go : Resuming → Answered (ResumeRefused lim s l x) w
         go (is-unresumed y) = a-refusal y

@@ -123,13 +123,13 @@ pub data ResumeRefused (lim : Limits) (s : List ℕ) (l : Lent) (x : List ℕ) :
 
 -- ---- demand 1 of a word
 
--- it is a refusal exactly where there is a reason, and then has the number and the offset of that
-pub record RefusesBy (Why : ℕ → ℕ → Type 0) (w : ℕ) : Type 0 where
-  pub numbered : {n o : ℕ} → Why n o → (1 ≤ n) × (n ≤ 15)
+-- it is a refusal exactly where there is a reason, and then has the number and the offset of that; no number is above the highest that the call has
+pub record RefusesBy (most : ℕ) (Why : ℕ → ℕ → Type 0) (w : ℕ) : Type 0 where
+  pub numbered : {n o : ℕ} → Why n o → (1 ≤ n) × (n ≤ most)
   pub given : {n o : ℕ} → Why n o → (refusalIn w ≡ n) × (largeIn w ≡ o)
   pub only : refusalIn w ≢ 0 → Why (refusalIn w) (largeIn w)
 
 -- and a refusal leaves every lent byte as it was, in the tables or in the row that a call writes
-pub record Refusing {A : Type 0} (Why : ℕ → ℕ → Type 0) (l : A) (w : ℕ) (l′ : A) : Type 0 where
-  pub by : RefusesBy Why w
+pub record Refusing {A : Type 0} (most : ℕ) (Why : ℕ → ℕ → Type 0) (l : A) (w : ℕ) (l′ : A) : Type 0 where
+  pub by : RefusesBy most Why w
   pub kept : refusalIn w ≢ 0 → l′ ≡ l
