@@ -68,7 +68,10 @@ bool fair_holds(struct bed *bed, const struct event *event)
 
     if (!bed->fair || !bed->straight)
         return true;
-    if (event->kind == RUNS)
+    /* a run that was taken up where it was saved counts through */
+    if (event->kind == RESUMES && memcmp(&bed->before, &bed->ours, sizeof bed->ours) == 0)
+        return true;
+    if (event->kind == RUNS || event->kind == RESUMES)
         fair_begin();
     decode(bed, &tables);
     for (p = 0; p < count; p++) {
