@@ -4,8 +4,8 @@
  *   index_job IMAGE RECORDS [SLICE [SAVED]] <ARRIVALS
  *
  * IMAGE is a file (build one with plan.c), RECORDS how many records its goal places, SLICE how many turns are made before
- * arrivals are looked for again (default 50). The goal's variables stand as index.plan says: for record r, from 1 on, 3(r - 1) is the place that is
- * free before it, the next one its key, the one after that its place. An arrival is a line
+ * arrivals are looked for again (default 50). The goal's variables stand as index.plan says: for record r, from 1 on,
+ * 3(r - 1) is the place that is free before it, the next one its key, the one after that its place. An arrival is a line
  *
  *   RECORD FIELD VALUE [STEPS]            FIELD is free, key or place; # begins a comment
  *
@@ -191,7 +191,7 @@ static void tell_room(struct job *job)
 
 /* ---- the run as a file ---- */
 
-/* Writes beside the file, to the disk, and then puts it in its place at once: whenever a kill comes, the old or the new one is whole. */
+/* Writes beside the file, out to the disk, and then puts it in its place at once: a kill leaves the old or the new one whole. */
 static int put_file(const char *path, const uint8_t *bytes, size_t length)
 {
     char beside[PATH_ROOM];

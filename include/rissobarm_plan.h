@@ -126,7 +126,7 @@ static inline uint64_t rissobarm_plan_start(struct rissobarm_plan *plan, const u
     return rissobarm_start(RISSOBARM_PLAN_LENT(plan));
 }
 
-/* Takes up a saved run of an image, whatever the struct held; where it is refused, the struct is not to be used. */
+/* Takes up a saved run of an image, whatever the struct held; where it is refused, the rows are as they were. */
 static inline uint64_t rissobarm_plan_resume(struct rissobarm_plan *plan, const uint8_t *image, size_t image_len,
                                              const uint8_t *saved, size_t saved_len)
 {
