@@ -185,9 +185,11 @@ static bool says_still(const struct bed *bed, const struct event *event)
     return event->kind == RUNS && bed->answer % 65536 == RISSOBARM_END_WAITING << 8;
 }
 
-/* What is known of the tables is what was known when they were saved; of damaged ones nothing. */
+/* What is known of the tables is what was known when they were saved; of damaged ones nothing. Turns count on in the same tables. */
 static void taken_up(struct bed *bed, const struct event *event)
 {
+    bool going_on = bed->straight && event->a == 0 && memcmp(&bed->before, &bed->ours, sizeof bed->ours) == 0;
+
     if (event->b == 0) {
         bed->straight = event->a == 0 && bed->kept.straight;
         bed->changed = event->a != 0 || bed->kept.changed;
@@ -196,6 +198,8 @@ static void taken_up(struct bed *bed, const struct event *event)
         bed->straight = bed->straight && event->a == 0;
         bed->changed = bed->changed || event->a != 0;
     }
+    if (!going_on || !bed->straight)
+        fair_begin();
 }
 
 bool properties_hold(struct bed *bed, const struct event *event)
