@@ -5,7 +5,7 @@ import struct
 LIMIT = 65535  # of one run call
 ENDS = {1: 'success', 2: 'failure', 3: 'waiting', 4: 'room', 5: 'budget'}
 ROWS = (10, 12288, 4096)  # bytes of head, processes and variables
-VALUES, BOUND = 64, 10  # bytes for the values of all goal variables, for a list of variables bound
+VALUES, BOUND, SAVED = 64, 10, 22544  # bytes for the values of all goal variables, a list of variables bound, a saved run
 LIBRARY = ctypes.CDLL('librissobarm.so.0')
 
 
@@ -20,11 +20,21 @@ class Refused(Exception):
 class Plan:
     """A run of an image; each call raises Refused or answers what its word tells."""
 
-    def __init__(self, image):
+    def __init__(self, image, saved=None):
+        """Begins a run, or takes up one that was saved."""
         rows = [ctypes.create_string_buffer(image, len(image) + 1)] + [ctypes.create_string_buffer(size) for size in ROWS]
         sizes = map(ctypes.c_size_t, (len(image),) + ROWS)
         self.lent = [part for pair in zip(rows, sizes) for part in pair]
-        self.call('start')
+        if saved is None:
+            self.call('start')
+        else:
+            self.call('resume', row=(saved, ctypes.c_size_t(len(saved))))
+
+    def save(self):
+        """The run as bytes of a file."""
+        row = ctypes.create_string_buffer(SAVED)
+        size = self.call('save', row=(row, ctypes.c_size_t(SAVED))) >> 32
+        return row.raw[:size]
 
     def call(self, name, *numbers, row=()):
         """A call by its name; row is what it is lent behind the tables, and its length."""

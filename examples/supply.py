@@ -18,6 +18,7 @@ def main():
     end, steps = plan.run(LIMIT)
     while end == 'waiting' and arrivals:
         variable, value = arrivals.pop(0)
+        plan = Plan(image, plan.save())  # as if the night lay between
         plan.supply(variable, value)
         print('%d steps: waiting, variable %d arrives as %d' % (steps, variable, value))
         end, more = plan.run(LIMIT)

@@ -52,11 +52,12 @@ enum {
 };
 
 /*
- * Bytes of stack that are enough for any call. Turn and run take the most: under 8,000 bytes of their own, by the machine code
- * and as tests/header/stack.c measures it, and some 3,200 more where the C library's memset or memcpy is bound in that very
- * call (measured with AVX-512; not so in the shared library, which binds them as it is loaded).
+ * Bytes of stack that are enough for any call, by the machine code and as tests/header/stack.c measures it. Resume takes the most,
+ * since it holds the three rows until they are tested; of the others turn and run do: under 8,000 bytes of their own. Some 3,200
+ * more come to that where the C library's memset or memcpy is bound in that very call (measured with AVX-512; not so in the
+ * shared library, which binds them as it is loaded).
  */
-enum { RISSOBARM_STACK = 16384 };
+enum { RISSOBARM_STACK = 32768 };
 
 /* The three rows of a run; a row that is lent with another length is refused 8. Only the watch takes any length. */
 enum {
@@ -73,16 +74,27 @@ enum {
 /* Bytes that are always enough for the further row of a call; any length is taken that has room for what is written. */
 enum {
     RISSOBARM_VALUES_SIZE = RISSOBARM_OWN_LIMIT * RISSOBARM_VARIABLE_ROW, /* of rissobarm_values */
-    RISSOBARM_BOUND_SIZE = 2 + 2 * RISSOBARM_ARITY_LIMIT                  /* of a list of variables bound */
+    RISSOBARM_BOUND_SIZE = 2 + 2 * RISSOBARM_ARITY_LIMIT,                 /* of a list of variables bound */
+    RISSOBARM_SAVED_SIZE = 22544                                          /* of a saved run */
 };
 
-/* ---- images ---- */
+/* ---- images and saved runs ---- */
 
-/* Kinds of records. */
+/* Kinds of the records of an image. */
 enum {
     RISSOBARM_RECORD_RELATION = 1,
     RISSOBARM_RECORD_CLAUSE = 2,
     RISSOBARM_RECORD_GOAL = 3
+};
+
+/* Kinds of the records of a saved run, and the bytes of one of each. */
+enum {
+    RISSOBARM_RECORD_RUN = 16, /* the head's ten bytes, then the image's length in two */
+    RISSOBARM_RECORD_PROCESS = 17,
+    RISSOBARM_RECORD_VARIABLE = 18,
+    RISSOBARM_RUN_RECORD_SIZE = RISSOBARM_RECORD_HEAD + RISSOBARM_HEAD_SIZE + 2,
+    RISSOBARM_PROCESS_RECORD_SIZE = RISSOBARM_RECORD_HEAD + RISSOBARM_PROCESS_ROW,
+    RISSOBARM_VARIABLE_RECORD_SIZE = RISSOBARM_RECORD_HEAD + RISSOBARM_VARIABLE_ROW
 };
 
 /* What literals and terms hold. */
@@ -196,7 +208,8 @@ enum {
     RISSOBARM_NOVAR = 12,   /* the goal has no such variable */
     RISSOBARM_BOUND = 13,   /* the value of that variable is a constant already */
     RISSOBARM_CONST = 14,   /* the value supplied is above RISSOBARM_CONSTANT_LIMIT */
-    RISSOBARM_REFUSAL_COUNT = 14
+    RISSOBARM_FOREIGN = 15, /* the saved run is one of an image with another length */
+    RISSOBARM_REFUSAL_COUNT = 15
 };
 
 /* ---- rules: what a step did ---- */
@@ -261,12 +274,13 @@ enum {
 
 /*
  * Every call answers one 64-bit number. Bits 0-7 hold the refusal number, 0 when the call is accepted. Refusals 1 to 7
- * hold the offset of the refused record in bits 32-63 (0 for LONG, the image's length for NOGOAL). What an accepted
- * call answers stands at the call. Every bit that is not named is 0.
+ * hold the offset of the refused record in bits 32-63 (0 for LONG, the image's length for NOGOAL), in the image or, where that
+ * is accepted by a load, in the other row of records that the call takes. What an accepted call answers stands at the call.
+ * Every bit that is not named is 0.
  *
  * Every call that takes an image tests it first, as the load does, and may refuse with 1 to 7. Then come the lent rows:
- * 8 when one is not of its full length or, in every call but the start, when the tables break a table rule. Tables that
- * keep the rules are taken, whether a run makes them or not.
+ * 8 when one is not of its full length or, in every call but start and resume, when the tables break a table rule. Tables
+ * that keep the rules are taken, whether a run makes them or not.
  *
  * A further row may have any length. Where it is shorter than what the call writes into it, the call is refused 11, which is
  * tested last; bytes behind what is written stay.
@@ -435,6 +449,34 @@ static inline uint32_t rissobarm_values_count(uint64_t answer)
 {
     return (uint32_t)(answer >> 32);
 }
+
+/* ---- save and resume ---- */
+
+/*
+ * Writes the run as a file of records: one of kind RISSOBARM_RECORD_RUN, one of RISSOBARM_RECORD_PROCESS for each process and
+ * one of RISSOBARM_RECORD_VARIABLE for each variable, by number. It holds no pointer and is the same on every machine; equal
+ * runs give equal bytes. Accepted: how many bytes in bits 32-63. Refused: 1 to 8, then 11 when saved has no room for all.
+ */
+uint64_t rissobarm_save(const uint8_t *image, size_t image_len, const uint8_t *head, size_t head_len,
+                        const uint8_t *procs, size_t procs_len, const uint8_t *vars, size_t vars_len,
+                        uint8_t *saved, size_t saved_len);
+
+/* How many bytes an accepted save has written. */
+static inline uint32_t rissobarm_saved(uint64_t answer)
+{
+    return (uint32_t)(answer >> 32);
+}
+
+/*
+ * Takes a saved run up again: fills all three rows, whatever they held, with zeros where rows are not in use, so that the run
+ * goes on with its image as if it had never stopped. Saved is the whole file and nothing behind it. Accepted: 0. Refused: 1 to
+ * 7 for the image; then for the saved run by record 2; 3, also where the first record is not the only RISSOBARM_RECORD_RUN, or
+ * there is none; 4, for a length that is not the kind's; then 15 when it says another image length; then 8, also for counts
+ * that are not those of the records.
+ */
+uint64_t rissobarm_resume(const uint8_t *image, size_t image_len, uint8_t *head, size_t head_len,
+                          uint8_t *procs, size_t procs_len, uint8_t *vars, size_t vars_len,
+                          const uint8_t *saved, size_t saved_len);
 
 /* ---- watch ---- */
 

@@ -46,7 +46,8 @@ static inline const char *rissobarm_refusal_text(unsigned refusal)
         "ROOM: the move needs more rows than are left, or a further row is too short",
         "NOVAR: the goal has no such variable",
         "BOUND: its value is a constant already",
-        "CONST: the value supplied is over 32,767"
+        "CONST: the value supplied is over 32,767",
+        "FOREIGN: the saved run is one of an image with another length"
     };
 
     return rissobarm_text_of(texts, sizeof texts / sizeof texts[0], refusal);
@@ -126,6 +127,20 @@ static inline uint64_t rissobarm_plan_start(struct rissobarm_plan *plan, const u
     return rissobarm_start(RISSOBARM_PLAN_LENT(plan));
 }
 
+/* Takes up a saved run of an image, whatever the struct held; where it is refused, the struct is as it was. */
+static inline uint64_t rissobarm_plan_resume(struct rissobarm_plan *plan, const uint8_t *image, size_t image_len,
+                                             const uint8_t *saved, size_t saved_len)
+{
+    uint64_t answer = rissobarm_resume(image, image_len, plan->head, sizeof plan->head, plan->procs, sizeof plan->procs, plan->vars,
+                                       sizeof plan->vars, saved, saved_len);
+
+    if (rissobarm_refusal(answer) == RISSOBARM_ACCEPTED) {
+        plan->image = image;
+        plan->image_len = image_len;
+    }
+    return answer;
+}
+
 /* Makes the move of one process. */
 static inline uint64_t rissobarm_plan_step(struct rissobarm_plan *plan, uint32_t process)
 {
@@ -197,6 +212,12 @@ static inline uint64_t rissobarm_plan_value(const struct rissobarm_plan *plan, u
 static inline uint64_t rissobarm_plan_values(const struct rissobarm_plan *plan, uint8_t *values, size_t values_len)
 {
     return rissobarm_values(RISSOBARM_PLAN_LENT(plan), values, values_len);
+}
+
+/* Saves the run; RISSOBARM_SAVED_SIZE bytes are always enough. */
+static inline uint64_t rissobarm_plan_save(const struct rissobarm_plan *plan, uint8_t *saved, size_t saved_len)
+{
+    return rissobarm_save(RISSOBARM_PLAN_LENT(plan), saved, saved_len);
 }
 
 /* The lowest suspended process from a number on, told by its own number. */

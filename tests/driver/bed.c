@@ -68,6 +68,7 @@ void bed_begin(struct bed *bed, const struct story *story)
     row_place(&bed->further, 0, (standing + LENT_ROWS) % STANDINGS);
     bed->further_length = UNTOLD;
     bed->calls = 0;
+    bed->kept.length = 0;
     memcpy(bed->image.bytes, story->image.bytes, story->image.length);
     memset(&bed->ours, MEANINGLESS, sizeof bed->ours);
     for (k = 0; k < LENT_ROWS; k++)
@@ -160,7 +161,7 @@ static bool same_guards(struct bed *bed)
 
 static bool reads_only(unsigned kind)
 {
-    return kind == LOADS || kind == VALUES || kind == WATCHES || kind == ALL_VALUES;
+    return kind == LOADS || kind == VALUES || kind == WATCHES || kind == ALL_VALUES || kind == SAVES;
 }
 
 bool bed_play(struct bed *bed, const struct event *event)

@@ -86,6 +86,10 @@ uint64_t call_reference(struct bed *bed, const struct event *event)
         return reference_value(OURS(bed), event->a);
     case ALL_VALUES:
         return reference_values(OURS(bed), OUR_FURTHER(bed));
+    case SAVES:
+        return reference_save(OURS(bed), OUR_FURTHER(bed));
+    case RESUMES:
+        return reference_resume(OURS(bed), OUR_FURTHER(bed));
     default: /* WATCHES */
         return reference_watch(event->b == 0 ? bed->ours.procs : wide_rows(event), event->a);
     }
@@ -112,6 +116,10 @@ uint64_t call_archive(struct bed *bed, const struct event *event)
         return rissobarm_value(THEIRS(bed), event->a);
     case ALL_VALUES:
         return rissobarm_values(THEIRS(bed), THEIR_FURTHER(bed));
+    case SAVES:
+        return rissobarm_save(THEIRS(bed), THEIR_FURTHER(bed));
+    case RESUMES:
+        return rissobarm_resume(THEIRS(bed), THEIR_FURTHER(bed));
     default: /* WATCHES */
         return watch_archive(bed, event);
     }
@@ -138,4 +146,9 @@ uint64_t call_plain(const struct bed *bed, const struct event *event, struct row
 uint64_t call_value(const struct bed *bed, uint32_t variable)
 {
     return rissobarm_value(THEIRS(bed), variable);
+}
+
+uint64_t call_save(const struct bed *bed, struct rows *rows, uint8_t *saved, size_t length)
+{
+    return rissobarm_save(BESIDE(bed, rows), saved, length);
 }

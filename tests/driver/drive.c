@@ -132,7 +132,7 @@ static bool go_length(struct journey *journey, uint32_t need)
         return true;
     lengths[3] = need > 0 ? need - 1 : 0;
     lengths[4] = random_below(journey->random, need + 1);
-    lengths[5] = need + random_below(journey->random, 4 * need + 64);
+    lengths[5] = need + random_below(journey->random, need + 64);
     return go_row(journey, SIZES, THE_FURTHER, lengths[random_below(journey->random, 6)], 0);
 }
 
@@ -142,6 +142,16 @@ bool go_values(struct journey *journey)
 
     return go_length(journey, count * RISSOBARM_VARIABLE_ROW) &&
            go(journey, ALL_VALUES, 0, random_once(journey->random, 4));
+}
+
+bool go_save(struct journey *journey)
+{
+    const struct rows *rows = &journey->bed->ours;
+    uint32_t need = RISSOBARM_RUN_RECORD_SIZE;
+
+    if (process_count(rows) <= RISSOBARM_PROCESS_LIMIT && variable_count(rows) <= RISSOBARM_VARIABLE_LIMIT)
+        need += process_count(rows) * RISSOBARM_PROCESS_RECORD_SIZE + variable_count(rows) * RISSOBARM_VARIABLE_RECORD_SIZE;
+    return go_length(journey, need) && go(journey, SAVES, 0, 0);
 }
 
 /* Two of three with a list, its row about as long as some move needs it. */
@@ -182,9 +192,14 @@ static bool go_supply(struct journey *journey)
 
 bool go_anywhere(struct journey *journey)
 {
-    switch (random_below(journey->random, 8)) {
+    switch (random_below(journey->random, 10)) {
     case 0:
         return go(journey, LOADS, 0, 0);
+    case 8:
+        return go_save(journey);
+    case 9:
+        return go(journey, RESUMES, random_once(journey->random, 2) ? 0 : random_bits(journey->random),
+                  random_once(journey->random, 2));
     case 1:
         return random_once(journey->random, 4) ? go(journey, STARTS, 0, 0) : go_move(journey, TURNS, 0, 0);
     case 2:
@@ -205,11 +220,15 @@ bool go_anywhere(struct journey *journey)
 /* What is asked only now and then. */
 static bool go_aside(struct journey *journey)
 {
-    switch (random_below(journey->random, 8)) {
+    switch (random_below(journey->random, 10)) {
     case 0:
         return go_size(journey) && go_anywhere(journey);
     case 1:
         return go_anywhere(journey);
+    case 8:
+        return go_save(journey);
+    case 9:
+        return go(journey, RESUMES, 0, 0);
     case 2:
         return go_values(journey);
     case 3:

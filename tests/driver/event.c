@@ -4,7 +4,7 @@
 #include <stdio.h>
 
 static const char *const names[EVENT_KINDS] = { "load",  "start",  "step", "turn", "run",   "supply", "value",
-                                                "watch", "values", "size", "poke", "legal", "scatter" };
+                                                "watch", "values", "save", "resume", "size", "poke", "legal", "scatter" };
 static const char *const rows[] = { "head", "procs", "vars", "further" };
 
 const char *event_name(unsigned kind)
@@ -37,6 +37,7 @@ void event_print(const struct event *event)
     case LEGALS:
     case SCATTERS:
     case ALL_VALUES:
+    case RESUMES:
         printf("  %s%s %u %u\n", name, form, event->a, event->b);
         break;
     case VALUES:

@@ -19,6 +19,8 @@ enum event_kind {
     VALUES,   /* a the variable */
     WATCHES,  /* a the length of the row: the process table or, with b, rows by chance from the seed b */
     ALL_VALUES, /* b whether each is asked for alone too */
+    SAVES,
+    RESUMES,  /* the run saved last or, with b, the tables at hand as records; damaged by the seed a, whole for 0 */
     CALLS,
     SIZES = CALLS, /* the next call is lent a row with the length a */
     POKES,    /* the byte at a of a row becomes b */

@@ -36,6 +36,9 @@ bool drive(struct journey *journey, unsigned temper, unsigned events);
 /* The values of all variables, into a row of any length. */
 bool go_values(struct journey *journey);
 
+/* A save, into a row of any length. */
+bool go_save(struct journey *journey);
+
 /* One call of any kind with numbers by chance. */
 bool go_anywhere(struct journey *journey);
 
@@ -49,5 +52,6 @@ bool story_of_records(struct journey *journey);
 bool story_of_legal_tables(struct journey *journey);
 bool story_of_broken_rules(struct journey *journey);
 bool story_of_chance(struct journey *journey);
+bool story_of_nights(struct journey *journey);
 
 #endif

@@ -11,6 +11,8 @@
 #define reference_value rissobarm_value
 #define reference_values rissobarm_values
 #define reference_watch rissobarm_watch
+#define reference_save rissobarm_save
+#define reference_resume rissobarm_resume
 
 #define ref_load standin_load
 #define ref_block_count standin_block_count
@@ -30,6 +32,7 @@
 #define ref_rule standin_rule
 #define ref_move standin_move
 #define ref_put16 standin_put16
+#define ref_get16 standin_get16
 #define ref_open standin_open
 #define ref_step standin_step
 #define ref_next_in_turn standin_next_in_turn

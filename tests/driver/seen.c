@@ -4,6 +4,8 @@
 #include "counts.h"
 #include "further.h"
 
+#include <string.h>
+
 /* The most that one move makes: children for a committed body's literals, variables for the clauses of a block. */
 enum {
     MOST_CHILDREN = RISSOBARM_LITERAL_LIMIT + RISSOBARM_ARITY_LIMIT,
@@ -96,6 +98,15 @@ static void seen_refusal(const struct bed *bed, const struct event *event, const
         counts.broken[entry->first]++;
 }
 
+static void seen_resume(const struct bed *bed, const struct event *event)
+{
+    bool same = memcmp(&bed->before, &bed->ours, sizeof bed->ours) == 0;
+
+    counts.features[TAKEN_UP] += event->a == 0 && event->b == 0 && same;
+    counts.features[TAKEN_UP_ELSEWHERE] += event->a == 0 && event->b == 0 && !same;
+    counts.features[DAMAGED_LET_IN] += event->a != 0;
+}
+
 static void seen_accepted(const struct bed *bed, const struct event *event)
 {
     switch (event->kind) {
@@ -111,6 +122,9 @@ static void seen_accepted(const struct bed *bed, const struct event *event)
         counts.features[SUPPLY_AT_END] += bed->ours.procs[RISSOBARM_ROW_MODE] == RISSOBARM_MODE_DORMANT;
         counts.features[WOKEN_BY_SUPPLY] += wakes_somebody(bed);
         break;
+    case RESUMES:
+        seen_resume(bed, event);
+        break;
     default:
         break;
     }
@@ -120,6 +134,10 @@ void seen(const struct bed *bed, const struct event *event, const struct entry *
 {
     counts.calls[event->form][event->kind]++;
     counts.listed += event->form == LISTED;
+    if (event->kind == RESUMES && event->a != 0) {
+        counts.damaged++;
+        counts.resumed[rissobarm_refusal(bed->answer)]++;
+    }
     counts.features[LONGEST_IMAGE] += event->kind == LOADS && bed->source->length == RISSOBARM_IMAGE_LIMIT;
     if (rissobarm_refusal(bed->answer) != RISSOBARM_ACCEPTED) {
         seen_refusal(bed, event, entry);

@@ -117,6 +117,8 @@ bool further_holds(struct bed *bed, const struct event *event)
 {
     if (event->form == LISTED)
         return bound_holds(bed, event);
+    if (event->kind == SAVES || event->kind == RESUMES)
+        return rissobarm_refusal(bed->answer) != RISSOBARM_ACCEPTED ? whole_let_in(bed, event) : saved_holds(bed, event);
     if (event->kind != ALL_VALUES)
         return true;
     if (counting)

@@ -105,6 +105,28 @@ static void try_bound(void)
     hold("bound: the goal's variable", rissobarm_bound_count(bound) == 1 && rissobarm_bound_at(bound, 0) == 0);
 }
 
+/* A run is saved, goes on, and is taken up again in other rows; then both come to the same end. */
+static void try_saved(void)
+{
+    static uint8_t saved[RISSOBARM_SAVED_SIZE];
+    uint32_t size;
+
+    rissobarm_plan_start(&run, waits, sizeof waits);
+    rissobarm_plan_run(&run, LARGE_LIMIT);
+    size = rissobarm_saved(rissobarm_plan_save(&run, saved, sizeof saved));
+    hold("saved: its size", size == RISSOBARM_RUN_RECORD_SIZE + 6 * RISSOBARM_PROCESS_RECORD_SIZE + RISSOBARM_VARIABLE_RECORD_SIZE);
+    hold("saved: no room", rissobarm_refusal(rissobarm_plan_save(&run, saved, size - 1)) == RISSOBARM_ROOM);
+    memset(&other, 9, sizeof other);
+    hold("saved: taken up", rissobarm_plan_resume(&other, waits, sizeof waits, saved, size) == RISSOBARM_ACCEPTED);
+    hold("saved: the same rows", same_rows());
+    rissobarm_plan_supply(&run, 0, 1);
+    rissobarm_plan_supply(&other, 0, 1);
+    hold("saved: the same end", rissobarm_plan_run(&run, LARGE_LIMIT) == rissobarm_plan_run(&other, LARGE_LIMIT));
+    hold("saved: the same rows at the end", same_rows());
+    hold("saved: foreign", rissobarm_plan_resume(&other, fills, sizeof fills, saved, size) == RISSOBARM_FOREIGN);
+    hold("saved: cut", rissobarm_refusal(rissobarm_plan_resume(&other, waits, sizeof waits, saved, size - 1)) == RISSOBARM_CUT);
+}
+
 static void try_room(void)
 {
     rissobarm_plan_start(&run, fills, sizeof fills);
@@ -124,6 +146,7 @@ static void try_refused(void)
     hold("supply refused", rissobarm_plan_supply(&run, 0, 1) == answer);
     hold("value refused", rissobarm_plan_value(&run, 0) == answer);
     hold("turn with a list refused", rissobarm_plan_turn_bound(&run, other.vars, 0) == answer);
+    hold("save refused", rissobarm_plan_save(&run, other.vars, 0) == answer);
     hold("values refused", rissobarm_plan_values(&run, other.vars, 0) == answer);
 }
 
@@ -178,6 +201,7 @@ int main(void)
     try_waiting();
     try_values();
     try_bound();
+    try_saved();
     try_room();
     try_refused();
     try_long();

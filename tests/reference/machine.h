@@ -43,7 +43,8 @@ enum refusal {
     REFUSED_ROOM = 11,
     REFUSED_NOVAR = 12,
     REFUSED_BOUND = 13,
-    REFUSED_CONST = 14
+    REFUSED_CONST = 14,
+    REFUSED_FOREIGN = 15
 };
 
 enum tag { AND_PAR, AND_SEQ, OR_PAR, SEQ_SEARCH, OR_SEARCH, TRY_CLAUSE, INPUT_MATCH, GUARD_EVAL, EQUATE, TAG_COUNT };
@@ -236,6 +237,7 @@ const struct goal *ref_goal_at(const struct program *program, const struct place
 const struct literal *ref_literal_at(const struct program *program, const struct place *place);
 bool ref_full_size(const struct lent *lent);
 void ref_put16(uint8_t *bytes, unsigned number);
+uint16_t ref_get16(const uint8_t *bytes);
 void ref_decode(const struct lent *lent, struct tables *tables);
 void ref_encode(const struct tables *tables, const struct lent *lent);
 void ref_encode_variable(struct term binding, uint8_t *row);

@@ -415,6 +415,7 @@ int main(void)
     values_case();
     watch_case();
     bound_cases();
+    saved_cases();
     printf("marked: %u as told, %u not\n", passed, failed);
     return failed == 0 ? 0 : 1;
 }

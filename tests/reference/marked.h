@@ -49,5 +49,6 @@ void say_run(const char *name, bool good);
 
 /* The worked examples of the change requests. */
 void bound_cases(void);
+void saved_cases(void);
 
 #endif

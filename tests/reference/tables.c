@@ -38,7 +38,7 @@ const struct literal *ref_literal_at(const struct program *program, const struct
 
 /* Bytes to structs. */
 
-static uint16_t get16(const uint8_t *bytes)
+uint16_t ref_get16(const uint8_t *bytes)
 {
     return (uint16_t)(bytes[0] | bytes[1] << 8);
 }
@@ -52,23 +52,23 @@ static struct process decode_process(const uint8_t *row)
     process.mode = row[1];
     process.result = row[2];
     process.note_count = row[3];
-    process.parent = get16(row + 4);
+    process.parent = ref_get16(row + 4);
     process.place.kind = row[6];
     process.place.clause = row[7];
-    process.place.first = get16(row + 8);
+    process.place.first = ref_get16(row + 8);
     process.place.stage = row[10];
     process.place.literal = row[11];
     process.block = row[12];
     process.found.clause = row[13];
-    process.found.first = get16(row + 14);
+    process.found.first = ref_get16(row + 14);
     for (k = 0; k < NOTE_LIMIT; k++)
-        process.notes[k] = get16(row + 16 + 2 * k);
+        process.notes[k] = ref_get16(row + 16 + 2 * k);
     return process;
 }
 
 static struct term decode_variable(const uint8_t *row)
 {
-    struct term binding = { row[0], get16(row + 1) + 65536u * row[3] };
+    struct term binding = { row[0], ref_get16(row + 1) + 65536u * row[3] };
 
     return binding;
 }
@@ -84,10 +84,10 @@ void ref_decode(const struct lent *lent, struct tables *tables)
 {
     unsigned k;
 
-    tables->process_count = get16(lent->head);
-    tables->variable_count = get16(lent->head + 2);
-    tables->last = get16(lent->head + 4);
-    tables->steps = get16(lent->head + 6) + 65536u * get16(lent->head + 8);
+    tables->process_count = ref_get16(lent->head);
+    tables->variable_count = ref_get16(lent->head + 2);
+    tables->last = ref_get16(lent->head + 4);
+    tables->steps = ref_get16(lent->head + 6) + 65536u * ref_get16(lent->head + 8);
     for (k = 0; k < PROCESS_LIMIT; k++)
         tables->processes[k] = decode_process(lent->procs + k * REFERENCE_PROCESS_ROW);
     for (k = 0; k < VARIABLE_LIMIT; k++)

@@ -6,10 +6,9 @@ use Prim.Native.Nat.{_/_, _≤_, ℕ}
 use lib.Dec.{leb}
 use lib.ListN.{length}
 use native.Mathlib.Omega.{arith}
-use Rattle.capi.specs.Tells.{RunTells, StartTells, StepTells, SupplyTells, Tells, TurnTells, ValuesTells, ValueTells, WatchTells}
 use Rattle.bound.specs.Calls.{RowCall, RowSays, stepBoundCall, stepTells, supplyBoundCall, supplyTells, tellBy, tellIn, turnBoundCall}
 use Rattle.bound_row.specs.Row.{boundBytes}
-use Rattle.capi.specs.Tells.{RowTells, RunTells, StartTells, StepTells, SupplyTells, Tells, TurnTells, ValueTells, WatchTells}
+use Rattle.capi.specs.Tells.{ResumeTells, RowTells, RunTells, SaveTells, StartTells, StepTells, SupplyTells, Tells, TurnTells, ValuesTells, ValueTells, WatchTells}
 use Rattle.load.specs.Fields.{refusalOf}
 use Rattle.machine.specs.Starting.{StartSays}
 use Rattle.machine.specs.Supplying.{SupplySays}
@@ -30,13 +29,18 @@ use Rattle.parlog.specs.declared.Stepped.the-variants.{Moved, Unmoved}
 use Rattle.parlog.specs.declared.Supplied.{Supplied}
 use Rattle.parlog.specs.declared.Supplied.the-variants.{Given, Ungiven}
 use Rattle.parlog.specs.declared.Valued.{Valued}
+use Rattle.resume.specs.Says.{ResumeSays, SaveSays}
+use Rattle.resume.specs.declared.Resumed.{Resumed}
+use Rattle.resume.specs.declared.Saved.{Saved}
 use Rattle.rows.proofs.Tables.{procs-length}
 use Rattle.run.specs.Running.{RunSays, TurnSays}
 use Rattle.step.specs.Stepping.{StepSays}
 use Rattle.values.specs.Values.{valuesNumbers, ValuesSays}
 use Rattle.values.specs.declared.Gathered.{Gathered}
 use Rattle.words.proofs.Fitting.{run-fits, start-fits, step-fits, supply-fits, turn-fits, value-fits, values-fits, watch-reached}
+use Rattle.words.proofs.Nights.{save-fits}
 use Rattle.words.specs.Fits.{reached, RunFits, StartFits, StepFits, SupplyFits, ValueFits, ValuesFits}
+use Rattle.words.specs.Nights.{resumeNumbers, SaveFits, saveNumbers}
 
 module _ (s : List ℕ) {l : Loaded} (is : l ≡ loadOf s) where
   pub load-refused : {f r : Refusal} {w : ℕ} → l ≡ Refused f → r ≡ refusalOf l → w ≡ word (refusedAs r) → w ≡ word (loadNumbers (loadOf s))
@@ -147,3 +151,15 @@ module _ (lim : Limits) (s : List ℕ) (l : Lent) (row : List ℕ) {h p v w : Li
   pub supply-bound-fit : (x c : ℕ) {a : Supplied} → RowSays (supplyBoundCall lim s l row x c) a h p v w → SupplyFits a
   unfolding supplyBoundCall
   supply-bound-fit x c says = fits-of (says .answer) SupplyFits (supply-says-fits (supplyCall lim s l x c .answer) (supplyCall lim s l x c .lent) l row (supply-fits lim s l x c))
+
+-- ---- a run saved, and gone on with
+
+module _ (lim : Limits) (s : List ℕ) (l : Lent) (row : List ℕ) {a : Saved} {row′ : List ℕ} (told : SaveSays lim s l row a row′) where
+  pub save-fit : SaveFits a
+  save-fit = save-fits lim s l row a (told .answer) (told .few)
+
+  pub save-tells : {w : ℕ} → w ≡ word (saveNumbers a) → SaveTells lim s l row w row′
+  save-tells k = record { answer = word-of (told .answer) saveNumbers k; row-is = told .row-is }
+
+pub resume-tells : (lim : Limits) (s : List ℕ) (l : Lent) (x : List ℕ) {a : Resumed} {h p v : List ℕ} → ResumeSays lim s l x a h p v → {w : ℕ} → w ≡ word (resumeNumbers a) → ResumeTells lim s l x w h p v
+resume-tells lim s l x t k = tells-of (t .answer) resumeNumbers (t .head) (t .procs) (t .vars) k

@@ -10,8 +10,10 @@ use Rattle.parlog.specs.Load.{loadOf}
 use Rattle.parlog.specs.Numbers.{loadNumbers, Numbers, runNumbers, startNumbers, stepNumbers, supplyNumbers, valueNumbers, watchNumbers, word}
 use Rattle.parlog.specs.Run.{watchOf}
 use Rattle.parlog.specs.Tables.{Lent, procsOf, rowSize}
+use Rattle.resume.specs.Calls.{resumeCall, saveCall}
 use Rattle.values.specs.Values.{valuesCall, valuesNumbers}
 use Rattle.words.specs.Fits.{reached}
+use Rattle.words.specs.Nights.{resumeNumbers, saveNumbers}
 
 -- Turns 10: the word of these numbers, and these rows
 pub record Tells (n : Numbers) (l : Lent) (r : ℕ) (h p v : List ℕ) : Type 0 where
@@ -81,3 +83,14 @@ TurnBoundTells lim s l row r h p v w =
 abbrev pub SupplyBoundTells : Limits → List ℕ → Lent → List ℕ → ℕ → ℕ → ℕ → List ℕ → List ℕ → List ℕ → List ℕ → Type 0
 SupplyBoundTells lim s l row x c r h p v w =
     RowTells (supplyNumbers (supplyBoundCall lim s l row x c .answer)) (supplyBoundCall lim s l row x c .lent) (supplyBoundCall lim s l row x c .row) r h p v w
+
+-- ---- a run saved, and gone on with
+
+-- Saved 4, 11: of a save: the word, and the row afterwards; the tables are lent to read only
+pub record SaveTells (lim : Limits) (s : List ℕ) (l : Lent) (row : List ℕ) (r : ℕ) (row′ : List ℕ) : Type 0 where
+  pub answer : r ≡ word (saveNumbers (saveCall lim s l row .answer))
+  pub row-is : row′ ≡ saveCall lim s l row .row
+
+-- Saved 10, 11: of a resume from the saved run x, which is lent to read only
+abbrev pub ResumeTells : Limits → List ℕ → Lent → List ℕ → ℕ → List ℕ → List ℕ → List ℕ → Type 0
+ResumeTells lim s l x r h p v = Tells (resumeNumbers (resumeCall lim s l x .answer)) (resumeCall lim s l x .lent) r h p v

@@ -1,6 +1,6 @@
 // What a C program calls: numbers and byte rows alone. Each answer is one word.
 use parlog::Loaded;
-ghost use Rattle.capi.specs.Tells.{LoadTells, RunTells, StartTells, StepBoundTells, StepTells, SupplyBoundTells, SupplyTells, TurnBoundTells, TurnTells, ValueTells, ValuesTells, WatchTells};
+ghost use Rattle.capi.specs.Tells.{LoadTells, ResumeTells, RunTells, SaveTells, StartTells, StepBoundTells, StepTells, SupplyBoundTells, SupplyTells, TurnBoundTells, TurnTells, ValuesTells, ValueTells, WatchTells};
 ghost use Rattle.parlog.specs.Limits.{small};
 ghost use Rattle.parlog.specs.Tables.{lent};
 
@@ -178,4 +178,36 @@ pub extern "C" fn rissobarm_supply_bound(
 {
     let a = bound::supply_bound(image, head, procs, vars, bound, variable, value);
     words::supply_word(a)
+}
+
+// ---- a run saved, and gone on with
+
+// Writes a run to the front of a row, as a saved run.
+#[no_mangle]
+pub extern "C" fn rissobarm_save(
+    image: &[u8],
+    head: &[u8],
+    procs: &[u8],
+    vars: &[u8],
+    saved: &mut [u8],
+) -> u64
+    ensures { λ r. ⌜ SaveTells small (now (image .entry)) (lent (now (head .entry)) (now (procs .entry)) (now (vars .entry))) (now (saved .entry)) r (now (saved .exit)) ⌝ }
+{
+    let a = resume::save(image, head, procs, vars, saved);
+    words::save_word(a)
+}
+
+// Reads a saved run back into tables.
+#[no_mangle]
+pub extern "C" fn rissobarm_resume(
+    image: &[u8],
+    head: &mut [u8],
+    procs: &mut [u8],
+    vars: &mut [u8],
+    saved: &[u8],
+) -> u64
+    ensures { λ r. ⌜ ResumeTells small (now (image .entry)) (lent (now (head .entry)) (now (procs .entry)) (now (vars .entry))) (now (saved .entry)) r (now (head .exit)) (now (procs .exit)) (now (vars .exit)) ⌝ }
+{
+    let a = resume::resume(image, head, procs, vars, saved);
+    words::resume_word(a)
 }

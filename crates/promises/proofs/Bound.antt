@@ -181,7 +181,7 @@ module _ (lim : Limits) (s : List ℕ) (l : Lent) (row : List ℕ) (p : ℕ) whe
 
     pub demand-1-step-bound : RefusingRow (StepBoundRefused lim s l row p) l row w l′ row′
     demand-1-step-bound = record {
-      by = refuses-by w (λ n o y. bound-numbered y) bound-word step-bound-answered;
+      by = refuses-by w (λ n o y. bound-numbered y) (omega arith) bound-word step-bound-answered;
       kept = kept-of w step-bound-answered (λ n o y. let e = refused-call {n = n} {o = o} y in same-lent l′ l (meets .contract .head ∙ rw e) (meets .contract .procs ∙ rw e) (meets .contract .vars ∙ rw e));
       row-kept = kept-of w step-bound-answered (λ n o y. let e = refused-call {n = n} {o = o} y in meets .contract .row ∙ rw e);
     }
@@ -280,7 +280,7 @@ module _ (lim : Limits) (s : List ℕ) (l : Lent) (row : List ℕ) where
 
     pub demand-1-turn-bound : RefusingRow (TurnBoundRefused lim s l row) l row w l′ row′
     demand-1-turn-bound = record {
-      by = refuses-by w (λ n o y. turn-bound-numbered y) turn-word turn-bound-answered;
+      by = refuses-by w (λ n o y. turn-bound-numbered y) (omega arith) turn-word turn-bound-answered;
       kept = kept-of w turn-bound-answered (λ n o y. let e = turn-refused-call {n = n} {o = o} y in same-lent l′ l (meets .contract .head ∙ rw e) (meets .contract .procs ∙ rw e) (meets .contract .vars ∙ rw e));
       row-kept = kept-of w turn-bound-answered (λ n o y. let e = turn-refused-call {n = n} {o = o} y in meets .contract .row ∙ rw e);
     }

@@ -123,7 +123,7 @@ module _ (lim : Limits) (s : List ℕ) (l : Lent) (row : List ℕ) (v k : ℕ) w
 
     pub demand-1-supply-bound : RefusingRow (SupplyBoundRefused lim s l row v k) l row w l′ row′
     demand-1-supply-bound = record {
-      by = refuses-by w (λ n o y. supply-bound-numbered y) supply-word supply-bound-answered;
+      by = refuses-by w (λ n o y. supply-bound-numbered y) (omega arith) supply-word supply-bound-answered;
       kept = kept-of w supply-bound-answered (λ n o y. let e = supply-refused-call {n = n} {o = o} y in same-lent l′ l (meets .contract .head ∙ rw e) (meets .contract .procs ∙ rw e) (meets .contract .vars ∙ rw e));
       row-kept = kept-of w supply-bound-answered (λ n o y. let e = supply-refused-call {n = n} {o = o} y in meets .contract .row ∙ rw e);
     }

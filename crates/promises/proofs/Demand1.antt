@@ -52,11 +52,11 @@ pub data Answered (Why : ℕ → ℕ → Type 0) (w : ℕ) : Type 0 where
   a-refusal : {n o : ℕ} → Why n o → Answered Why w
   no-refusal : refusalIn w ≡ 0 → Answered Why w
 
-module _ {Why : ℕ → ℕ → Type 0} (w : ℕ) (numbered : (n o : ℕ) → Why n o → (1 ≤ n) × (n ≤ 14)) (says : (n o : ℕ) → Why n o → w ≡ word (refusedAs (refusal n o))) where
+module _ {Why : ℕ → ℕ → Type 0} {most : ℕ} (w : ℕ) (numbered : (n o : ℕ) → Why n o → (1 ≤ n) × (n ≤ most)) (byte : most ≤ 255) (says : (n o : ℕ) → Why n o → w ≡ word (refusedAs (refusal n o))) where
   given-so : {n o : ℕ} → Why n o → (refusalIn w ≡ n) × (largeIn w ≡ o)
   given-so {n} {o} y = let a = numbered n o y in refused-told w (refusal n o) (omega (arith, a .1)) (says n o y)
 
-  pub refuses-by : Answered Why w → RefusesBy Why w
+  pub refuses-by : Answered Why w → RefusesBy most Why w
   refuses-by a = record { numbered = λ {n} {o} y. numbered n o y; given = given-so; only = go a }
     where
       go : Answered Why w → refusalIn w ≢ 0 → Why (refusalIn w) (largeIn w)
@@ -67,7 +67,7 @@ module _ {Why : ℕ → ℕ → Type 0} (w : ℕ) (numbered : (n o : ℕ) → Wh
   kept-by (a-refusal {n} {o} y) k h = k n o y
   kept-by (no-refusal e) k h = absurd (h e)
 
-  refusing : {A : Type 0} {l l′ : A} → Answered Why w → ((n o : ℕ) → Why n o → l′ ≡ l) → Refusing Why l w l′
+  pub refusing : {A : Type 0} {l l′ : A} → Answered Why w → ((n o : ℕ) → Why n o → l′ ≡ l) → Refusing most Why l w l′
   refusing a k = record { by = refuses-by a; kept = kept-by a k }
 
 -- ---- load
@@ -83,8 +83,8 @@ module _ (s : List ℕ) (w : ℕ) (meets : LoadMeets s w) where
       let a = accepted-few s e in
       accepted-told w r c (omega (arith, a .0)) (omega (arith, a .1)) (meets .contract ∙ rw e)
 
-  pub demand-1-load : RefusesBy (BadImage s) w
-  demand-1-load = refuses-by w (λ n o b. bad-numbered b) (λ n o b. meets .contract ∙ rw (bad-is b)) (go (loadOf s) refl)
+  pub demand-1-load : RefusesBy 14 (BadImage s) w
+  demand-1-load = refuses-by w (λ n o b. bad-numbered b) (omega arith) (λ n o b. meets .contract ∙ rw (bad-is b)) (go (loadOf s) refl)
     where
       go : (a : Loaded) → loadOf s ≡ a → Answered (BadImage s) w
       go (Refused f) e = a-refusal (refused-exactly s .0 e)
@@ -124,8 +124,8 @@ module _ (lim : Limits) (s : List ℕ) (l : Lent) where
     start-kept : (n o : ℕ) → StartRefused lim s l n o → l′ ≡ l
     start-kept n o y = let e = start-refused {n = n} {o = o} y in same-lent l′ l (meets .contract .head ∙ rw e) (meets .contract .procs ∙ rw e) (meets .contract .vars ∙ rw e)
 
-    pub demand-1-start : Refusing (StartRefused lim s l) l w l′
-    demand-1-start = refusing w (λ n o y. start-numbered y) start-word (go starting-so) start-kept
+    pub demand-1-start : Refusing 14 (StartRefused lim s l) l w l′
+    demand-1-start = refusing w (λ n o y. start-numbered y) (omega arith) start-word (go starting-so) start-kept
       where
         go : Start → Answered (StartRefused lim s l) w
         go (is-refused y) = a-refusal y
@@ -166,8 +166,8 @@ module _ (lim : Limits) (s : List ℕ) (l : Lent) (p : ℕ) where
     step-kept : (n o : ℕ) → StepRefused lim s l p n o → l′ ≡ l
     step-kept n o y = let e = step-refused {n = n} {o = o} y in same-lent l′ l (meets .contract .head ∙ rw e) (meets .contract .procs ∙ rw e) (meets .contract .vars ∙ rw e)
 
-    pub demand-1-step : Refusing (StepRefused lim s l p) l w l′
-    demand-1-step = refusing w (λ n o y. step-numbered y) step-word (step-answered (door lim s l)) step-kept
+    pub demand-1-step : Refusing 14 (StepRefused lim s l p) l w l′
+    demand-1-step = refusing w (λ n o y. step-numbered y) (omega arith) step-word (step-answered (door lim s l)) step-kept
 
 -- ---- turn
 
@@ -232,8 +232,8 @@ module _ (lim : Limits) (s : List ℕ) (l : Lent) where
     turn-kept : (n o : ℕ) → TurnRefused lim s l n o → l′ ≡ l
     turn-kept n o y = let e = turn-refused {n = n} {o = o} y in same-lent l′ l (meets .contract .head ∙ rw e) (meets .contract .procs ∙ rw e) (meets .contract .vars ∙ rw e)
 
-    pub demand-1-turn : Refusing (TurnRefused lim s l) l w l′
-    demand-1-turn = refusing w (λ n o y. turn-numbered y) turn-word (turn-answered (door lim s l)) turn-kept
+    pub demand-1-turn : Refusing 14 (TurnRefused lim s l) l w l′
+    demand-1-turn = refusing w (λ n o y. turn-numbered y) (omega arith) turn-word (turn-answered (door lim s l)) turn-kept
 
 -- ---- run
 
@@ -251,8 +251,8 @@ module _ (lim : Limits) (s : List ℕ) (l : Lent) (limit : ℕ) where
     run-kept : (n o : ℕ) → RunRefused lim s l n o → l′ ≡ l
     run-kept n o y = let e = run-refused {n = n} {o = o} y in same-lent l′ l (meets .contract .head ∙ rw e) (meets .contract .procs ∙ rw e) (meets .contract .vars ∙ rw e)
 
-    pub demand-1-run : Refusing (RunRefused lim s l) l w l′
-    demand-1-run = refusing w (λ n o y. run-numbered y) run-word (go (door lim s l)) run-kept
+    pub demand-1-run : Refusing 14 (RunRefused lim s l) l w l′
+    demand-1-run = refusing w (λ n o y. run-numbered y) (omega arith) run-word (go (door lim s l)) run-kept
       where
         go : Door lim s l → Answered (RunRefused lim s l) w
         go (away a) = a-refusal (run-away a)
@@ -295,8 +295,8 @@ module _ (lim : Limits) (s : List ℕ) (l : Lent) (v k : ℕ) where
     supply-kept : (n o : ℕ) → SupplyRefused lim s l v k n o → l′ ≡ l
     supply-kept n o y = let e = supply-refused {n = n} {o = o} y in same-lent l′ l (meets .contract .head ∙ rw e) (meets .contract .procs ∙ rw e) (meets .contract .vars ∙ rw e)
 
-    pub demand-1-supply : Refusing (SupplyRefused lim s l v k) l w l′
-    demand-1-supply = refusing w (λ n o y. supply-numbered y) supply-word (supply-answered (door lim s l)) supply-kept
+    pub demand-1-supply : Refusing 14 (SupplyRefused lim s l v k) l w l′
+    demand-1-supply = refusing w (λ n o y. supply-numbered y) (omega arith) supply-word (supply-answered (door lim s l)) supply-kept
 
 -- ---- value
 
@@ -316,8 +316,8 @@ module _ (lim : Limits) (s : List ℕ) (l : Lent) (v : ℕ) where
     value-word : (n o : ℕ) → ValueRefused lim s l v n o → w ≡ word (refusedAs (refusal n o))
     value-word n o y = let e = value-refused {n = n} {o = o} y in meets .contract ∙ rw e
 
-    pub demand-1-value : RefusesBy (ValueRefused lim s l v) w
-    demand-1-value = refuses-by w (λ n o y. value-numbered y) value-word (go (door lim s l))
+    pub demand-1-value : RefusesBy 14 (ValueRefused lim s l v) w
+    demand-1-value = refuses-by w (λ n o y. value-numbered y) (omega arith) value-word (go (door lim s l))
       where
         go : Door lim s l → Answered (ValueRefused lim s l v) w
         go (away a) = a-refusal (value-away a)
@@ -352,8 +352,8 @@ module _ (lim : Limits) (s : List ℕ) (l : Lent) (row : List ℕ) where
     values-kept : (n o : ℕ) → ValuesRefused lim s l row n o → row′ ≡ row
     values-kept n o y = let e = values-refused {n = n} {o = o} y in meets .contract .row-is ∙ rw e
 
-    pub demand-1-values : Refusing (ValuesRefused lim s l row) row w row′
-    demand-1-values = refusing w (λ n o y. values-numbered y) values-word (go (door lim s l)) values-kept
+    pub demand-1-values : Refusing 14 (ValuesRefused lim s l row) row w row′
+    demand-1-values = refusing w (λ n o y. values-numbered y) (omega arith) values-word (go (door lim s l)) values-kept
       where
         go : Door lim s l → Answered (ValuesRefused lim s l row) w
         go (away a) = a-refusal (values-away a)

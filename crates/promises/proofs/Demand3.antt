@@ -25,17 +25,18 @@ use Rattle.parlog.specs.TableRules.{stateOk}
 use Rattle.parlog.specs.Tables.{Lent, procCount, putTables, Tables, tablesIn}
 use Rattle.parlog.specs.declared.End.{End}
 use Rattle.parlog.specs.declared.Move.{Move}
-use Rattle.promises.proofs.Arrive.{arrive-later, Arrived, came-arrived}
+use Rattle.promises.proofs.Arrive.{arrive-later, Arrived, came-arrived, copied-again}
 use Rattle.promises.proofs.Demand1.{demand-1-turn, supply-as, turn-as}
 use Rattle.promises.proofs.Demand2.{demand-2-turn}
 use Rattle.promises.proofs.Entry.{away-numbered, let-in-same, let-ok}
 use Rattle.promises.proofs.Keeping.{as-it-was, goes-holds, goes-let, goes-step, goes-supply, goes-twice, is-written, Left, left-supply, left-turn}
+use Rattle.promises.proofs.Nights.{night-copied, read-back}
 use Rattle.promises.proofs.RunTurns.{put-same, run-turns}
 use Rattle.promises.proofs.Whose.{can-move, move-can, turn-of}
 use Rattle.promises.proofs.Words.{moved-told, refused-told}
 use Rattle.promises.specs.Moves.{AllBytes, by-budget, by-failure, by-room, by-success, by-waiting, GoalEnded, Moves, no-turn, one-turn, StopsBy, Turns}
 use Rattle.promises.specs.Outcomes.{firstIn, largeIn, refusalIn, RunMeets, SupplyMeets, TurnMeets}
-use Rattle.promises.specs.Reach.{a-run-call, a-supply-between, a-supply-call, a-turn-call, another-does, bound, calls-over, Came, Follow, for-room, is-dormant, it-moves, no-call, no-more-calls, run-is-turns, ServedBy, then-run, turnsThen}
+use Rattle.promises.specs.Reach.{a-night, a-night-between, a-run-call, a-supply-between, a-supply-call, a-turn-call, another-does, bound, calls-over, Came, Follow, for-room, is-dormant, it-moves, Night, no-call, no-more-calls, run-is-turns, ServedBy, then-run, turnsThen}
 use Rattle.promises.specs.Refusals.{CanMove, LetIn, no-room-in-turn, nobody, stateIn, turn-away, TurnRefused}
 use Rattle.refusals.specs.Right.{RightImage}
 
@@ -47,6 +48,7 @@ events no-more-calls = []
 events (a-turn-call e f) = a-turn ∷ events f
 events (a-run-call {w = w} e f) = replicate (largeIn w) a-turn ++ events f
 events (a-supply-call {v = v} {k = k} e f) = a-supply v k ∷ events f
+events (a-night e f) = events f
 
 module _ (lim : Limits) (s : List ℕ) (r c p : ℕ) where
   abbrev pr : Program
@@ -60,6 +62,11 @@ module _ (lim : Limits) (s : List ℕ) (r c p : ℕ) where
   open-left : {l l′ : Lent} (a : Open l) → Left lim s l (a .enters) l′ → Open l′
   open-left a as-it-was = a
   open-left {l} a (is-written t g) = record { enters = goes-let lim s l (a .enters) t g; same = goes-twice lim s l (a .enters) t g }
+
+  open-night : {l l′ : Lent} → Open l → Night lim s l l′ → Open l′
+  open-night {l} {l′} a e =
+      let b = read-back lim s l l′ e (a .enters) in
+      record { enters = b .enters; same = copied-again lim s (a .enters) (a .same) (night-copied lim s l l′ e (a .enters)) (b .tables) }
 
   module _ {l l′ : Lent} (a : Open l) where
     open-turn : {w : ℕ} → TurnMeets lim s l w l′ → Open l′
@@ -133,6 +140,9 @@ module _ (lim : Limits) (s : List ℕ) (r c p : ℕ) where
       let ts = run-turns lim s r c l (a .enters) (a .same) e .turns in
       run-is-turns ts (serve-turns ts f a (serve f) n (subst (λ (es : List Event). Served lim pr p n (tablesIn l) es) (sym (turns-events ts f)) x))
   serve {l} (a-supply-call e f) a n x = supply-case a f (serve f (open-left a (left-supply lim s l (a .enters) e))) e x
+  serve {l} (a-night {l′ = l′} e f) a n x =
+      let b = read-back lim s l l′ e (a .enters) in
+      a-night-between (serve f (open-night a e) n (subst (λ (y : Tables). Served lim pr p n y (events f)) (sym (b .tables)) x))
 
   -- who is served within n steps is served within more
   within-more : {l : Lent} {f : Follow lim s l} {n : ℕ} (k : ℕ) → ServedBy lim s pr p n l f → n ≤ k → ServedBy lim s pr p k l f
@@ -144,6 +154,7 @@ module _ (lim : Limits) (s : List ℕ) (r c p : ℕ) where
   within-more k (for-room z x) h = for-room z (within-more k x h)
   within-more k (run-is-turns ts x) h = run-is-turns ts (within-more k x h)
   within-more k (a-supply-between x) h = a-supply-between (within-more k x h)
+  within-more k (a-night-between x) h = a-night-between (within-more k x h)
   within-more zero calls-over h = absurd (omega arith)
   within-more (suc k) calls-over h = calls-over
 

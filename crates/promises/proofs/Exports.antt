@@ -8,8 +8,9 @@ use Rattle.parlog.specs.Program.{programOf}
 use Rattle.parlog.specs.Tables.{Lent}
 use Rattle.promises.proofs.Demand2.{demand-2-start}
 use Rattle.promises.proofs.Demand3.{demand-3a}
+use Rattle.promises.proofs.Gone.{night-same}
 use Rattle.promises.specs.Outcomes.{refusalIn, StartMeets}
-use Rattle.promises.specs.Reach.{Begins, Came, Follow, ServedBy}
+use Rattle.promises.specs.Reach.{Begins, Came, Follow, Night, ServedBy}
 use Rattle.promises.specs.Refusals.{CanMove, stateIn}
 use Rattle.refusals.specs.Right.{RightImage}
 
@@ -22,3 +23,7 @@ pub small-bound : (s : List ℕ) (l : Lent) → Came small s l → {r c : ℕ} �
     → (f : Follow small s l) → ServedBy small s (programOf s r c) p 512 l f
 unfolding small
 small-bound s l came right p m f = demand-3a small small-usable s l came right p m f
+
+-- what came, saved and read back, is what it was, byte for byte
+pub small-night : (s : List ℕ) (l : Lent) → Came small s l → {r c : ℕ} → RightImage s r c → (l′ : Lent) → Night small s l l′ → l′ ≡ l
+small-night s l came {r} {c} right l′ night = night-same small s r c small-usable right came l′ night

@@ -18,7 +18,6 @@ use Rattle.parlog.proofs.Fine.{below-child, child-back, child-forth, Fine, fine
 use Rattle.parlog.proofs.Kept.{turn-keeps}
 use Rattle.parlog.proofs.Kin.{heard-bad, heard-good, hears-bad, hears-good, Kin}
 use Rattle.parlog.proofs.Repeated.{runs}
-use Rattle.parlog.specs.Sane.{Sane}
 use Rattle.parlog.proofs.Shape.{isAwake, shape}
 use Rattle.parlog.proofs.Stable.{can-awake, can-here, reporter-zero, rule-can, supply-grows}
 use Rattle.parlog.proofs.Steps.{steady-kept, step-made, turn-made}
@@ -31,6 +30,7 @@ use Rattle.parlog.specs.Notions.{Child, HasMode, Hears, me}
 use Rattle.parlog.specs.Program.{Goal, Program, programOf}
 use Rattle.parlog.specs.Rules.{andParStart, andParWait, andSeqStart, andSeqWait, Applied, by-rule, equateStart, fits, guardEvalStart, guardEvalWait, inputMatchStart, move, moved, no-rule, orParHeard, orParStart, orParWait, orSearchStart, orSearchWait, room, ruleIn, ruleOf, seqSearchNext, seqSearchStart, seqSearchWait, startRule, still, stopRule, tryClauseStart, tryClauseWait, waitRule, wakeRule, withRoom}
 use Rattle.parlog.specs.Run.{canMove, made, stepped, stepTables, supplied}
+use Rattle.parlog.specs.Sane.{Sane}
 use Rattle.parlog.specs.TableRules.{stateOk, tablesOk}
 use Rattle.parlog.specs.Tables.{Lent, noted, putTables, State, Tables, tablesIn}
 use Rattle.parlog.specs.Tree.{bad, below, good, Heard, heard, silent}
@@ -46,6 +46,7 @@ use Rattle.promises.proofs.Keeping.{Goes, goes-run, goes-step, goes-sup
 use Rattle.promises.proofs.Whose.{move-can, no-room, room-not}
 use Rattle.promises.specs.Reach.{Later}
 use Rattle.promises.specs.Refusals.{LacksRoom, LetIn, stateIn}
+use Rattle.resume.proofs.Copied.{copied}
 
 -- ---- what a rule makes
 
@@ -377,7 +378,7 @@ module _ (lim : Limits) (pr : Program) (p : ℕ) where
 pub room-final : (lim : Limits) (s : List ℕ) (l : Lent) {r c : ℕ} → LetIn lim s l r c → (p : ℕ) → LacksRoom lim (programOf s r c) (stateIn l) p → (m : Lent) → Later lim s l m
     → HasMode (stateIn m) p dormant ⊎ LacksRoom lim (programOf s r c) (stateIn m) p
 room-final lim s l {r} {c} i p q m k =
-    let (j, f) = later-by lim s (λ (x : Lent). Fate lim pr p (stateIn x)) on i (record { there = here; fate = inr (full-in lim pr (stateIn l) (good l i) p q) }) k in
+    let (j, f) = later-by lim s (λ (x : Lent). Fate lim pr p (stateIn x)) on over i (record { there = here; fate = inr (full-in lim pr (stateIn l) (good l i) p q) }) k in
     ⊎-elim (λ z. inl z) (λ z. inr (in-full lim pr (stateIn m) (good m j) p z)) (f .fate)
   where
     pr : Program
@@ -391,3 +392,6 @@ room-final lim s l {r} {c} i p q m k =
 
     on : (x : Lent) → LetIn lim s x r c → Fate lim pr p (stateIn x) → (t : Tables) → Goes lim pr (tablesIn x) t → tablesIn (putTables x t) ≡ t → Fate lim pr p (stateIn (putTables x t))
     on x j f t g e = subst (λ (y : Tables). Fate lim pr p (y .state)) (sym e) (fate-goes lim pr p (image-sane lim s x j) (tablesIn x) t (let-ok lim s x j) g f)
+
+    over : (x y : Lent) → LetIn lim s x r c → Fate lim pr p (stateIn x) → y ≡ copied lim x → tablesIn y ≡ tablesIn x → Fate lim pr p (stateIn y)
+    over x y j f e h = subst (λ (z : Tables). Fate lim pr p (z .state)) (sym h) f

@@ -2,31 +2,38 @@
 -- So what was let in is let in afterwards, whatever the outcome.
 use mathlib.Core.Path.{_∙_, _≡_, refl}
 use mathlib.Core.Bool.{true}
-use mathlib.Core.List.{List}
-use Prim.Native.Nat.{ℕ}
+use mathlib.Core.List.{[], _∷_, List}
+use Prim.Native.Nat.{_≤_, ℕ}
+use lib.ListN.{length}
 use native.Mathlib.Omega.{arith}
 use Rattle.entry.proofs.Held.{cells-fit, put-over, rows-fit, same-lent}
+use Rattle.parlog.proofs.Effects.{apply-count, apply-vars, changed-length}
 use Rattle.parlog.proofs.Kept.{run-keeps, step-keeps, supply-keeps}
 use Rattle.parlog.proofs.Repeated.{runs}
-use Rattle.parlog.specs.Sane.{Sane}
 use Rattle.parlog.proofs.Stable.{supply-grows}
-use Rattle.parlog.proofs.Steps.{steady-kept, turn-made}
+use Rattle.parlog.proofs.Steps.{steady-kept, step-made, turn-made}
 use Rattle.parlog.specs.Calls.{stepAnswer, supplyAnswer}
+use Rattle.parlog.specs.Demands.{no-more, once-more, Repeats}
 use Rattle.parlog.specs.Limits.{Limits, Usable}
 use Rattle.parlog.specs.Program.{Program, programOf}
-use Rattle.parlog.specs.Run.{given, made, runTables, Stepping, stepTables, Supplying, supplyTables, turnTables, ungiven, unmade}
+use Rattle.parlog.specs.Run.{given, made, runTables, stepped, Stepping, stepTables, supplied, Supplying, supplyTables, turnTables, ungiven, unmade}
+use Rattle.parlog.specs.Sane.{Sane}
 use Rattle.parlog.specs.TableRules.{tablesOk}
 use Rattle.parlog.specs.Tables.{Lent, putTables, Tables, tablesIn}
+use Rattle.parlog.specs.Unify.{change}
 use Rattle.parlog.specs.declared.Move.{Move}
+use Rattle.parlog.specs.declared.Term.the-variants.{Const}
 use Rattle.promises.proofs.Demand2.{begun-at, image-sane, started-let}
 use Rattle.promises.proofs.Entry.{let-full, let-ok, put-holds, put-let, run-let, step-let, supply-let, turn-let}
 use Rattle.promises.proofs.Fours.{Fours, fours-in, fours-repeats, fours-step, fours-supply}
+use Rattle.promises.proofs.Nights.{night-copied, read-back}
 use Rattle.promises.specs.Moves.{Holds}
 use Rattle.promises.specs.Outcomes.{refusalIn, RunMeets, StartMeets, StepMeets, SupplyMeets, TurnMeets}
-use Rattle.promises.specs.Reach.{Later, no-call, then-run, then-step, then-supply, then-turn}
+use Rattle.promises.specs.Reach.{Later, no-call, then-night, then-run, then-step, then-supply, then-turn}
 use Rattle.promises.specs.Refusals.{LetIn}
 use Rattle.refusals.proofs.Exactly.{accepted-right}
 use Rattle.refusals.specs.Right.{RightImage}
+use Rattle.resume.proofs.Copied.{copied}
 
 -- ---- from tables to tables
 
@@ -105,6 +112,9 @@ module _ (lim : Limits) (s : List ℕ) (l : Lent) {r c : ℕ} (i : LetIn lim s l
     has : Fours (t .state)
     has = fours-goes lim pr g (let-ok lim s l i) (fours-in l)
 
+    pub goes-ok : tablesOk lim pr t ≡ true
+    goes-ok = good
+
     pub goes-let : LetIn lim s (putTables l t) r c
     goes-let = put-let lim s l i t has good
 
@@ -140,7 +150,8 @@ kept-start lim usable s l w l′ meets z {r} {c} right = let e = accepted-right 
 
 -- what holds of bytes, and still holds once tables are written to them that a call comes to, holds after any calls
 module _ (lim : Limits) (s : List ℕ) {r c : ℕ} (Q : Lent → Type 0)
-    (on : (m : Lent) → LetIn lim s m r c → Q m → (t : Tables) → Goes lim (programOf s r c) (tablesIn m) t → tablesIn (putTables m t) ≡ t → Q (putTables m t)) where
+    (on : (m : Lent) → LetIn lim s m r c → Q m → (t : Tables) → Goes lim (programOf s r c) (tablesIn m) t → tablesIn (putTables m t) ≡ t → Q (putTables m t))
+    (over : (m m′ : Lent) → LetIn lim s m r c → Q m → m′ ≡ copied lim m → tablesIn m′ ≡ tablesIn m → Q m′) where
   by-left : {m m′ : Lent} (i : LetIn lim s m r c) → Q m → Left lim s m i m′ → LetIn lim s m′ r c × Q m′
   by-left i q as-it-was = (i, q)
   by-left {m} i q (is-written t g) = (goes-let lim s m i t g, on m i q t g (goes-holds lim s m i t g .read))
@@ -151,3 +162,34 @@ module _ (lim : Limits) (s : List ℕ) {r c : ℕ} (Q : Lent → Type 0)
   later-by i q (then-turn {m} k meets) = let (j, x) = later-by i q k in by-left j x (left-turn lim s m j meets)
   later-by i q (then-run {m} limit k meets) = let (j, x) = later-by i q k in by-left j x (left-run lim s m j meets)
   later-by i q (then-supply {m} v u k meets) = let (j, x) = later-by i q k in by-left j x (left-supply lim s m j meets)
+  later-by i q (then-night {m} {m′} k e) =
+      let (j, x) = later-by i q k in
+      let b = read-back lim s m m′ e j in
+      (b .enters, over m m′ j x (night-copied lim s m m′ e j) (b .tables))
+
+-- ---- a call never has fewer rows in use than before
+
+module _ (lim : Limits) (pr : Program) where
+  step-more : (t u : Tables) (p : ℕ) (m : Move) → stepTables lim pr t p ≡ made m u → (length (t .state .procs) ≤ length (u .state .procs)) × (length (t .state .vars) ≤ length (u .state .vars))
+  unfolding stepped
+  step-more t u p m e =
+      let a = step-made lim pr t p m u e in
+      rw (a .after) (omega (arith, apply-count (t .state) p (a .delta)), omega (arith, apply-vars (t .state) p (a .delta)))
+
+  repeats-more : {t u : Tables} {n : ℕ} → Repeats lim pr t n u → (length (t .state .procs) ≤ length (u .state .procs)) × (length (t .state .vars) ≤ length (u .state .vars))
+  repeats-more no-more = (omega arith, omega arith)
+  repeats-more {t} {u} (once-more {t′ = v} {m = m} g e k) =
+      let (q, y, z) = turn-made lim pr t m v e in
+      let a = step-more t v q m z in
+      let b = repeats-more k in
+      (omega (arith, a .0, b .0), omega (arith, a .1, b .1))
+
+  pub goes-more : {t u : Tables} → tablesOk lim pr t ≡ true → Goes lim pr t u → (length (t .state .procs) ≤ length (u .state .procs)) × (length (t .state .vars) ≤ length (u .state .vars))
+  goes-more {t} {u} ok (goes-step {m = m} p e) = step-more t u p m e
+  goes-more {t} ok (goes-run limit) = repeats-more (runs lim pr limit t .moves)
+  goes-more {t} {u} ok (goes-supply {x = x} v k e) =
+      let g = supply-grows pr t u (steady-kept lim pr t ok .0 .falls) v k x e in
+      rw (g .0) (supplied-more t x k)
+    where
+      supplied-more : (t : Tables) (x k : ℕ) → (length (t .state .procs) ≤ length (supplied t x k .state .procs)) × (length (t .state .vars) ≤ length (supplied t x k .state .vars))
+      supplied-more t x k = unfold supplied in (omega arith, omega (arith, changed-length (t .state .vars) (change x (Const k) ∷ [])))

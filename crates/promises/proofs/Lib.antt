@@ -6,6 +6,7 @@ pub mod Whose
 pub mod Entry
 pub mod Giving
 pub mod Demand1
+pub mod Nights
 pub mod Demand2
 pub mod Reordering
 pub mod Once
@@ -13,6 +14,7 @@ pub mod Keeping
 pub mod RunTurns
 pub mod Final
 pub mod Arrive
+pub mod Gone
 pub mod Demand3
 pub mod Exports
 pub mod Watching

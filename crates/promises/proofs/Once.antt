@@ -9,7 +9,7 @@ use Rattle.parlog.specs.declared.Found.{Found}
 use Rattle.parlog.specs.declared.Marker.{Marker}
 use Rattle.parlog.specs.declared.Process.{Process}
 use Rattle.parlog.specs.declared.Stepped.{Stepped}
-use Rattle.promises.specs.Outcomes.{LoadMeets, MarkerMeets, RecordsMeet, RunMeets, StartMeets, StepMeets, SupplyMeets, TurnMeets, ValueMeets, ValuesMeets, WatchMeets}
+use Rattle.promises.specs.Outcomes.{LoadMeets, MarkerMeets, RecordsMeet, ResumeMeets, RunMeets, SaveMeets, StartMeets, StepMeets, SupplyMeets, TurnMeets, ValueMeets, ValuesMeets, WatchMeets}
 use Rattle.turn_forms.specs.Turned.{turnedFrom}
 use Rattle.turn_forms.specs.declared.Turned.{Turned}
 
@@ -44,6 +44,13 @@ module _ (lim : Limits) (s : List ℕ) (l : Lent) (row : List ℕ) where
 module _ (rows : List ℕ) where
   pub once-watch : {w w′ : ℕ} → WatchMeets rows w → WatchMeets rows w′ → w ≡ w′
   once-watch a b = a .contract ∙ sym (b .contract)
+
+module _ (lim : Limits) (s : List ℕ) (l : Lent) where
+  pub once-save : {row : List ℕ} {w w′ : ℕ} {row′ row″ : List ℕ} → SaveMeets lim s l row w row′ → SaveMeets lim s l row w′ row″ → (w ≡ w′) × (row′ ≡ row″)
+  once-save a b = (a .contract .answer ∙ sym (b .contract .answer), a .contract .row-is ∙ sym (b .contract .row-is))
+
+  pub once-resume : {x : List ℕ} {w w′ : ℕ} {l′ l″ : Lent} → ResumeMeets lim s l x w l′ → ResumeMeets lim s l x w′ l″ → (w ≡ w′) × (l′ ≡ l″)
+  once-resume {l′ = l′} {l″} a b = (a .contract .answer ∙ sym (b .contract .answer), same-lent l′ l″ (a .contract .head ∙ sym (b .contract .head)) (a .contract .procs ∙ sym (b .contract .procs)) (a .contract .vars ∙ sym (b .contract .vars)))
 
 -- ---- the two calls that no C program reaches: the turn with its marker lent, and the watch over records
 

@@ -106,7 +106,7 @@ pub data SupplyBoundRefused (lim : Limits) (s : List ℕ) (l : Lent) (row : List
 
 -- demand 1: refused exactly where there is a reason, and then every lent byte is as it was, those of the further row among them
 pub record RefusingRow (Why : ℕ → ℕ → Type 0) (l : Lent) (row : List ℕ) (w : ℕ) (l′ : Lent) (row′ : List ℕ) : Type 0 where
-  pub by : RefusesBy Why w
+  pub by : RefusesBy 14 Why w
   pub kept : refusalIn w ≢ 0 → l′ ≡ l
   pub row-kept : refusalIn w ≢ 0 → row′ ≡ row
 

@@ -9,10 +9,10 @@ use Rattle.parlog.specs.Demands.{Ended-at}
 use Rattle.parlog.specs.Limits.{Limits}
 use Rattle.parlog.specs.Notions.{HasMode, Leads, me}
 use Rattle.parlog.specs.Numbers.{endNumber, ruleNumber, termNumbers, touched}
-use Rattle.parlog.specs.Program.{Program}
+use Rattle.parlog.specs.Program.{Program, programOf}
 use Rattle.parlog.specs.Relation.{Fits, Rule}
 use Rattle.parlog.specs.Run.{counted, supplied}
-use Rattle.parlog.specs.Tables.{bindingOf, cellSize, Lent, numberAt, processAt, putTables, rowSize, sortAt, State, Tables, tablesIn}
+use Rattle.parlog.specs.Tables.{bindingOf, cellSize, Lent, numberAt, processAt, putTables, rowSize, sortAt, State, Tables, tablesIn, written}
 use Rattle.parlog.specs.declared.Binding.the-variants.{Free}
 use Rattle.parlog.specs.declared.End.{End}
 use Rattle.parlog.specs.declared.End.the-variants.{Budget, Failure, Room, Success, Waiting}
@@ -20,8 +20,12 @@ use Rattle.parlog.specs.declared.Move.{Move}
 use Rattle.parlog.specs.declared.Term.{Term}
 use Rattle.parlog.specs.declared.Term.the-variants.{Var}
 use Rattle.promises.specs.Outcomes.{firstIn, largeIn, refusalIn, secondIn, TurnMeets}
-use Rattle.promises.specs.Refusals.{CanMove, LacksRoom, stateIn, Turn}
+use Rattle.promises.specs.Refusals.{CanMove, LacksRoom, Resumes, stateIn, Turn}
+use Rattle.refusals.specs.Right.{RightImage}
 use Rattle.rows.specs.Rows.{Bytes}
+use Rattle.saved.specs.Form.{savedBytes}
+use Rattle.saved.specs.Formed.{Formed}
+use Rattle.saved.specs.Restored.{imageLength, resumedLent}
 
 -- Turns 3: the tables after a step of p that left the state s′
 abbrev pub afterStep : Tables → ℕ → State → Tables
@@ -138,3 +142,23 @@ pub data Watched (rows : List ℕ) (w : ℕ) : Type 0 where
   one-waits : {i : ℕ} → i < length rows / rowSize → processAt rows i .mode ≡ modeCode suspended → ((j : ℕ) → j < i → processAt rows j .mode ≢ modeCode suspended)
       → firstIn w ≡ 1 → largeIn w ≡ i → Watched rows w
   none-waits : ((j : ℕ) → j < length rows / rowSize → processAt rows j .mode ≢ modeCode suspended) → firstIn w ≡ 0 → largeIn w ≡ 0 → Watched rows w
+
+-- ---- a run saved, and gone on with
+
+-- Saved 4: the saved run stands at the front of the row, its size is told, and every byte behind is as it was
+pub record SavesRun (s : List ℕ) (l : Lent) (row : List ℕ) (w : ℕ) (row′ : List ℕ) : Type 0 where
+  pub size : largeIn w ≡ length (savedBytes l (length s))
+  pub fits : length (savedBytes l (length s)) ≤ length row
+  pub bytes : row′ ≡ written (savedBytes l (length s)) row
+
+-- Saved 10: the saved run was without fault, of this image, and every byte of the tables is written
+pub record ResumesRun (lim : Limits) (s : List ℕ) (l : Lent) (x : List ℕ) (l′ : Lent) : Type 0 where
+  pub relations : ℕ
+  pub clauses : ℕ
+  pub image : RightImage s relations clauses
+  pub processes : ℕ
+  pub variables : ℕ
+  pub formed : Formed x processes variables
+  pub own : imageLength x ≡ length s
+  pub may : Resumes lim (programOf s relations clauses) l x processes variables
+  pub bytes : l′ ≡ resumedLent lim x processes variables

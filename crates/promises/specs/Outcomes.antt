@@ -2,7 +2,7 @@
 use mathlib.Core.Path.{_≡_}
 use mathlib.Core.List.{List}
 use Prim.Native.Nat.{_%_, _/_, ℕ}
-use Rattle.capi.specs.Tells.{LoadTells, RunTells, StartTells, StepTells, SupplyTells, TurnTells, ValuesTells, ValueTells, WatchTells}
+use Rattle.capi.specs.Tells.{LoadTells, ResumeTells, RunTells, SaveTells, StartTells, StepTells, SupplyTells, TurnTells, ValuesTells, ValueTells, WatchTells}
 use Rattle.parlog.specs.Limits.{Limits}
 use Rattle.parlog.specs.Run.{watchOf}
 use Rattle.parlog.specs.Tables.{Lent}
@@ -67,6 +67,14 @@ pub record ValuesMeets (lim : Limits) (s : List ℕ) (l : Lent) (row : List ℕ)
 -- of rissobarm_watch, over rows of processes: it is lent the bytes to read only
 pub record WatchMeets (rows : List ℕ) (w : ℕ) : Type 0 where
   pub contract : WatchTells rows w
+
+-- of rissobarm_save, lent the tables to read only and a row: the word, and that row afterwards
+pub record SaveMeets (lim : Limits) (s : List ℕ) (l : Lent) (row : List ℕ) (w : ℕ) (row′ : List ℕ) : Type 0 where
+  pub contract : SaveTells lim s l row w row′
+
+-- of rissobarm_resume, lent the saved run x to read only
+pub record ResumeMeets (lim : Limits) (s : List ℕ) (l : Lent) (x : List ℕ) (w : ℕ) (l′ : Lent) : Type 0 where
+  pub contract : ResumeTells lim s l x w (l′ .head) (l′ .procs) (l′ .vars)
 
 -- ---- and the contract of the two calls that no C program reaches
 

@@ -8,13 +8,17 @@ use Rattle.parlog.specs.Limits.{Limits}
 use Rattle.parlog.specs.Notions.{Leads}
 use Rattle.parlog.specs.Program.{Program, programOf}
 use Rattle.parlog.specs.Relation.{Fits, Rule}
-use Rattle.parlog.specs.Tables.{cellSize, Lent, procCount, State, Tables, tablesIn}
+use Rattle.parlog.specs.Tables.{cellSize, Lent, procCount, State, Tables, tablesIn, varCount}
 use Rattle.parlog.specs.declared.Move.{Move}
 use Rattle.parlog.specs.declared.Term.the-variants.{Const, Var}
 use Rattle.promises.specs.Outcomes.{largeIn, refusalIn}
 use Rattle.refusals.specs.Refused.{RefusedAt}
 use Rattle.refusals.specs.Right.{RightImage}
 use Rattle.refusals.specs.Ruled.{LentRuled, Sizes}
+use Rattle.saved.specs.Form.{savedBytes}
+use Rattle.saved.specs.Formed.{BadSaved, Formed}
+use Rattle.saved.specs.Restored.{headIn, imageLength, resumedLent}
+use Rattle.words.specs.Nights.{toldOffset}
 
 -- the state that lent bytes hold
 abbrev pub stateIn : Lent → State
@@ -98,15 +102,34 @@ pub data ValuesRefused (lim : Limits) (s : List ℕ) (l : Lent) (row : List ℕ)
   values-away : {n o : ℕ} → TurnedAway lim s l n o → ValuesRefused lim s l row n o
   row-short : {r c : ℕ} → LetIn lim s l r c → length row < programOf s r c .goalVars * cellSize → ValuesRefused lim s l row 11 0
 
+-- Saved 4: a save to a row
+pub data SaveRefused (lim : Limits) (s : List ℕ) (l : Lent) (row : List ℕ) : ℕ → ℕ → Type 0 where
+  save-away : {n o : ℕ} → TurnedAway lim s l n o → SaveRefused lim s l row n o
+  row-too-short : {r c : ℕ} → LetIn lim s l r c → length row < length (savedBytes l (length s)) → SaveRefused lim s l row 11 0
+
+-- Saved 9: what all of STATE is about: the sizes of what is lent, the counts, and the tables of the saved run
+pub record Resumes (lim : Limits) (pr : Program) (l : Lent) (x : List ℕ) (a b : ℕ) : Type 0 where
+  pub sizes : Sizes lim l
+  pub processes : procCount (headIn x) ≡ a
+  pub variables : varCount (headIn x) ≡ b
+  pub ruled : LentRuled lim pr (resumedLent lim x a b)
+
+-- Saved 5, 8, 9, 12: a resume from the saved run x
+pub data ResumeRefused (lim : Limits) (s : List ℕ) (l : Lent) (x : List ℕ) : ℕ → ℕ → Type 0 where
+  resume-image : {n o : ℕ} → BadImage s n o → ResumeRefused lim s l x n o
+  resume-record : {r c n o : ℕ} → RightImage s r c → BadSaved x n o → ResumeRefused lim s l x n (toldOffset o)
+  is-foreign : {r c a b : ℕ} → RightImage s r c → Formed x a b → imageLength x ≢ length s → ResumeRefused lim s l x 15 0
+  no-tables : {r c a b : ℕ} → RightImage s r c → Formed x a b → imageLength x ≡ length s → (Resumes lim (programOf s r c) l x a b → ⊥) → ResumeRefused lim s l x 8 0
+
 -- ---- demand 1 of a word
 
--- it is a refusal exactly where there is a reason, and then has the number and the offset of that
-pub record RefusesBy (Why : ℕ → ℕ → Type 0) (w : ℕ) : Type 0 where
-  pub numbered : {n o : ℕ} → Why n o → (1 ≤ n) × (n ≤ 14)
+-- it is a refusal exactly where there is a reason, and then has the number and the offset of that; no number is above the highest that the call has
+pub record RefusesBy (most : ℕ) (Why : ℕ → ℕ → Type 0) (w : ℕ) : Type 0 where
+  pub numbered : {n o : ℕ} → Why n o → (1 ≤ n) × (n ≤ most)
   pub given : {n o : ℕ} → Why n o → (refusalIn w ≡ n) × (largeIn w ≡ o)
   pub only : refusalIn w ≢ 0 → Why (refusalIn w) (largeIn w)
 
 -- and a refusal leaves every lent byte as it was, in the tables or in the row that a call writes
-pub record Refusing {A : Type 0} (Why : ℕ → ℕ → Type 0) (l : A) (w : ℕ) (l′ : A) : Type 0 where
-  pub by : RefusesBy Why w
+pub record Refusing {A : Type 0} (most : ℕ) (Why : ℕ → ℕ → Type 0) (l : A) (w : ℕ) (l′ : A) : Type 0 where
+  pub by : RefusesBy most Why w
   pub kept : refusalIn w ≢ 0 → l′ ≡ l

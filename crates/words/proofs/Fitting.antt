@@ -40,7 +40,7 @@ use Rattle.words.specs.Fits.{MoveWithin, reached, RefusalFits, RunFits, 
 -- ---- a load
 
 -- a refusal at an offset up to n
-abbrev LoadWithin : ℕ → Loaded → Type 0
+abbrev pub LoadWithin : ℕ → Loaded → Type 0
 LoadWithin n (Accepted r c) = Unit {0}
 LoadWithin n (Refused r) = r .offset ≤ n
 
@@ -90,7 +90,7 @@ start-fits lim s l = by (loadOf s) (load-fits s)
 -- ---- what a call knows that was let in
 
 -- refused at an offset that fits, or with no more processes and goal variables than there may be
-abbrev EntryWithin : Limits → Entry → Type 0
+abbrev pub EntryWithin : Limits → Entry → Type 0
 EntryWithin lim (turned-away r) = RefusalFits r
 EntryWithin lim (entered pr t) = (procsIn t ≤ lim .procs) × (pr .goalVars ≤ lim .vars)
 

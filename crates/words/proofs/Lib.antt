@@ -2,3 +2,4 @@
 pub mod Laws
 pub mod Moves
 pub mod Fitting
+pub mod Nights

@@ -10,13 +10,16 @@ use parlog::Supplied;
 use parlog::Term;
 use parlog::Valued;
 use parlog::codes;
+use resume::Resumed;
+use resume::Saved;
 use values::Gathered;
 ghost use mathlib.Core.Path.{_≡_};
 ghost use Prim.Native.Nat.{_≤_};
 ghost use Rattle.parlog.specs.Numbers.{endNumber, refusedAs, runNumbers, startNumbers, stepNumbers, supplyNumbers, termNumbers, valueNumbers, variable, watchNumbers, word};
 ghost use Rattle.parlog.specs.declared.Stepped.the-variants.{Moved};
-ghost use Rattle.words.specs.Fits.{MoveWithin, RefusalFits, RunFits, StartFits, StepFits, SupplyFits, ToldSays, ValueFits, ValuesFits, reached};
+ghost use Rattle.words.specs.Fits.{MoveWithin, reached, RefusalFits, RunFits, StartFits, StepFits, SupplyFits, ToldSays, ValueFits, ValuesFits};
 ghost use Rattle.values.specs.Values.{valuesNumbers};
+ghost use Rattle.words.specs.Nights.{resumeNumbers, SaveFits, saveNumbers, toldRefusal};
 
 // The refusal of a call that is accepted.
 const ACCEPTED: usize = 0;
@@ -225,4 +228,40 @@ pub fn watch_word(a: Found) -> u64
         return word(ACCEPTED, 0, 0, 0);
     }
     word(ACCEPTED, SEEN, 0, i)
+}
+
+// ---- a save and a resume
+
+// A refusal as it can be told: an offset over 32 bits becomes the largest number.
+pub fn told_refusal(r: Refusal) -> Refusal
+    ensures { λ t. ⌜ (t ≡ toldRefusal r) × (t .offset ≤ 4294967295) ⌝ }
+{
+    if MOST_NUMBER < r.offset {
+        return Refusal {
+            number: r.number,
+            offset: MOST_NUMBER,
+        };
+    }
+    r
+}
+
+// Of a save: how many bytes the saved run has.
+pub fn save_word(a: Saved) -> u64
+    requires { ⌜ SaveFits a ⌝ }
+    ensures { λ w. ⌜ w ≡ word (saveNumbers a) ⌝ }
+{
+    match a {
+        Saved::Stored(n) => word(ACCEPTED, 0, 0, n),
+        Saved::Unsaved(r) => refused(r),
+    }
+}
+
+// Of a resume: nothing to tell.
+pub fn resume_word(a: Resumed) -> u64
+    ensures { λ w. ⌜ w ≡ word (resumeNumbers a) ⌝ }
+{
+    match a {
+        Resumed::Restored => word(ACCEPTED, 0, 0, 0),
+        Resumed::Unresumed(r) => refused(told_refusal(r)),
+    }
 }

@@ -1,0 +1,4 @@
+pub mod Saving
+pub mod Resuming
+pub mod Copied
+pub mod Computed

@@ -1,0 +1,4 @@
+-- The two calls.
+pub mod Calls
+pub mod Says
+pub mod Instances
