@@ -10,10 +10,10 @@ use native.Mathlib.Omega.{arith}
 use native.Mathlib.Numerals.{add-one}
 use Rattle.children.specs.Telling.{Tells}
 use Rattle.children.specs.declared.Told.{Told}
+use Rattle.entry.specs.Entered.{Inside}
 use Rattle.load.proofs.Accepted.{accepted}
 use Rattle.load.proofs.Heads.{accepted-heads}
 use Rattle.load.proofs.Sanity.{accepted-sane}
-use Rattle.entry.specs.Entered.{Inside}
 use Rattle.move_plan.proofs.Plans.{applied-none, applied-some, fits-is, fits-procs, fits-vars}
 use Rattle.move_plan.specs.Plans.{appliedOf, deltaOf, fitsIn, newMost, stateIn, Within}
 use Rattle.move_plan.specs.declared.Plan.{Plan}
@@ -23,14 +23,14 @@ use Rattle.parlog.proofs.Bools.{and-true}
 use Rattle.parlog.proofs.Steps.{steady-kept}
 use Rattle.parlog.specs.Limits.{Limits, small, Usable}
 use Rattle.parlog.specs.Program.{Program, programOf}
-use Rattle.parlog.specs.Rules.{fits, move, ruleOf, withRoom}
+use Rattle.parlog.specs.Rules.{by-rule, fits, move, ruleOf, withRoom}
 use Rattle.parlog.specs.Run.{counted, made, procsIn, stepBy, stepped, stepTables, unmade}
 use Rattle.parlog.specs.Scan.{every}
 use Rattle.parlog.specs.TableRules.{cellKnown, fullSize, lentOk, stateOk, tablesOk}
 use Rattle.parlog.specs.Tables.{at, cellSize, headSize, Lent, procCount, procsOf, rowSize, tablesIn, varCount}
 use Rattle.parlog.specs.declared.Process.{Process}
 use Rattle.rows.proofs.Tables.{procs-length}
-use Rattle.step.specs.Stepping.{stepIn}
+use Rattle.step.specs.Stepping.{Carries, stepIn}
 use Rattle.tree.specs.Family.{Falls, mostRows}
 use Rattle.vars.proofs.Tables.{vars-length}
 
@@ -73,13 +73,6 @@ module _ (lim : Limits) (s : List ℕ) (r c : ℕ) (l : Lent) (i : Inside lim s 
   pub parents-fall : {n : ℕ} → n ≡ procCount (l .head) → Falls (procsOf (l .procs) n)
   parents-fall e = rw e (unfold tablesIn in (steady-kept lim pr (tablesIn l) tables-good .0 .kin .lower))
 
-  -- what fits can be written
-  pub may-write : (n m : ℕ) (pl : Plan) {b : Bool} → b ≡ fitsIn (lim .procs) (lim .vars) n m pl → b ≡ true → Within m (pl .changes .count) (pl .changes .list)
-      → ((n + pl .count) * rowSize ≤ length (l .procs)) × ((m + pl .fresh) * cellSize ≤ length (l .vars)) × Within (m + pl .fresh) (pl .changes .count) (pl .changes .list)
-  may-write n m pl eb q w =
-      let f = room-for lim n m pl eb q in
-      (omega (arith, i .procs-size, f .0), omega (arith, i .vars-size, f .1), λ j u. let x = w j u in (omega (arith, x .0), x .1))
-
   -- ---- what the callees of a step ask
 
   pub rule-asks : Usable lim → lim .vars ≤ 60000 → (p : ℕ) → p < procCount (l .head) → {n m : ℕ} → n ≡ procCount (l .head) → n ≤ 65535 → m ≡ varCount (l .head)
@@ -91,14 +84,16 @@ module _ (lim : Limits) (s : List ℕ) (r c : ℕ) (l : Lent) (i : Inside lim s 
   pub fits-asks : {n m : ℕ} → n ≡ procCount (l .head) → m ≡ varCount (l .head) → (n ≤ lim .procs) × (m ≤ lim .vars)
   fits-asks en em = (rw en (i .procs-most), rw em (i .vars-most))
 
-  module _ (p : ℕ) (h : p < procCount (l .head)) (n m : ℕ) (en : n ≡ procCount (l .head)) (pl : Plan) {b : Bool} (eb : b ≡ fitsIn (lim .procs) (lim .vars) n m pl) (q : b ≡ true) where
-    pub write-asks : lim .procs ≤ mostRows → pl .count ≤ newMost → pl .changes .count ≤ 4 → Within m (pl .changes .count) (pl .changes .list)
-        → ((n + pl .count) * rowSize ≤ length (l .procs)) × (pl .count ≤ newMost) × (p < n) × Falls (procsOf (l .procs) n) × ((m + pl .fresh) * cellSize ≤ length (l .vars)) × (pl .changes .count ≤ 4)
-        × Within (m + pl .fresh) (pl .changes .count) (pl .changes .list) × (n ≤ mostRows)
-    write-asks most few changes w = let x = may-write n m pl eb q w in (x .0, few, rw en h, parents-fall en, x .1, changes, x .2, omega (arith, en, i .procs-most, most))
+-- ---- what the callees of the writing ask
 
-    pub head-asks : Usable lim → n ≤ 65535 → (length (l .head) ≡ headSize) × (n + pl .count ≤ 65535) × (m + pl .fresh ≤ 65535) × (p ≤ 65535)
-    head-asks ok hn = let f = room-for lim n m pl eb q in (i .head, omega (arith, f .0, ok .procs-counted), omega (arith, f .1, ok .vars-counted), omega (arith, h, en, hn))
+module _ (lim : Limits) (l : Lent) (p : ℕ) (pl : Plan) (can : Carries lim l p pl) {n m : ℕ} (en : n ≡ procCount (l .head)) (em : m ≡ varCount (l .head)) where
+  pub write-asks : ((n + pl .count) * rowSize ≤ length (l .procs)) × (pl .count ≤ newMost) × (p < n) × Falls (procsOf (l .procs) n) × ((m + pl .fresh) * cellSize ≤ length (l .vars)) × (pl .changes .count ≤ 4)
+      × Within (m + pl .fresh) (pl .changes .count) (pl .changes .list) × (n ≤ mostRows)
+  write-asks = (rw en (can .rows), can .new, rw en (can .mover), rw en (can .falls), rw em (can .cells), can .changes, λ j u. let x = can .within j u in (omega (arith, x .0, em), x .1), rw en (can .marks))
+
+  pub head-asks : Usable lim → (length (l .head) ≡ headSize) × (n + pl .count ≤ 65535) × (m + pl .fresh ≤ 65535) × (p ≤ 65535)
+  head-asks ok =
+      (can .head, omega (arith, can .few-procs, ok .procs-counted), omega (arith, can .few-vars, ok .vars-counted), omega (arith, can .mover, can .few-procs, ok .procs-counted))
 
 -- a run has no more rows than marks are kept for
 pub small-rows : small .procs ≤ mostRows
@@ -136,6 +131,10 @@ module _ (lim : Limits) (s : List ℕ) (r c : ℕ) (l : Lent) (p : ℕ) (h : p <
   -- 10: no rule applies
   pub step-still : pl .acts ≡ false → stepIn lim s r c l p ≡ unmade 10
   step-still e = step-by ∙ rw (applied-none pl e) (unfold stepBy in refl)
+
+  -- the rule that does
+  pub rule-made : pl .acts ≡ true → ruleOf (programOf s r c) (tablesIn l .state) p ≡ by-rule (pl .mv) (deltaOf pl)
+  rule-made e = rule-is ∙ applied-some pl e
 
   module _ (e : pl .acts ≡ true) {b : Bool} (eb : b ≡ fitsIn (lim .procs) (lim .vars) n m pl) where
     -- 11: there is no room for what it makes

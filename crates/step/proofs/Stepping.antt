@@ -1,83 +1,124 @@
 -- The ways through a step.
-use mathlib.Core.Path.{_∙_, _≡_, sym}
+use mathlib.Core.Path.{_∙_, _≡_, refl}
 use mathlib.Core.Bool.{Bool, false, true}
 use mathlib.Core.List.{List}
-use Prim.Native.Nat.{_+_, _<_, _≤_, ℕ}
+use Prim.Native.Nat.{_+_, _<_, _≤_, suc, zero, ℕ}
 use lib.Dec.{ltb}
 use lib.ListN.{length}
 use borrow.Author.Tests.{le-ltb}
 use native.Mathlib.Omega.{arith}
-use Rattle.load.specs.Fields.{refusalOf}
 use Rattle.entry.specs.Entered.{EnterSays, Inside}
+use Rattle.load.specs.Fields.{refusalOf}
+use Rattle.move_plan.proofs.Plans.{delta-fresh, delta-new}
+use Rattle.move_plan.specs.Plans.{appliedOf, deltaOf, fitsIn, newMost, stateIn, Within}
+use Rattle.move_plan.specs.declared.Plan.{Plan}
 use Rattle.parlog.specs.Calls.{stepAnswer, stepCall}
-use Rattle.parlog.specs.Delta.{apply}
+use Rattle.parlog.specs.Delta.{apply, Delta}
 use Rattle.parlog.specs.Limits.{Limits}
 use Rattle.parlog.specs.Load.{refusal}
 use Rattle.parlog.specs.Program.{programOf}
 use Rattle.parlog.specs.Rules.{ruleOf}
-use Rattle.parlog.specs.Run.{counted, procsIn, stepTables, unmade}
-use Rattle.parlog.specs.Tables.{headBytes, Lent, markerSteps, procCount, procsOf, tablesIn, varCount}
+use Rattle.parlog.specs.Run.{counted, made, procsIn, stepped, stepTables, unmade}
+use Rattle.parlog.specs.Tables.{headBytes, Lent, markerSteps, procCount, procsOf, Tables, tablesIn, varCount}
 use Rattle.parlog.specs.declared.Loaded.{Loaded}
 use Rattle.parlog.specs.declared.Loaded.the-variants.{Accepted, Refused}
-use Rattle.parlog.specs.declared.Move.{Move}
 use Rattle.parlog.specs.declared.Refusal.{Refusal}
 use Rattle.parlog.specs.declared.Stepped.{Stepped}
 use Rattle.parlog.specs.declared.Stepped.the-variants.{Moved, Unmoved}
-use Rattle.move_plan.proofs.Plans.{delta-fresh, delta-new, fits-procs, fits-vars}
-use Rattle.move_plan.specs.Plans.{appliedOf, deltaOf, fitsIn, stateIn}
-use Rattle.move_plan.specs.declared.Plan.{Plan}
 use Rattle.rows.proofs.Tables.{procs-length}
 use Rattle.rows.specs.Rows.{Bytes, Table}
-use Rattle.step.proofs.Deciding.{step-full, step-made, step-still}
+use Rattle.step.proofs.Deciding.{parents-fall, room-for, rule-made, step-full, step-made, step-still}
 use Rattle.step.proofs.Making.{made-head, made-inside, made-procs, made-tables, made-vars, procs-after, vars-after}
-use Rattle.step.specs.Stepping.{stepIn, SteppedSays, StepSays}
+use Rattle.step.specs.Stepping.{CarriedOut, Carries, PlannedSays, stepIn, stepOf, SteppedSays, StepSays}
+use Rattle.step.specs.declared.Verdict.{Verdict}
+use Rattle.tree.specs.Family.{mostRows}
 use Rattle.vars.specs.Cells.{Cells}
+
+-- ---- what is decided
 
 module _ (lim : Limits) (s : List ℕ) (r c : ℕ) (l : Lent) (i : Inside lim s r c l) (p : ℕ) (h : p < procCount (l .head)) {n m : ℕ} (en : n ≡ procCount (l .head)) (em : m ≡ varCount (l .head))
     (pl : Plan) (is : appliedOf pl ≡ ruleOf (programOf s r c) (stateIn (l .procs) n (l .vars) m) p) where
-  refused : {k : ℕ} {f : Refusal} → stepIn lim s r c l p ≡ unmade k → f ≡ refusal k 0 → SteppedSays lim s r c l p (Unmoved f) (l .head) (l .procs) (l .vars)
-  refused e ef = record { answer = rw (e, ef); head = rw e; procs = rw e; vars = rw e; inside = i; tables = rw e; more-procs = omega arith; more-vars = omega arith }
-
-  pub stepped-still : pl .acts ≡ false → {f : Refusal} → f ≡ refusal 10 0 → SteppedSays lim s r c l p (Unmoved f) (l .head) (l .procs) (l .vars)
-  stepped-still e ef = refused (step-still lim s r c l p h en em pl is e) ef
+  pub planned-still : pl .acts ≡ false → PlannedSays lim s r c l p (record { number = 10; plan = pl })
+  planned-still e = record { step = step-still lim s r c l p h en em pl is e; rule = λ z. absurd (omega arith); carries = λ z. absurd (omega arith) }
 
   module _ (e : pl .acts ≡ true) {b : Bool} (eb : b ≡ fitsIn (lim .procs) (lim .vars) n m pl) where
-    pub stepped-full : b ≡ false → {f : Refusal} → f ≡ refusal 11 0 → SteppedSays lim s r c l p (Unmoved f) (l .head) (l .procs) (l .vars)
-    stepped-full q ef = refused (step-full lim s r c l p h en em pl is e eb q) ef
+    pub planned-full : b ≡ false → PlannedSays lim s r c l p (record { number = 11; plan = pl })
+    planned-full q = record { step = step-full lim s r c l p h en em pl is e eb q; rule = λ z. absurd (omega arith); carries = λ z. absurd (omega arith) }
 
-    module _ (q : b ≡ true) {k j : ℕ} (ek : k ≡ markerSteps (l .head)) (ej : j ≡ counted k) {a ps vs : List ℕ}
-        (tp : Table (l .procs) ps (apply (stateIn (l .procs) n (l .vars) m) p (deltaOf pl) .procs))
-        (tv : Cells m (l .vars) vs (apply (stateIn (l .procs) n (l .vars) m) p (deltaOf pl) .vars))
-        (ea : a ≡ headBytes (n + pl .count) (m + pl .fresh) p j) where
-      few : procCount (l .head) + length (deltaOf pl .new) ≤ lim .procs
-      few = omega (arith, delta-new pl, en, fits-procs (lim .procs) (lim .vars) n m pl (sym eb ∙ q))
+    pub planned-made : b ≡ true → lim .procs ≤ mostRows → pl .count ≤ newMost → pl .changes .count ≤ 4 → Within m (pl .changes .count) (pl .changes .list)
+        → PlannedSays lim s r c l p (record { number = 0; plan = pl })
+    planned-made q most few changes w = record { step = step-made lim s r c l p h en em pl is e eb q; rule = λ z. rule-made lim s r c l p h en em pl is e; carries = λ z. carries-so }
+      where
+        carries-so : Carries lim l p pl
+        carries-so =
+            let f = room-for lim n m pl eb q in
+            record {
+              head = i .head;
+              mover = h;
+              falls = parents-fall lim s r c l i {n = procCount (l .head)} refl;
+              marks = omega (arith, i .procs-most);
+              rows = omega (arith, i .procs-size, f .0);
+              cells = omega (arith, i .vars-size, f .1);
+              few-procs = omega (arith, f .0);
+              few-vars = omega (arith, f .1);
+              new = few;
+              changes = changes;
+              within = rw em at w;
+            }
 
-      few-vars : varCount (l .head) + deltaOf pl .fresh ≤ lim .vars
-      few-vars = omega (arith, delta-fresh pl, em, fits-vars (lim .procs) (lim .vars) n m pl (sym eb ∙ q))
+-- ---- the step
 
-      head-is-so : a ≡ headBytes (procCount (l .head) + length (deltaOf pl .new)) (varCount (l .head) + deltaOf pl .fresh) p (counted (markerSteps (l .head)))
-      head-is-so = ea ∙ rw (en, em, ej, ek, delta-new pl, delta-fresh pl)
+step-unmade : (k : ℕ) (pl : Plan) (t : Tables) (p : ℕ) → (k ≡ 0 → ⊥) → stepOf k pl t p ≡ unmade k
+step-unmade zero pl t p h = absurd (h refl)
+step-unmade (suc k) pl t p h = refl
 
-      rows-so : Table (l .procs) ps (apply (tablesIn l .state) p (deltaOf pl) .procs)
-      rows-so = unfold tablesIn in rw (en, em) at tp
+module _ (lim : Limits) (s : List ℕ) (r c : ℕ) (l : Lent) (i : Inside lim s r c l) (p : ℕ) {d : Verdict} (says : PlannedSays lim s r c l p d) where
+  pub stepped-refused : (d .number ≡ 0 → ⊥) → {f : Refusal} → f ≡ refusal (d .number) 0 → SteppedSays lim s r c l p (Unmoved f) (l .head) (l .procs) (l .vars)
+  stepped-refused h ef =
+      let e = says .step ∙ step-unmade (d .number) (d .plan) (tablesIn l) p h in
+      record { answer = rw (e, ef); head = rw e; procs = rw e; vars = rw e; inside = i; tables = rw e; more-procs = omega arith; more-vars = omega arith }
 
-      cells-so : Cells (varCount (l .head)) (l .vars) vs (apply (tablesIn l .state) p (deltaOf pl) .vars)
-      cells-so = unfold tablesIn in rw (en, em) at tv
+  module _ (z : d .number ≡ 0) {h ps vs : List ℕ} (out : CarriedOut l p (d .plan) h ps vs) where
+    abbrev dl : Delta
+    dl = deltaOf (d .plan)
 
-      pub stepped-moved : {v : Move} → v ≡ pl .mv → Bytes ps → Bytes vs → SteppedSays lim s r c l p (Moved v) a ps vs
-      stepped-moved ev bp bv =
-          let z = step-made lim s r c l p h en em pl is e eb q in
-          let d = deltaOf pl in
-          record {
-            answer = rw (z, ev);
-            head = rw z (made-head lim s r c l i p d z few few-vars head-is-so rows-so cells-so);
-            procs = rw z (made-procs lim s r c l i p d z few few-vars head-is-so rows-so cells-so bp);
-            vars = rw z (made-vars lim s r c l i p d z few few-vars head-is-so rows-so cells-so bv);
-            inside = made-inside lim s r c l i p d z few few-vars head-is-so rows-so cells-so;
-            tables = rw z (made-tables lim s r c l i p d z few few-vars head-is-so rows-so cells-so);
-            more-procs = omega (arith, procs-after lim s r c l i p d z few few-vars head-is-so rows-so cells-so);
-            more-vars = omega (arith, vars-after lim s r c l i p d z few few-vars head-is-so rows-so cells-so);
-          }
+    made-so : stepIn lim s r c l p ≡ made (d .plan .mv) (stepped (tablesIn l) p dl)
+    made-so = says .step ∙ rw z
+
+    few : procCount (l .head) + length (dl .new) ≤ lim .procs
+    few = omega (arith, delta-new (d .plan), says .carries z .few-procs)
+
+    few-vars : varCount (l .head) + dl .fresh ≤ lim .vars
+    few-vars = omega (arith, delta-fresh (d .plan), says .carries z .few-vars)
+
+    head-is-so : h ≡ headBytes (procCount (l .head) + length (dl .new)) (varCount (l .head) + dl .fresh) p (counted (markerSteps (l .head)))
+    head-is-so = out .head ∙ rw (delta-new (d .plan), delta-fresh (d .plan))
+
+    pub stepped-moved : SteppedSays lim s r c l p (Moved (d .plan .mv)) h ps vs
+    stepped-moved = record {
+      answer = rw made-so;
+      head = rw made-so (made-head lim s r c l i p dl made-so few few-vars head-is-so (out .procs) (out .vars));
+      procs = rw made-so (made-procs lim s r c l i p dl made-so few few-vars head-is-so (out .procs) (out .vars) (out .procs-bytes));
+      vars = rw made-so (made-vars lim s r c l i p dl made-so few few-vars head-is-so (out .procs) (out .vars) (out .vars-bytes));
+      inside = made-inside lim s r c l i p dl made-so few few-vars head-is-so (out .procs) (out .vars);
+      tables = rw made-so (made-tables lim s r c l i p dl made-so few few-vars head-is-so (out .procs) (out .vars));
+      more-procs = omega (arith, procs-after lim s r c l i p dl made-so few few-vars head-is-so (out .procs) (out .vars));
+      more-vars = omega (arith, vars-after lim s r c l i p dl made-so few few-vars head-is-so (out .procs) (out .vars));
+    }
+
+-- ---- the writing
+
+-- what is written over the counts that the head holds
+pub carried-out : (l : Lent) (p : ℕ) (pl : Plan) {n m k j : ℕ} → n ≡ procCount (l .head) → m ≡ varCount (l .head) → k ≡ markerSteps (l .head) → j ≡ counted k → {a ps vs : List ℕ}
+    → Table (l .procs) ps (apply (stateIn (l .procs) n (l .vars) m) p (deltaOf pl) .procs) → Cells m (l .vars) vs (apply (stateIn (l .procs) n (l .vars) m) p (deltaOf pl) .vars)
+    → a ≡ headBytes (n + pl .count) (m + pl .fresh) p j → Bytes ps → Bytes vs → CarriedOut l p pl a ps vs
+carried-out l p pl en em ek ej tp tv ea bp bv = record {
+  head = ea ∙ rw (en, em, ej, ek);
+  procs = unfold tablesIn in rw (en, em) at tp;
+  vars = unfold tablesIn in rw (en, em) at tv;
+  procs-bytes = bp;
+  vars-bytes = bv;
+}
 
 -- ---- the call
 

@@ -1,5 +1,6 @@
 // The step by number: the move of one process, over lent bytes.
 use children::Told;
+use move_plan::Plan;
 use parlog::Loaded;
 use parlog::Stepped;
 use parlog::codes;
@@ -11,7 +12,7 @@ ghost use Rattle.entry.specs.Entered.{Inside};
 ghost use Rattle.parlog.specs.Limits.{small};
 ghost use Rattle.parlog.specs.Run.{counted};
 ghost use Rattle.parlog.specs.Tables.{at, lent, procCount, procsOf, rowSize};
-ghost use Rattle.step.specs.Stepping.{StepSays, SteppedSays};
+ghost use Rattle.step.specs.Stepping.{CarriedOut, Carries, PlannedSays, StepSays, SteppedSays};
 
 // The limits of a run.
 const PROCS: usize = codes::MOST_PROCS;
@@ -28,6 +29,56 @@ fn count(steps: u32) -> u32
     steps
 }
 
+// What a step was decided to be: what refuses it, 0 where nothing does, and its plan.
+pub struct Verdict {
+    pub number: u8,
+    pub plan: Plan,
+}
+
+// What the step of process p will do, in tables that keep the rules; it only reads.
+pub fn planned(
+    image: &[u8],
+    rels: usize,
+    clauses: usize,
+    head: &[u8],
+    procs: &[u8],
+    vars: &[u8],
+    p: usize,
+    told: Told,
+) -> Verdict
+    requires { ⌜ Inside small (now image) rels clauses (lent (now head) (now procs) (now vars)) × (p < procCount (now head)) × (at (procsOf (now procs) (procCount (now head))) p .mode ≡ 3 → Tells (procsOf (now procs) (procCount (now head))) p told) ⌝ }
+    ensures { λ r. ⌜ PlannedSays small (now (image .entry)) rels clauses (lent (now (head .entry)) (now (procs .entry)) (now (vars .entry))) p r ⌝ }
+{
+    let n = head::proc_count(head);
+    let m = head::var_count(head);
+    let plan = moves::rule_of(image, rels, clauses, procs, n, vars, m, p, told);
+    if !plan.acts {
+        return Verdict {
+            number: codes::STILL,
+            plan,
+        };
+    }
+    if !move_plan::fits(PROCS, VARS, n, m, plan) {
+        return Verdict {
+            number: codes::ROOM,
+            plan,
+        };
+    }
+    Verdict { number: 0, plan }
+}
+
+// The step of process p by its plan, which nothing refuses: it writes the tables.
+pub fn carry_out(head: &mut [u8], procs: &mut [u8], vars: &mut [u8], p: usize, plan: Plan)
+    requires { ⌜ Carries small (lent (now head) (now procs) (now vars)) p plan ⌝ }
+    ensures { λ _. ⌜ CarriedOut (lent (now (head .entry)) (now (procs .entry)) (now (vars .entry))) p plan (now (head .exit)) (now (procs .exit)) (now (vars .exit)) ⌝ }
+{
+    let n = head::proc_count(head);
+    let m = head::var_count(head);
+    let steps = count(head::marker_steps(head));
+    move_write::write(procs, n, vars, m, p, plan);
+    head::put_head(head, n + plan.count, m + plan.fresh, p, steps);
+}
+
 // The step of process p, in tables that keep the rules; nothing is written before it is known to be made.
 pub fn stepped(
     image: &[u8],
@@ -42,20 +93,14 @@ pub fn stepped(
     requires { ⌜ Inside small (now image) rels clauses (lent (now head) (now procs) (now vars)) × (p < procCount (now head)) × (at (procsOf (now procs) (procCount (now head))) p .mode ≡ 3 → Tells (procsOf (now procs) (procCount (now head))) p told) ⌝ }
     ensures { λ r. ⌜ SteppedSays small (now (image .entry)) rels clauses (lent (now (head .entry)) (now (procs .entry)) (now (vars .entry))) p r (now (head .exit)) (now (procs .exit)) (now (vars .exit)) ⌝ }
 {
-    let n = head::proc_count(head);
-    let m = head::var_count(head);
-    let plan = moves::rule_of(image, rels, clauses, procs, n, vars, m, p, told);
-    if !plan.acts {
-        return Stepped::Unmoved(entry::refusal(codes::STILL));
+    let d = planned(image, rels, clauses, head, procs, vars, p, told);
+    let number = d.number;
+    if number != 0 {
+        return Stepped::Unmoved(entry::refusal(number));
     }
-    if !move_plan::fits(PROCS, VARS, n, m, plan) {
-        return Stepped::Unmoved(entry::refusal(codes::ROOM));
-    }
-    let made = head::marker_steps(head);
-    let steps = count(made);
+    let plan = d.plan;
     let mv = plan.mv;
-    move_write::write(procs, n, vars, m, p, plan);
-    head::put_head(head, n + plan.count, m + plan.fresh, p, steps);
+    carry_out(head, procs, vars, p, plan);
     Stepped::Moved(mv)
 }
 
