@@ -4,7 +4,7 @@ use mathlib.Core.List.{List}
 use Prim.Native.Nat.{_/_, _≤_, ℕ}
 use lib.ListN.{length}
 use native.Mathlib.Omega.{arith}
-use Rattle.capi.specs.Tells.{RunTells, StartTells, StepTells, SupplyTells, Tells, TurnTells, ValueTells, WatchTells}
+use Rattle.capi.specs.Tells.{RunTells, StartTells, StepTells, SupplyTells, Tells, TurnTells, ValuesTells, ValueTells, WatchTells}
 use Rattle.load.specs.Fields.{refusalOf}
 use Rattle.machine.specs.Starting.{StartSays}
 use Rattle.machine.specs.Supplying.{SupplySays}
@@ -26,8 +26,10 @@ use Rattle.parlog.specs.declared.Valued.{Valued}
 use Rattle.rows.proofs.Tables.{procs-length}
 use Rattle.run.specs.Running.{RunSays, TurnSays}
 use Rattle.step.specs.Stepping.{StepSays}
-use Rattle.words.proofs.Fitting.{run-fits, start-fits, step-fits, supply-fits, turn-fits, value-fits, watch-reached}
-use Rattle.words.specs.Fits.{reached, RunFits, StartFits, StepFits, SupplyFits, ValueFits}
+use Rattle.values.specs.Values.{valuesNumbers, ValuesSays}
+use Rattle.values.specs.declared.Gathered.{Gathered}
+use Rattle.words.proofs.Fitting.{run-fits, start-fits, step-fits, supply-fits, turn-fits, value-fits, values-fits, watch-reached}
+use Rattle.words.specs.Fits.{reached, RunFits, StartFits, StepFits, SupplyFits, ValueFits, ValuesFits}
 
 module _ (s : List ℕ) {l : Loaded} (is : l ≡ loadOf s) where
   pub load-refused : {f r : Refusal} {w : ℕ} → l ≡ Refused f → r ≡ refusalOf l → w ≡ word (refusedAs r) → w ≡ word (loadNumbers (loadOf s))
@@ -90,6 +92,13 @@ module _ (lim : Limits) (s : List ℕ) (l : Lent) (x : ℕ) {a : Valued} (told :
 
   pub value-tells : {w : ℕ} → w ≡ word (valueNumbers a) → ValueTells lim s l x w
   value-tells k = word-of told valueNumbers k
+
+module _ (lim : Limits) (s : List ℕ) (l : Lent) (row : List ℕ) {a : Gathered} {after : List ℕ} (told : ValuesSays lim s l row a after) where
+  pub values-fit : Usable lim → ValuesFits a
+  values-fit ok = fits-of (told .answer) ValuesFits (values-fits lim ok s l row)
+
+  pub values-tells : {w : ℕ} → w ≡ word (valuesNumbers a) → ValuesTells lim s l row w after
+  values-tells k = record { answer = word-of (told .answer) valuesNumbers k; row-is = told .row-is }
 
 pub watch-tells : (p : List ℕ) {a : Found} {w : ℕ} → a ≡ watchOf (procsOf p (length p / rowSize)) → w ≡ word (watchNumbers (reached a)) → WatchTells p w
 watch-tells p e k = word-of e (λ f. watchNumbers (reached f)) k

@@ -9,6 +9,7 @@ use Rattle.parlog.specs.Load.{loadOf}
 use Rattle.parlog.specs.Numbers.{loadNumbers, Numbers, runNumbers, startNumbers, stepNumbers, supplyNumbers, valueNumbers, watchNumbers, word}
 use Rattle.parlog.specs.Run.{watchOf}
 use Rattle.parlog.specs.Tables.{Lent, procsOf, rowSize}
+use Rattle.values.specs.Values.{valuesCall, valuesNumbers}
 use Rattle.words.specs.Fits.{reached}
 
 -- Turns 10: the word of these numbers, and these rows
@@ -45,6 +46,11 @@ SupplyTells lim s l x c r h p v = Tells (supplyNumbers (supplyCall lim s l x c .
 -- of a look at variable x of the goal: nothing is written
 abbrev pub ValueTells : Limits → List ℕ → Lent → ℕ → ℕ → Type 0
 ValueTells lim s l x r = r ≡ word (valueNumbers (valueCall lim s l x))
+
+-- Values 1 to 4: of a look at all variables of the goal: the word, and the row afterwards
+pub record ValuesTells (lim : Limits) (s : List ℕ) (l : Lent) (row : List ℕ) (r : ℕ) (after : List ℕ) : Type 0 where
+  pub answer : r ≡ word (valuesNumbers (valuesCall lim s l row .answer))
+  pub row-is : after ≡ valuesCall lim s l row .row
 
 -- Turns 5: of a watch over bytes: any row of processes, as far as a word can tell its number
 abbrev pub WatchTells : List ℕ → ℕ → Type 0

@@ -1,6 +1,6 @@
 // What a C program calls: numbers and byte rows alone. Each answer is one word.
 use parlog::Loaded;
-ghost use Rattle.capi.specs.Tells.{LoadTells, RunTells, StartTells, StepTells, SupplyTells, TurnTells, ValueTells, WatchTells};
+ghost use Rattle.capi.specs.Tells.{LoadTells, RunTells, StartTells, StepTells, SupplyTells, TurnTells, ValueTells, ValuesTells, WatchTells};
 ghost use Rattle.parlog.specs.Limits.{small};
 ghost use Rattle.parlog.specs.Tables.{lent};
 
@@ -104,6 +104,21 @@ pub extern "C" fn rissobarm_value(
 {
     let a = machine::value(image, head, procs, vars, variable);
     words::value_word(a)
+}
+
+// The values of all goal variables, a variable row each.
+#[no_mangle]
+pub extern "C" fn rissobarm_values(
+    image: &[u8],
+    head: &[u8],
+    procs: &[u8],
+    vars: &[u8],
+    row: &mut [u8],
+) -> u64
+    ensures { λ r. ⌜ ValuesTells small (now (image .entry)) (lent (now (head .entry)) (now (procs .entry)) (now (vars .entry))) (now (row .entry)) r (now (row .exit)) ⌝ }
+{
+    let a = values::values(image, head, procs, vars, row);
+    words::values_word(a)
 }
 
 // The lowest number of a suspended process, in any row of processes.

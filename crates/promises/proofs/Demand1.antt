@@ -3,9 +3,10 @@ use mathlib.Core.Path.{_∙_, _≡_, ap, refl, sym}
 use mathlib.Core.Logic.{_≢_}
 use mathlib.Core.Bool.{true}
 use mathlib.Core.List.{List}
-use Prim.Native.Nat.{_<_, _≤_, ℕ}
-use lib.Dec.{ltb}
-use borrow.Author.Tests.{ltb-false, ltb-true}
+use Prim.Native.Nat.{_*_, _<_, _≤_, ℕ}
+use lib.Dec.{leb, ltb}
+use lib.ListN.{length}
+use borrow.Author.Tests.{le-leb, leb-false, leb-true, lt-leb, ltb-false, ltb-true}
 use native.Mathlib.Omega.{arith}
 use Rattle.entry.proofs.Held.{count-procs, same-lent, tables-state}
 use Rattle.parlog.proofs.Bools.{split}
@@ -18,8 +19,9 @@ use Rattle.parlog.specs.Numbers.{refusedAs, word}
 use Rattle.parlog.specs.Program.{Program, programOf}
 use Rattle.parlog.specs.Run.{Looking, Running, runTables, Stepping, stepTables, Supplying, supplyTables, turnFor, turnTables, turnTo, unmade, valueTables}
 use Rattle.parlog.specs.TableRules.{fullSize}
-use Rattle.parlog.specs.Tables.{Lent, procCount, startedLent, Tables, tablesIn}
+use Rattle.parlog.specs.Tables.{cellSize, Lent, procCount, startedLent, Tables, tablesIn, written}
 use Rattle.parlog.specs.Unify.{value}
+use Rattle.parlog.specs.declared.Binding.{Binding}
 use Rattle.parlog.specs.declared.Found.{Found}
 use Rattle.parlog.specs.declared.Found.the-variants.{At, Nothing}
 use Rattle.parlog.specs.declared.Loaded.{Loaded}
@@ -30,17 +32,19 @@ use Rattle.parlog.specs.declared.Stepped.the-variants.{Unmoved}
 use Rattle.parlog.specs.declared.Supplied.the-variants.{Ungiven}
 use Rattle.parlog.specs.declared.Term.the-variants.{Var}
 use Rattle.parlog.specs.declared.Valued.the-variants.{Unvalued}
-use Rattle.promises.proofs.Entry.{away, away-numbered, bad-is, Door, door, inside, let-in-same, let-ok, run-let, run-turned, step-let, step-turned, supply-let, supply-turned, turn-let, turn-turned, value-let, value-turned}
+use Rattle.promises.proofs.Entry.{away, away-numbered, bad-is, Door, door, inside, let-in-same, let-ok, run-let, run-turned, step-let, step-turned, supply-let, supply-turned, turn-let, turn-turned, value-let, value-turned, values-let, values-turned}
 use Rattle.promises.proofs.Giving.{is-constant, is-taken, look-sees, look-twelve, not-there, Offer, offer, supply-fourteen, supply-thirteen, supply-twelve, too-large}
 use Rattle.promises.proofs.Loaded.{accepted-few}
 use Rattle.promises.proofs.Whose.{goes, is-full, is-still, move-can, none-turn, of-turn, step-eleven, step-nine, step-ten, too-high, Trial, trial, turn-moves, turn-none, turn-of}
-use Rattle.promises.proofs.Words.{accepted-told, begun-told, ended-told, given-told, moved-told, refused-told, term-told}
-use Rattle.promises.specs.Outcomes.{firstIn, largeIn, LoadMeets, refusalIn, RunMeets, secondIn, StartMeets, StepMeets, SupplyMeets, TurnMeets, ValueMeets}
-use Rattle.promises.specs.Refusals.{BadImage, has-constant, LetIn, no-constant, no-process, no-room-for, no-room-in-turn, no-rule-for, no-variable, no-variable-seen, nobody, RefusesBy, Refusing, run-away, RunRefused, start-image, start-sizes, StartRefused, stateIn, step-away, StepRefused, supply-away, SupplyRefused, Turn, turn-away, TurnRefused, value-away, ValueRefused}
+use Rattle.promises.proofs.Words.{accepted-told, begun-told, ended-told, given-told, moved-told, refused-told, term-told, values-told}
+use Rattle.promises.specs.Outcomes.{firstIn, largeIn, LoadMeets, refusalIn, RunMeets, secondIn, StartMeets, StepMeets, SupplyMeets, TurnMeets, ValueMeets, ValuesMeets}
+use Rattle.promises.specs.Refusals.{BadImage, has-constant, LetIn, no-constant, no-process, no-room-for, no-room-in-turn, no-rule-for, no-variable, no-variable-seen, nobody, RefusesBy, Refusing, row-short, run-away, RunRefused, start-image, start-sizes, StartRefused, stateIn, step-away, StepRefused, supply-away, SupplyRefused, Turn, turn-away, TurnRefused, value-away, ValueRefused, values-away, ValuesRefused}
 use Rattle.refusals.proofs.Exactly.{accepted-right, refused-exactly, refused-number}
 use Rattle.refusals.proofs.RuledExactly.{sizes-exactly}
 use Rattle.refusals.proofs.Tests.{refuted, refutes}
 use Rattle.refusals.specs.Right.{RightImage}
+use Rattle.values.specs.Values.{gathered, valuesBytes, valuesCall}
+use Rattle.values.specs.declared.Gathered.the-variants.{Ungathered, Values}
 
 -- ---- from the reasons to the word
 
@@ -59,11 +63,11 @@ module _ {Why : ℕ → ℕ → Type 0} (w : ℕ) (numbered : (n o : ℕ) → Wh
       go (a-refusal y) h = let g = given-so y in rw (g .0, g .1) y
       go (no-refusal e) h = absurd (h e)
 
-  kept-by : {l l′ : Lent} → Answered Why w → ((n o : ℕ) → Why n o → l′ ≡ l) → refusalIn w ≢ 0 → l′ ≡ l
+  kept-by : {A : Type 0} {l l′ : A} → Answered Why w → ((n o : ℕ) → Why n o → l′ ≡ l) → refusalIn w ≢ 0 → l′ ≡ l
   kept-by (a-refusal {n} {o} y) k h = k n o y
   kept-by (no-refusal e) k h = absurd (h e)
 
-  refusing : {l l′ : Lent} → Answered Why w → ((n o : ℕ) → Why n o → l′ ≡ l) → Refusing Why l w l′
+  refusing : {A : Type 0} {l l′ : A} → Answered Why w → ((n o : ℕ) → Why n o → l′ ≡ l) → Refusing Why l w l′
   refusing a k = record { by = refuses-by a; kept = kept-by a k }
 
 -- ---- load
@@ -320,3 +324,40 @@ module _ (lim : Limits) (s : List ℕ) (l : Lent) (v : ℕ) where
         go (inside {r} {c} i) = split (ltb v (programOf s r c .goalVars))
             (λ e. no-refusal (term-told w (value (stateIn l .vars) (Var v)) (meets .contract ∙ rw (value-as i (look-sees lim (programOf s r c) (tablesIn l) (let-ok lim s l i) v (ltb-true v (programOf s r c .goalVars) e)))) .0))
             (λ e. a-refusal (no-variable-seen i (ltb-false v (programOf s r c .goalVars) e)))
+
+-- ---- values
+
+values-numbered : {lim : Limits} {s : List ℕ} {l : Lent} {row : List ℕ} {n o : ℕ} → ValuesRefused lim s l row n o → (1 ≤ n) × (n ≤ 14)
+values-numbered (values-away a) = let b = away-numbered a in (b .0, omega (arith, b .1))
+values-numbered (row-short i h) = (omega arith, omega arith)
+
+module _ (n : ℕ) (vs : List Binding) (row : List ℕ) where
+  pub gathered-short : length row < n * cellSize → gathered n vs row ≡ record { answer = Ungathered (refusal 11 0); row = row }
+  unfolding gathered
+  gathered-short h = rw (lt-leb (n * cellSize) (length row) h)
+
+  pub gathered-all : n * cellSize ≤ length row → gathered n vs row ≡ record { answer = Values n; row = written (valuesBytes vs n) row }
+  unfolding gathered
+  gathered-all h = rw (le-leb (n * cellSize) (length row) h)
+
+module _ (lim : Limits) (s : List ℕ) (l : Lent) (row : List ℕ) where
+  pub values-refused : {n o : ℕ} → ValuesRefused lim s l row n o → valuesCall lim s l row ≡ record { answer = Ungathered (refusal n o); row = row }
+  values-refused (values-away a) = values-turned lim s l a row
+  values-refused (row-short i h) = values-let lim s l i row ∙ gathered-short _ (stateIn l .vars) row h
+
+  module _ (w : ℕ) (row′ : List ℕ) (meets : ValuesMeets lim s l row w row′) where
+    values-word : (n o : ℕ) → ValuesRefused lim s l row n o → w ≡ word (refusedAs (refusal n o))
+    values-word n o y = let e = values-refused {n = n} {o = o} y in meets .contract .answer ∙ rw e
+
+    values-kept : (n o : ℕ) → ValuesRefused lim s l row n o → row′ ≡ row
+    values-kept n o y = let e = values-refused {n = n} {o = o} y in meets .contract .row-is ∙ rw e
+
+    pub demand-1-values : Refusing (ValuesRefused lim s l row) row w row′
+    demand-1-values = refusing w (λ n o y. values-numbered y) values-word (go (door lim s l)) values-kept
+      where
+        go : Door lim s l → Answered (ValuesRefused lim s l row) w
+        go (away a) = a-refusal (values-away a)
+        go (inside {r} {c} i) =
+            let n : ℕ = programOf s r c .goalVars in split (leb (n * cellSize) (length row))
+            (λ e. no-refusal (values-told w n (meets .contract .answer ∙ rw (values-let lim s l i row ∙ gathered-all n (stateIn l .vars) row (leb-true (n * cellSize) (length row) e))) .0))
+            (λ e. a-refusal (row-short i (leb-false (n * cellSize) (length row) e)))

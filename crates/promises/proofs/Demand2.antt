@@ -6,34 +6,40 @@ use mathlib.Core.List.{List}
 use Prim.Native.Nat.{_*_, _<_, _≤_, ℕ}
 use lib.ListN.{getD, length}
 use native.Mathlib.Omega.{arith}
-use Rattle.load.proofs.Sanity.{accepted-sane}
 use Rattle.entry.proofs.Held.{count-procs, same-lent, started-good, started-read, tables-state}
+use Rattle.load.proofs.Sanity.{accepted-sane}
 use Rattle.parlog.proofs.Exact.{at-most-one}
 use Rattle.parlog.proofs.Kept.{step-keeps, supply-keeps}
-use Rattle.parlog.proofs.Rows.{rows-length, written-past}
+use Rattle.parlog.proofs.Rows.{rows-length, written-length, written-past}
 use Rattle.parlog.specs.Limits.{Limits, Usable}
 use Rattle.parlog.specs.Load.{loadOf, refusal}
+use Rattle.parlog.specs.Numbers.{termNumbers}
 use Rattle.parlog.specs.Program.{Program, programOf}
 use Rattle.parlog.specs.Relation.{Fits, Rule}
 use Rattle.parlog.specs.Run.{made, Stepping, stepTables, supplied, Supplying, supplyTables, unmade}
 use Rattle.parlog.specs.Sane.{Sane}
 use Rattle.parlog.specs.TableRules.{stateOk, tablesOk}
-use Rattle.parlog.specs.Tables.{bindingBytes, cellSize, freshTables, Lent, procCount, processBytes, putTables, rowsBytes, rowSize, startedLent, State, Tables, tablesIn}
+use Rattle.parlog.specs.Tables.{bindingBytes, cellSize, freshTables, Lent, numberCode, procCount, processBytes, putTables, rowsBytes, rowSize, sortCode, startedLent, State, Tables, tablesIn, written}
+use Rattle.parlog.specs.declared.Binding.the-variants.{Bound}
 use Rattle.parlog.specs.declared.Loaded.the-variants.{Accepted}
 use Rattle.parlog.specs.declared.Move.{Move}
-use Rattle.refusals.proofs.Exactly.{accepted-right}
-use Rattle.promises.proofs.Demand1.{demand-1-start, is-begun, is-refused, Start, start-begun, starting-so, step-as, supply-as, turn-meets-step, turn-there, value-as}
-use Rattle.promises.proofs.Entry.{let-by, let-image, let-ok, put-holds}
+use Rattle.parlog.specs.declared.Term.{Term}
+use Rattle.parlog.specs.declared.Term.the-variants.{Const, Var}
+use Rattle.promises.proofs.Demand1.{demand-1-start, gathered-all, is-begun, is-refused, Start, start-begun, starting-so, step-as, supply-as, turn-meets-step, turn-there, value-as}
+use Rattle.promises.proofs.Entry.{let-by, let-image, let-ok, put-holds, values-let}
 use Rattle.promises.proofs.Fours.{Fours, fours-in, fours-step, fours-supply}
 use Rattle.promises.proofs.Giving.{is-constant, is-taken, look-is, look-sees, look-value, not-there, Offer, offer, too-large}
 use Rattle.promises.proofs.Loaded.{accepted-few}
 use Rattle.promises.proofs.Whose.{goes, is-full, is-still, too-high, Trial, trial}
-use Rattle.promises.proofs.Words.{moved-told, refused-told, term-told}
-use Rattle.promises.specs.Moves.{afterStep, Holds, MovesExactly, Sees, Shows, Supplies}
-use Rattle.promises.specs.Outcomes.{refusalIn, StartMeets, StepMeets, SupplyMeets, TurnMeets, ValueMeets}
+use Rattle.promises.proofs.Words.{moved-told, refused-told, term-told, values-told}
+use Rattle.promises.specs.Moves.{afterStep, Holds, MovesExactly, Sees, SeesAll, SeesIn, Shows, Supplies}
+use Rattle.promises.specs.Outcomes.{refusalIn, StartMeets, StepMeets, SupplyMeets, TurnMeets, ValueMeets, ValuesMeets}
 use Rattle.promises.specs.Reach.{Begins}
 use Rattle.promises.specs.Refusals.{CanMove, LacksRoom, LetIn, stateIn, Turn}
+use Rattle.refusals.proofs.Exactly.{accepted-right}
 use Rattle.rows.proofs.Laws.{row-length}
+use Rattle.values.proofs.Laws.{values-length, values-number, values-sort}
+use Rattle.values.specs.Values.{valuesBytes}
 use Rattle.vars.proofs.Laws.{cell-length}
 
 module _ (lim : Limits) (s : List ℕ) (l : Lent) {r c : ℕ} (i : LetIn lim s l r c) where
@@ -144,6 +150,43 @@ module _ (lim : Limits) (s : List ℕ) (l : Lent) {r c : ℕ} (i : LetIn lim s l
         let q = value-as lim s l v i (look-sees lim pr (tablesIn l) (let-ok lim s l i) v h) in
         let b = term-told w (a .to) (meets .contract ∙ rw (q, look-is lim pr (tablesIn l) (let-ok lim s l i) v)) in
         record { accepted = b .0; value = a .to; leads = a .leads; ends = a .ends; sort = b .1; number = b .2 }
+
+  module _ (row : List ℕ) (w : ℕ) (row′ : List ℕ) (meets : ValuesMeets lim s l row w row′) where
+    sees-in : (v : ℕ) → v < pr .goalVars → SeesIn l v (written (valuesBytes (stateIn l .vars) (pr .goalVars)) row)
+    sees-in v h =
+        let a = look-value lim pr (tablesIn l) (let-ok lim s l i) v in
+        let e = look-is lim pr (tablesIn l) (let-ok lim s l i) v in
+        record {
+          value = a .to;
+          leads = a .leads;
+          ends = a .ends;
+          sort = values-sort (stateIn l .vars) (pr .goalVars) row v h ∙ rw (← e) (sort-told (a .to));
+          number = values-number (stateIn l .vars) (pr .goalVars) row v h ∙ rw (← e) (number-told (a .to));
+        }
+      where
+        sort-told : (t : Term) → sortCode (Bound t) ≡ termNumbers t .a
+        sort-told (Const c) = refl
+        sort-told (Var u) = refl
+
+        number-told : (t : Term) → numberCode (Bound t) ≡ termNumbers t .c
+        number-told (Const c) = refl
+        number-told (Var u) = refl
+
+    -- a look at all values into a row that is long enough tells the value of each
+    pub demand-2-values : programOf s r c .goalVars * cellSize ≤ length row → SeesAll (programOf s r c .goalVars) l row w row′
+    demand-2-values h =
+        let n : ℕ = pr .goalVars in
+        let q = values-let lim s l i row ∙ gathered-all n (stateIn l .vars) row h in
+        let b = values-told w n (meets .contract .answer ∙ rw q) in
+        let e : row′ ≡ written (valuesBytes (stateIn l .vars) n) row = meets .contract .row-is ∙ rw q in
+        let z = values-length (stateIn l .vars) n in
+        record {
+          accepted = b .0;
+          count = b .1;
+          size = rw e (written-length (valuesBytes (stateIn l .vars) n) row (omega arith));
+          each = λ v u. rw e (sees-in v u);
+          behind = λ j u. rw e (written-past (valuesBytes (stateIn l .vars) n) row j (omega arith));
+        }
 
 -- ---- a start
 

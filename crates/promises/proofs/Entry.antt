@@ -25,6 +25,8 @@ use Rattle.promises.specs.Refusals.{BadImage, for-image, for-tables, Let
 use Rattle.refusals.proofs.Exactly.{accepted-right, refused-exactly, refused-number}
 use Rattle.refusals.proofs.RuledExactly.{lent-exactly, ruled-exactly, sizes-exactly}
 use Rattle.refusals.proofs.Tests.{refuted, refutes}
+use Rattle.values.specs.Values.{gathered, valuesCall}
+use Rattle.values.specs.declared.Gathered.the-variants.{Ungathered}
 
 -- ---- the tests and the facts
 
@@ -117,6 +119,10 @@ module _ (lim : Limits) (s : List ℕ) (l : Lent) where
     unfolding valueCall
     value-turned v = rw (enter-away lim s l a)
 
+    pub values-turned : (row : List ℕ) → valuesCall lim s l row ≡ record { answer = Ungathered (refusal n o); row = row }
+    unfolding valuesCall
+    values-turned row = rw (enter-away lim s l a)
+
   module _ {r c : ℕ} (i : LetIn lim s l r c) where
     pub step-let : (p : ℕ) → stepCall lim s l p ≡ stepAnswer (stepTables lim (programOf s r c) (tablesIn l) p) l
     unfolding stepCall
@@ -137,6 +143,10 @@ module _ (lim : Limits) (s : List ℕ) (l : Lent) where
     pub value-let : (v : ℕ) → valueCall lim s l v ≡ valueAnswer (valueTables (programOf s r c) (tablesIn l) v)
     unfolding valueCall
     value-let v = rw (enter-let lim s l i)
+
+    pub values-let : (row : List ℕ) → valuesCall lim s l row ≡ gathered (programOf s r c .goalVars) (tablesIn l .state .vars) row
+    unfolding valuesCall
+    values-let row = rw (enter-let lim s l i)
 
     -- ---- what was let in has good tables, and so has what is written over it
 

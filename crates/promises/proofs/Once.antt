@@ -9,7 +9,7 @@ use Rattle.parlog.specs.declared.Found.{Found}
 use Rattle.parlog.specs.declared.Marker.{Marker}
 use Rattle.parlog.specs.declared.Process.{Process}
 use Rattle.parlog.specs.declared.Stepped.{Stepped}
-use Rattle.promises.specs.Outcomes.{LoadMeets, MarkerMeets, RecordsMeet, RunMeets, StartMeets, StepMeets, SupplyMeets, TurnMeets, ValueMeets, WatchMeets}
+use Rattle.promises.specs.Outcomes.{LoadMeets, MarkerMeets, RecordsMeet, RunMeets, StartMeets, StepMeets, SupplyMeets, TurnMeets, ValueMeets, ValuesMeets, WatchMeets}
 use Rattle.turn_forms.specs.Turned.{turnedFrom}
 use Rattle.turn_forms.specs.declared.Turned.{Turned}
 
@@ -36,6 +36,10 @@ module _ (lim : Limits) (s : List ℕ) (l : Lent) {w w′ : ℕ} {l′ l″ : Le
 module _ (lim : Limits) (s : List ℕ) (l : Lent) (v : ℕ) where
   pub once-value : {w w′ : ℕ} → ValueMeets lim s l v w → ValueMeets lim s l v w′ → w ≡ w′
   once-value a b = a .contract ∙ sym (b .contract)
+
+module _ (lim : Limits) (s : List ℕ) (l : Lent) (row : List ℕ) where
+  pub once-values : {w w′ : ℕ} {a b : List ℕ} → ValuesMeets lim s l row w a → ValuesMeets lim s l row w′ b → (w ≡ w′) × (a ≡ b)
+  once-values x y = (x .contract .answer ∙ sym (y .contract .answer), x .contract .row-is ∙ sym (y .contract .row-is))
 
 module _ (rows : List ℕ) where
   pub once-watch : {w w′ : ℕ} → WatchMeets rows w → WatchMeets rows w′ → w ≡ w′

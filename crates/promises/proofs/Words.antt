@@ -17,6 +17,8 @@ use Rattle.parlog.specs.declared.Term.{Term}
 use Rattle.parlog.specs.declared.Term.the-variants.{Const, Var}
 use Rattle.promises.specs.Moves.{MoveTold}
 use Rattle.promises.specs.Outcomes.{firstIn, largeIn, refusalIn, secondIn}
+use Rattle.values.specs.Values.{valuesNumbers}
+use Rattle.values.specs.declared.Gathered.the-variants.{Values}
 
 -- ---- the parts of a word
 
@@ -159,6 +161,11 @@ module _ (w : ℕ) where
 
   pub given-told : (v : ℕ) → w ≡ word (supplyNumbers (Given v)) → refusalIn w ≡ 0
   given-told v q = rw q (refusal-of (supplyNumbers (Given v)) (omega arith) (omega arith) (omega arith))
+
+  pub values-told : (k : ℕ) → w ≡ word (valuesNumbers (Values k)) → (refusalIn w ≡ 0) × (largeIn w ≡ k)
+  values-told k q =
+      let n : Numbers = valuesNumbers (Values k) in
+      rw q (refusal-of n (omega arith) (omega arith) (omega arith), large-of n (omega arith) (omega arith) (omega arith))
 
   pub term-told : (t : Term) → w ≡ word (termNumbers t) → (refusalIn w ≡ 0) × (firstIn w ≡ termNumbers t .a) × (largeIn w ≡ termNumbers t .c)
   term-told (Const c) q =

@@ -2,8 +2,8 @@
 use mathlib.Core.Path.{_≡_}
 use mathlib.Core.Logic.{_↔_, _≢_, _⊎_}
 use mathlib.Core.List.{List}
-use Prim.Native.Nat.{_/_, _<_, _≤_, suc, ℕ}
-use lib.ListN.{length}
+use Prim.Native.Nat.{_*_, _/_, _<_, _≤_, suc, ℕ}
+use lib.ListN.{getD, length}
 use Rattle.parlog.specs.Codes.{dormant, failure, modeCode, resultCode, success, suspended}
 use Rattle.parlog.specs.Demands.{Ended-at}
 use Rattle.parlog.specs.Limits.{Limits}
@@ -12,7 +12,7 @@ use Rattle.parlog.specs.Numbers.{endNumber, ruleNumber, termNumbers, touched}
 use Rattle.parlog.specs.Program.{Program}
 use Rattle.parlog.specs.Relation.{Fits, Rule}
 use Rattle.parlog.specs.Run.{counted, supplied}
-use Rattle.parlog.specs.Tables.{bindingOf, Lent, processAt, putTables, rowSize, State, Tables, tablesIn}
+use Rattle.parlog.specs.Tables.{bindingOf, cellSize, Lent, numberAt, processAt, putTables, rowSize, sortAt, State, Tables, tablesIn}
 use Rattle.parlog.specs.declared.Binding.the-variants.{Free}
 use Rattle.parlog.specs.declared.End.{End}
 use Rattle.parlog.specs.declared.End.the-variants.{Budget, Failure, Room, Success, Waiting}
@@ -114,6 +114,22 @@ pub record Sees (l : Lent) (v w : ℕ) : Type 0 where
   pub ends : Ended-at (stateIn l .vars) value
   pub sort : firstIn w ≡ termNumbers value .a
   pub number : largeIn w ≡ termNumbers value .c
+
+-- Values 1: what row v says is the value of v
+pub record SeesIn (l : Lent) (v : ℕ) (row : List ℕ) : Type 0 where
+  pub value : Term
+  pub leads : Leads (stateIn l .vars) (Var v) value
+  pub ends : Ended-at (stateIn l .vars) value
+  pub sort : sortAt row v ≡ termNumbers value .a
+  pub number : numberAt row v ≡ termNumbers value .c
+
+-- Values 1, 2, 4: a look at all goal variables, of which there are n: how many they are, the value of each, and every byte behind as it was
+pub record SeesAll (n : ℕ) (l : Lent) (row : List ℕ) (w : ℕ) (row′ : List ℕ) : Type 0 where
+  pub accepted : refusalIn w ≡ 0
+  pub count : largeIn w ≡ n
+  pub size : length row′ ≡ length row
+  pub each : (v : ℕ) → v < n → SeesIn l v row′
+  pub behind : (j : ℕ) → n * cellSize ≤ j → getD row′ j 0 ≡ getD row j 0
 
 -- ---- a watch
 

@@ -2,12 +2,13 @@
 use mathlib.Core.Path.{_≡_}
 use mathlib.Core.Logic.{_≢_}
 use mathlib.Core.List.{List}
-use Prim.Native.Nat.{_<_, _≤_, ℕ}
+use Prim.Native.Nat.{_*_, _<_, _≤_, ℕ}
+use lib.ListN.{length}
 use Rattle.parlog.specs.Limits.{Limits}
 use Rattle.parlog.specs.Notions.{Leads}
 use Rattle.parlog.specs.Program.{Program, programOf}
 use Rattle.parlog.specs.Relation.{Fits, Rule}
-use Rattle.parlog.specs.Tables.{Lent, procCount, State, Tables, tablesIn}
+use Rattle.parlog.specs.Tables.{cellSize, Lent, procCount, State, Tables, tablesIn}
 use Rattle.parlog.specs.declared.Move.{Move}
 use Rattle.parlog.specs.declared.Term.the-variants.{Const, Var}
 use Rattle.promises.specs.Outcomes.{largeIn, refusalIn}
@@ -92,6 +93,11 @@ pub data ValueRefused (lim : Limits) (s : List ℕ) (l : Lent) (v : ℕ) : ℕ �
   value-away : {n o : ℕ} → TurnedAway lim s l n o → ValueRefused lim s l v n o
   no-variable-seen : {r c : ℕ} → LetIn lim s l r c → programOf s r c .goalVars ≤ v → ValueRefused lim s l v 12 0
 
+-- Values 3: a look at all goal variables, into a row
+pub data ValuesRefused (lim : Limits) (s : List ℕ) (l : Lent) (row : List ℕ) : ℕ → ℕ → Type 0 where
+  values-away : {n o : ℕ} → TurnedAway lim s l n o → ValuesRefused lim s l row n o
+  row-short : {r c : ℕ} → LetIn lim s l r c → length row < programOf s r c .goalVars * cellSize → ValuesRefused lim s l row 11 0
+
 -- ---- demand 1 of a word
 
 -- it is a refusal exactly where there is a reason, and then has the number and the offset of that
@@ -100,7 +106,7 @@ pub record RefusesBy (Why : ℕ → ℕ → Type 0) (w : ℕ) : Type 0 where
   pub given : {n o : ℕ} → Why n o → (refusalIn w ≡ n) × (largeIn w ≡ o)
   pub only : refusalIn w ≢ 0 → Why (refusalIn w) (largeIn w)
 
--- and a refusal leaves every lent byte as it was
-pub record Refusing (Why : ℕ → ℕ → Type 0) (l : Lent) (w : ℕ) (l′ : Lent) : Type 0 where
+-- and a refusal leaves every lent byte as it was, in the tables or in the row that a call writes
+pub record Refusing {A : Type 0} (Why : ℕ → ℕ → Type 0) (l : A) (w : ℕ) (l′ : A) : Type 0 where
   pub by : RefusesBy Why w
   pub kept : refusalIn w ≢ 0 → l′ ≡ l

@@ -78,7 +78,8 @@ fn get_binding(vars: &[u8], v: usize) -> Binding
     binding_by(sort, number)
 }
 
-fn put_bound(vars: &mut [u8], v: usize, t: Term)
+// Row v becomes that of a variable bound to t.
+pub fn put_bound(vars: &mut [u8], v: usize, t: Term)
     requires { ⌜ (v * cellSize + cellSize ≤ length (now vars)) × (numberCode (Bound t) < 16777216) ⌝ }
     ensures { λ _. ⌜ now (vars .exit) ≡ putCell (now (vars .entry)) v (bindingBytes (Bound t)) ⌝ }
 {

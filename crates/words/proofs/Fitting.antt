@@ -2,8 +2,8 @@
 use mathlib.Core.Path.{_≡_, refl}
 use mathlib.Core.Bool.{_&&_, Bool, cond, false, true}
 use mathlib.Core.List.{List}
-use Prim.Native.Nat.{_+_, _<_, _≤_, suc, zero, ℕ}
-use lib.Dec.{eqb, ltb}
+use Prim.Native.Nat.{_*_, _+_, _<_, _≤_, suc, zero, ℕ}
+use lib.Dec.{eqb, leb, ltb}
 use lib.ListN.{length}
 use borrow.Author.Tests.{lt-ltb, ltb-false, ltb-true}
 use native.Mathlib.Omega.{arith}
@@ -21,7 +21,8 @@ use Rattle.parlog.specs.Rules.{Applied, by-rule, fits, move, moved, no-rule, ro
 use Rattle.parlog.specs.Run.{given, goalEnded, halt, Looking, made, procsIn, runFrom, Running, runStep, runTables, runTest, runTurn, seen, stepBy, Stepping, stepTables, Supplying, supplyTables, turnFor, turnTables, turnTo, ungiven, unmade, unseen, valueTables, watchOf}
 use Rattle.parlog.specs.Scan.{every}
 use Rattle.parlog.specs.TableRules.{cellKnown, fullSize, lentOk, stateOk, tablesOk}
-use Rattle.parlog.specs.Tables.{at, Lent, Tables, tablesIn, varCount}
+use Rattle.parlog.specs.Tables.{at, cellSize, Lent, Tables, tablesIn, varCount}
+use Rattle.parlog.specs.declared.Binding.{Binding}
 use Rattle.parlog.specs.declared.End.the-variants.{Budget}
 use Rattle.parlog.specs.declared.Found.{Found}
 use Rattle.parlog.specs.declared.Found.the-variants.{At, Nothing}
@@ -32,8 +33,9 @@ use Rattle.parlog.specs.declared.Process.{Process}
 use Rattle.parlog.specs.declared.Progress.{Progress}
 use Rattle.parlog.specs.declared.Verdict.{Verdict}
 use Rattle.parlog.specs.declared.Verdict.the-variants.{Goes, Refuses}
+use Rattle.values.specs.Values.{gatherBy, gathered, valuesCall, valuesEntry}
 use Rattle.words.proofs.Moves.{rule-within, RuleWithin}
-use Rattle.words.specs.Fits.{MoveWithin, reached, RefusalFits, RunFits, StartFits, StepFits, SupplyFits, ValueFits}
+use Rattle.words.specs.Fits.{MoveWithin, reached, RefusalFits, RunFits, StartFits, StepFits, SupplyFits, ValueFits, ValuesFits}
 
 -- ---- a load
 
@@ -87,19 +89,19 @@ start-fits lim s l = by (loadOf s) (load-fits s)
 
 -- ---- what a call knows that was let in
 
--- refused at an offset that fits, or with no more processes than there may be
+-- refused at an offset that fits, or with no more processes and goal variables than there may be
 abbrev EntryWithin : Limits → Entry → Type 0
 EntryWithin lim (turned-away r) = RefusalFits r
-EntryWithin lim (entered pr t) = procsIn t ≤ lim .procs
+EntryWithin lim (entered pr t) = (procsIn t ≤ lim .procs) × (pr .goalVars ≤ lim .vars)
 
-good-within : (lim : Limits) (pr : Program) (l : Lent) → lentOk lim pr l ≡ true → procsIn (tablesIn l) ≤ lim .procs
+good-within : (lim : Limits) (pr : Program) (l : Lent) → lentOk lim pr l ≡ true → (procsIn (tablesIn l) ≤ lim .procs) × (pr .goalVars ≤ lim .vars)
 unfolding lentOk tablesOk
 good-within lim pr l e =
     let a = and-true (fullSize lim l) (every (cellKnown (l .vars)) (varCount (l .head)) && tablesOk lim pr (tablesIn l)) e in
     let b = and-true (every (cellKnown (l .vars)) (varCount (l .head))) (tablesOk lim pr (tablesIn l)) (a .1) in
     let t = and-true (stateOk lim pr (tablesIn l .state)) (ltb (tablesIn l .last) (length (tablesIn l .state .procs))) (b .1) in
     let k = assume-counts lim pr (tablesIn l .state) (t .0) in
-    k .1
+    (k .1, omega (arith, k .2, k .3))
 
 pub enter-within : (lim : Limits) (s : List ℕ) (l : Lent) → EntryWithin lim (enter lim s l)
 unfolding enter
@@ -155,7 +157,7 @@ step-fits lim ok s l p = by (enter lim s l) (enter-within lim s l)
   where
     by : (e : Entry) → EntryWithin lim e → StepFits (stepEntry e lim l p .answer)
     by (turned-away r) h = h
-    by (entered pr t) h = answer-fits (stepTables lim pr t p) l (step-within lim ok pr t h p)
+    by (entered pr t) h = answer-fits (stepTables lim pr t p) l (step-within lim ok pr t (h .0) p)
 
 pub turn-fits : (lim : Limits) → Usable lim → (s : List ℕ) (l : Lent) → StepFits (turnCall lim s l .answer)
 unfolding turnCall
@@ -163,7 +165,7 @@ turn-fits lim ok s l = by (enter lim s l) (enter-within lim s l)
   where
     by : (e : Entry) → EntryWithin lim e → StepFits (turnEntry e lim l .answer)
     by (turned-away r) h = h
-    by (entered pr t) h = answer-fits (turnTables lim pr t) l (turn-within lim ok pr t h)
+    by (entered pr t) h = answer-fits (turnTables lim pr t) l (turn-within lim ok pr t (h .0))
 
 -- ---- a run
 
@@ -229,6 +231,18 @@ value-fits lim s l v = by (enter lim s l) (enter-within lim s l)
     by : (e : Entry) → EntryWithin lim e → ValueFits (valueEntry e v)
     by (turned-away r) h = h
     by (entered pr t) h = told (valueTables pr t v)
+
+pub values-fits : (lim : Limits) → Usable lim → (s : List ℕ) (l : Lent) (row : List ℕ) → ValuesFits (valuesCall lim s l row .answer)
+unfolding valuesCall gathered
+values-fits lim ok s l row = by (enter lim s l) (enter-within lim s l)
+  where
+    told : (b : Bool) (n : ℕ) (vs : List Binding) → n ≤ lim .vars → ValuesFits (gatherBy b n vs row .answer)
+    told false n vs h = omega arith
+    told true n vs h = omega (arith, h, ok .vars-counted)
+
+    by : (e : Entry) → EntryWithin lim e → ValuesFits (valuesEntry e row .answer)
+    by (turned-away r) h = h
+    by (entered pr t) h = told (leb (pr .goalVars * cellSize) (length row)) (pr .goalVars) (t .state .vars) (h .1)
 
 -- ---- a watch
 

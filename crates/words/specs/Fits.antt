@@ -18,6 +18,8 @@ use Rattle.parlog.specs.declared.Supplied.{Supplied}
 use Rattle.parlog.specs.declared.Supplied.the-variants.{Given, Ungiven}
 use Rattle.parlog.specs.declared.Valued.{Valued}
 use Rattle.parlog.specs.declared.Valued.the-variants.{Unvalued, Value}
+use Rattle.values.specs.declared.Gathered.{Gathered}
+use Rattle.values.specs.declared.Gathered.the-variants.{Ungathered, Values}
 
 -- the offset of a refusal
 abbrev pub RefusalFits : Refusal → Type 0
@@ -56,6 +58,11 @@ SupplyFits (Ungiven r) = RefusalFits r
 abbrev pub ValueFits : Valued → Type 0
 ValueFits (Value t) = Unit {0}
 ValueFits (Unvalued r) = RefusalFits r
+
+-- of a look at all goal variables
+abbrev pub ValuesFits : Gathered → Type 0
+ValuesFits (Values n) = n ≤ 4294967295
+ValuesFits (Ungathered r) = RefusalFits r
 
 -- of a watch: a row whose number has more than 32 bits cannot be told
 abbrev pub reached : Found → Found

@@ -10,11 +10,13 @@ use parlog::Supplied;
 use parlog::Term;
 use parlog::Valued;
 use parlog::codes;
+use values::Gathered;
 ghost use mathlib.Core.Path.{_≡_};
 ghost use Prim.Native.Nat.{_≤_};
 ghost use Rattle.parlog.specs.Numbers.{endNumber, refusedAs, runNumbers, startNumbers, stepNumbers, supplyNumbers, termNumbers, valueNumbers, variable, watchNumbers, word};
 ghost use Rattle.parlog.specs.declared.Stepped.the-variants.{Moved};
-ghost use Rattle.words.specs.Fits.{MoveWithin, RefusalFits, RunFits, StartFits, StepFits, SupplyFits, ToldSays, ValueFits, reached};
+ghost use Rattle.words.specs.Fits.{MoveWithin, RefusalFits, RunFits, StartFits, StepFits, SupplyFits, ToldSays, ValueFits, ValuesFits, reached};
+ghost use Rattle.values.specs.Values.{valuesNumbers};
 
 // The refusal of a call that is accepted.
 const ACCEPTED: usize = 0;
@@ -198,6 +200,17 @@ pub fn value_word(a: Valued) -> u64
     match a {
         Valued::Value(t) => term_word(t),
         Valued::Unvalued(r) => refused(r),
+    }
+}
+
+// Of a look at all goal variables: how many they are.
+pub fn values_word(a: Gathered) -> u64
+    requires { ⌜ ValuesFits a ⌝ }
+    ensures { λ w. ⌜ w ≡ word (valuesNumbers a) ⌝ }
+{
+    match a {
+        Gathered::Values(n) => word(ACCEPTED, 0, 0, n),
+        Gathered::Ungathered(r) => refused(r),
     }
 }
 
