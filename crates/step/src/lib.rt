@@ -105,7 +105,7 @@ pub fn stepped(
 }
 
 // What process p is told of its children; only one that waits asks.
-fn ask(procs: &[u8], n: usize, p: usize) -> Told
+pub fn ask(procs: &[u8], n: usize, p: usize) -> Told
     requires { ⌜ (n * rowSize ≤ length (now procs)) × (n ≤ 65535) ⌝ }
     ensures { λ t. ⌜ (at (procsOf (now (procs .entry)) n) p .mode ≡ 3 → Tells (procsOf (now (procs .entry)) n) p t) ⌝ }
 {

@@ -13,7 +13,7 @@ use parlog::codes;
 use values::Gathered;
 ghost use mathlib.Core.Path.{_≡_};
 ghost use Prim.Native.Nat.{_≤_};
-ghost use Rattle.parlog.specs.Numbers.{endNumber, refusedAs, runNumbers, startNumbers, stepNumbers, supplyNumbers, termNumbers, valueNumbers, variable, watchNumbers, word};
+ghost use Rattle.parlog.specs.Numbers.{endNumber, refusedAs, ruleNumber, runNumbers, startNumbers, stepNumbers, supplyNumbers, termNumbers, valueNumbers, variable, watchNumbers, word};
 ghost use Rattle.parlog.specs.declared.Stepped.the-variants.{Moved};
 ghost use Rattle.words.specs.Fits.{MoveWithin, RefusalFits, RunFits, StartFits, StepFits, SupplyFits, ToldSays, ValueFits, ValuesFits, reached};
 ghost use Rattle.values.specs.Values.{valuesNumbers};
@@ -123,6 +123,15 @@ fn tell(m: Move) -> Told
         Move::EquateFailure(p) => Told(34, PROCESS, p),
         Move::EquateSuspend(t) => Told(35, VARIABLE, number_of(t)),
     }
+}
+
+// The number of the rule that a move is.
+pub fn rule_number(m: Move) -> usize
+    requires { ⌜ MoveWithin 4294967295 m ⌝ }
+    ensures { λ r. ⌜ (r ≡ ruleNumber m) × (r ≤ 255) ⌝ }
+{
+    let t = tell(m);
+    t.0 as usize
 }
 
 // A move as one word.
