@@ -5,7 +5,7 @@ use mathlib.Core.List.{List}
 use Prim.Native.Nat.{_*_, _+_, _-_, _<_, _≤_, suc, zero, ℕ}
 use lib.Dec.{eqb, leb, ltb}
 use lib.ListN.{length, set}
-use borrow.Author.Tests.{eq-eqb, le-ltb, ne-eqb}
+use borrow.Author.Tests.{eq-eqb, le-ltb, lt-ltb, ne-eqb}
 use native.Mathlib.Omega.{arith}
 use Rattle.entry.proofs.Entering.{lent-inside}
 use Rattle.entry.proofs.Held.{count-procs, put-good, put-read, same-lent}
@@ -19,12 +19,11 @@ use Rattle.parlog.proofs.Kept.{supply-keeps}
 use Rattle.parlog.specs.Calls.{enter}
 use Rattle.parlog.specs.Limits.{Limits, Usable}
 use Rattle.parlog.specs.Load.{refusal}
-use Rattle.parlog.specs.Numbers.{ruleNumber}
+use Rattle.parlog.specs.Numbers.{ruleNumber, word}
 use Rattle.parlog.specs.Program.{Program, programOf}
 use Rattle.parlog.specs.Records.{kindAt}
 use Rattle.parlog.specs.Run.{given, made, procsIn, stepTables, supplied, Supplying, supplyTables, supplyValue, ungiven}
 use Rattle.parlog.specs.Scan.{every}
-use Rattle.parlog.specs.Stories.{told}
 use Rattle.parlog.specs.TableRules.{cellKnown, fullSize, lentOk, tablesOk}
 use Rattle.parlog.specs.Tables.{at, Lent, lent, procCount, putTables, Tables, tablesIn, varCount, varsIn}
 use Rattle.parlog.specs.Unify.{value}
@@ -38,7 +37,7 @@ use Rattle.parlog.specs.declared.Supplied.{Supplied}
 use Rattle.parlog.specs.declared.Supplied.the-variants.{Given, Ungiven}
 use Rattle.parlog.specs.declared.Term.{Term}
 use Rattle.parlog.specs.declared.Term.the-variants.{Const, Var}
-use Rattle.replay.specs.Replay.{agreedBy, disagrees, faultOf, isPlayed, PlayedSays, playFrom, PlayGoing, Playing, playOn, playRecord, plays, PlaysSay, playStep, playSupply, replayCall, ReplaySays, replayTested, replayTold, tablesPlayed}
+use Rattle.replay.specs.Replay.{agreedBy, disagrees, faultOf, isPlayed, mostTold, PlayedSays, playFrom, PlayGoing, Playing, playOn, playRecord, plays, PlaysSay, playStep, playSupply, replayCall, replayNumbers, ReplaySays, replayTested, replayTold, tablesPlayed}
 use Rattle.replay.specs.declared.Replayed.{Replayed}
 use Rattle.replay.specs.declared.Replayed.the-variants.{Replays, Unreplayed}
 use Rattle.rows.proofs.Tables.{procs-four}
@@ -282,4 +281,19 @@ module _ (lim : Limits) (s : List ℕ) (r c : ℕ) (l : Lent) (i : Inside lim s 
 pub replay-refused : (lim : Limits) (s : List ℕ) (l : Lent) (trace : List ℕ) {e : Loaded} → EnterSays lim s l e → {f x : Refusal} → e ≡ Refused f → x ≡ refusalOf e
     → ReplaySays lim s l trace (Unreplayed x) (l .head) (l .procs) (l .vars)
 unfolding replayCall
-replay-refused lim s l trace told q ex = record { answer = rw (told .entry, ex, q); head = rw (told .entry, q); procs = rw (told .entry, q); vars = rw (told .entry, q) }
+replay-refused lim s l trace says q ex = record { answer = rw (says .entry, ex, q); head = rw (says .entry, q); procs = rw (says .entry, q); vars = rw (says .entry, q) }
+
+-- ---- the word
+
+pub most-over : (n : ℕ) → 4294967295 < n → 4294967295 ≡ mostTold n
+most-over n h = rw (lt-ltb 4294967295 n h)
+
+pub most-all : (n : ℕ) → n ≤ 4294967295 → n ≡ mostTold n
+most-all n h = rw (le-ltb 4294967295 n h)
+
+module _ {a : Replayed} {m w : ℕ} where
+  pub word-played : {n : ℕ} → a ≡ Replays n → m ≡ mostTold n → w ≡ word (record { refused = 0; a = 0; b = 0; c = m }) → w ≡ word (replayNumbers a)
+  word-played q k h = rw (h, k, q)
+
+  pub word-refused : {r : Refusal} → a ≡ Unreplayed r → m ≡ mostTold (r .offset) → w ≡ word (record { refused = r .number; a = 0; b = 0; c = m }) → w ≡ word (replayNumbers a)
+  word-refused q k h = rw (h, k, q)

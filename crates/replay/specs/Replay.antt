@@ -3,12 +3,12 @@ use mathlib.Core.Path.{_≡_}
 use mathlib.Core.Bool.{Bool, cond, false, true}
 use mathlib.Core.List.{List}
 use Prim.Native.Nat.{_*_, _-_, _≤_, suc, zero, ℕ}
-use lib.Dec.{eqb}
+use lib.Dec.{eqb, ltb}
 use Rattle.entry.specs.Entered.{Inside}
 use Rattle.parlog.specs.Calls.{enter, entered, Entry, turned-away}
 use Rattle.parlog.specs.Limits.{Limits}
 use Rattle.parlog.specs.Load.{refusal}
-use Rattle.parlog.specs.Numbers.{ruleNumber}
+use Rattle.parlog.specs.Numbers.{Numbers, ruleNumber}
 use Rattle.parlog.specs.Program.{Program, programOf}
 use Rattle.parlog.specs.Records.{kindAt}
 use Rattle.parlog.specs.Run.{given, made, Stepping, stepTables, Supplying, supplyTables, ungiven, unmade}
@@ -92,6 +92,15 @@ replayEntry (entered pr t) lim s l = replayTested (traceTested s) lim pr s l
 -- Traces 6: the replay of the trace s on the image and these tables
 unfoldable pub replayCall : Limits → List ℕ → Lent → List ℕ → ReplayCall
 replayCall lim image l s = replayEntry (enter lim image l) lim s l
+
+-- Traces 8: a number that has more than 32 bits is told as the largest of these
+abbrev pub mostTold : ℕ → ℕ
+mostTold n = cond (ltb 4294967295 n) 4294967295 n
+
+-- Traces 6, 7, 8: the numbers of its answer: how many records were played, or the refusal and its place
+abbrev pub replayNumbers : Replayed → Numbers
+replayNumbers (Replays n) = record { refused = 0; a = 0; b = 0; c = mostTold n }
+replayNumbers (Unreplayed r) = record { refused = r .number; a = 0; b = 0; c = mostTold (r .offset) }
 
 -- ---- contracts
 

@@ -12,13 +12,16 @@ ghost use lib.Dec.{eqb};
 ghost use lib.ListN.{length};
 ghost use Rattle.entry.specs.Entered.{Inside};
 ghost use Rattle.parlog.specs.Limits.{small};
-ghost use Rattle.parlog.specs.Numbers.{ruleNumber};
+ghost use Rattle.parlog.specs.Numbers.{ruleNumber, word};
 ghost use Rattle.parlog.specs.Program.{programOf};
 ghost use Rattle.parlog.specs.Run.{stepTables, supplyTables};
 ghost use Rattle.parlog.specs.Tables.{lent, tablesIn};
-ghost use Rattle.replay.specs.Replay.{PlayedSays, PlaysSay, ReplaySays, agreedBy, faultOf, playRecord, playStep, playSupply, replayTold};
+ghost use Rattle.replay.specs.Replay.{PlayedSays, PlaysSay, ReplaySays, agreedBy, faultOf, mostTold, playRecord, playStep, playSupply, replayNumbers, replayTold};
 ghost use Rattle.trace.specs.Trace.{traceSize};
 ghost use Rattle.words.specs.Fits.{MoveWithin};
+
+// The highest number of 32 bits.
+const MOST_NUMBER: usize = 4294967295;
 
 // The answer of a replay: how many records were played.
 pub enum Replayed {
@@ -214,4 +217,26 @@ pub fn replay(
         return Replayed::Unreplayed(r);
     };
     replay_in(image, rels, clauses, head, procs, vars, trace)
+}
+
+// ---- the word
+
+// A number as far as a word can tell it.
+fn most(n: usize) -> usize
+    ensures { λ r. ⌜ (r ≡ mostTold n) × (r ≤ 4294967295) ⌝ }
+{
+    if MOST_NUMBER < n {
+        return MOST_NUMBER;
+    }
+    n
+}
+
+// Of a replay: how many records were played, or the refusal and its place.
+pub fn replay_word(a: Replayed) -> u64
+    ensures { λ w. ⌜ w ≡ word (replayNumbers a) ⌝ }
+{
+    match a {
+        Replayed::Replays(n) => words::word(0, 0, 0, most(n)),
+        Replayed::Unreplayed(r) => words::word(r.number as usize, 0, 0, most(r.offset)),
+    }
 }
