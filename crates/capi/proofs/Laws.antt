@@ -4,7 +4,7 @@ use mathlib.Core.List.{List}
 use Prim.Native.Nat.{_/_, _≤_, ℕ}
 use lib.ListN.{length}
 use native.Mathlib.Omega.{arith}
-use Rattle.capi.specs.Tells.{RunTells, StartTells, StepTells, SupplyTells, Tells, TurnTells, ValuesTells, ValueTells, WatchTells}
+use Rattle.capi.specs.Tells.{ReplayTells, RunTells, StartTells, StepTells, SupplyTells, Tells, TurnTells, ValuesTells, ValueTells, WatchTells}
 use Rattle.load.specs.Fields.{refusalOf}
 use Rattle.machine.specs.Starting.{StartSays}
 use Rattle.machine.specs.Supplying.{SupplySays}
@@ -23,6 +23,8 @@ use Rattle.parlog.specs.declared.Started.{Started}
 use Rattle.parlog.specs.declared.Stepped.{Stepped}
 use Rattle.parlog.specs.declared.Supplied.{Supplied}
 use Rattle.parlog.specs.declared.Valued.{Valued}
+use Rattle.replay.specs.Replay.{replayNumbers, ReplaySays}
+use Rattle.replay.specs.declared.Replayed.{Replayed}
 use Rattle.rows.proofs.Tables.{procs-length}
 use Rattle.run.specs.Running.{RunSays, TurnSays}
 use Rattle.step.specs.Stepping.{StepSays}
@@ -92,6 +94,9 @@ module _ (lim : Limits) (s : List ℕ) (l : Lent) (x : ℕ) {a : Valued} (told :
 
   pub value-tells : {w : ℕ} → w ≡ word (valueNumbers a) → ValueTells lim s l x w
   value-tells k = word-of told valueNumbers k
+
+pub replay-tells : (lim : Limits) (s : List ℕ) (l : Lent) (trace : List ℕ) {h p v : List ℕ} {a : Replayed} → ReplaySays lim s l trace a h p v → {w : ℕ} → w ≡ word (replayNumbers a) → ReplayTells lim s l trace w h p v
+replay-tells lim s l trace says k = tells-of (says .answer) replayNumbers (says .head) (says .procs) (says .vars) k
 
 module _ (lim : Limits) (s : List ℕ) (l : Lent) (row : List ℕ) {a : Gathered} {after : List ℕ} (told : ValuesSays lim s l row a after) where
   pub values-fit : Usable lim → ValuesFits a

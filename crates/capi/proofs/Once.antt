@@ -2,7 +2,7 @@
 use mathlib.Core.Path.{_∙_, _≡_, sym}
 use mathlib.Core.List.{List}
 use Prim.Native.Nat.{ℕ}
-use Rattle.capi.specs.Tells.{RunTells, StartTells, StepTells, SupplyTells, Tells, TurnTells, ValuesTells, ValueTells, WatchTells}
+use Rattle.capi.specs.Tells.{ReplayTells, RunTells, StartTells, StepTells, SupplyTells, Tells, TurnTells, ValuesTells, ValueTells, WatchTells}
 use Rattle.parlog.specs.Limits.{Limits}
 use Rattle.parlog.specs.Load.{loadOf}
 use Rattle.parlog.specs.Numbers.{loadNumbers, Numbers, word}
@@ -35,6 +35,9 @@ supply-once lim s l x c r q h p v h′ p′ v′ a b = tells-once _ _ r q h p v 
 
 pub value-once : (lim : Limits) (s : List ℕ) (l : Lent) (x : ℕ) (r q : ℕ) → ValueTells lim s l x r → ValueTells lim s l x q → r ≡ q
 value-once lim s l x r q a b = a ∙ sym b
+
+pub replay-once : (lim : Limits) (s : List ℕ) (l : Lent) (trace : List ℕ) (r q : ℕ) (h p v h′ p′ v′ : List ℕ) → ReplayTells lim s l trace r h p v → ReplayTells lim s l trace q h′ p′ v′ → Same r q h p v h′ p′ v′
+replay-once lim s l trace r q h p v h′ p′ v′ a b = tells-once _ _ r q h p v h′ p′ v′ a b
 
 pub values-once : (lim : Limits) (s : List ℕ) (l : Lent) (row : List ℕ) (r q : ℕ) (a b : List ℕ) → ValuesTells lim s l row r a → ValuesTells lim s l row q b → (r ≡ q) × (a ≡ b)
 values-once lim s l row r q a b x y = (x .answer ∙ sym (y .answer), x .row-is ∙ sym (y .row-is))

@@ -9,6 +9,7 @@ use Rattle.parlog.specs.Load.{loadOf}
 use Rattle.parlog.specs.Numbers.{loadNumbers, Numbers, runNumbers, startNumbers, stepNumbers, supplyNumbers, valueNumbers, watchNumbers, word}
 use Rattle.parlog.specs.Run.{watchOf}
 use Rattle.parlog.specs.Tables.{Lent, procsOf, rowSize}
+use Rattle.replay.specs.Replay.{replayCall, replayNumbers}
 use Rattle.values.specs.Values.{valuesCall, valuesNumbers}
 use Rattle.words.specs.Fits.{reached}
 
@@ -51,6 +52,10 @@ ValueTells lim s l x r = r ≡ word (valueNumbers (valueCall lim s l x))
 pub record ValuesTells (lim : Limits) (s : List ℕ) (l : Lent) (row : List ℕ) (r : ℕ) (after : List ℕ) : Type 0 where
   pub answer : r ≡ word (valuesNumbers (valuesCall lim s l row .answer))
   pub row-is : after ≡ valuesCall lim s l row .row
+
+-- Traces 6, 7: of a replay of a trace
+abbrev pub ReplayTells : Limits → List ℕ → Lent → List ℕ → ℕ → List ℕ → List ℕ → List ℕ → Type 0
+ReplayTells lim s l trace r h p v = Tells (replayNumbers (replayCall lim s l trace .answer)) (replayCall lim s l trace .lent) r h p v
 
 -- Turns 5: of a watch over bytes: any row of processes, as far as a word can tell its number
 abbrev pub WatchTells : List ℕ → ℕ → Type 0
