@@ -9,7 +9,7 @@ use Rattle.parlog.specs.declared.Found.{Found}
 use Rattle.parlog.specs.declared.Marker.{Marker}
 use Rattle.parlog.specs.declared.Process.{Process}
 use Rattle.parlog.specs.declared.Stepped.{Stepped}
-use Rattle.promises.specs.Outcomes.{LoadMeets, MarkerMeets, RecordsMeet, RunMeets, StartMeets, StepMeets, SupplyMeets, TurnMeets, ValueMeets, ValuesMeets, WatchMeets}
+use Rattle.promises.specs.Outcomes.{LoadMeets, MarkerMeets, RecordsMeet, ReplayMeets, RunMeets, StartMeets, StepMeets, SupplyMeets, TurnMeets, ValueMeets, ValuesMeets, WatchMeets}
 use Rattle.turn_forms.specs.Turned.{turnedFrom}
 use Rattle.turn_forms.specs.declared.Turned.{Turned}
 
@@ -32,6 +32,9 @@ module _ (lim : Limits) (s : List ℕ) (l : Lent) {w w′ : ℕ} {l′ l″ : Le
 
   pub once-supply : {v k : ℕ} → SupplyMeets lim s l v k w l′ → SupplyMeets lim s l v k w′ l″ → (w ≡ w′) × (l′ ≡ l″)
   once-supply a b = (a .contract .answer ∙ sym (b .contract .answer), same-lent l′ l″ (a .contract .head ∙ sym (b .contract .head)) (a .contract .procs ∙ sym (b .contract .procs)) (a .contract .vars ∙ sym (b .contract .vars)))
+
+  pub once-replay : {trace : List ℕ} → ReplayMeets lim s l trace w l′ → ReplayMeets lim s l trace w′ l″ → (w ≡ w′) × (l′ ≡ l″)
+  once-replay a b = (a .contract .answer ∙ sym (b .contract .answer), same-lent l′ l″ (a .contract .head ∙ sym (b .contract .head)) (a .contract .procs ∙ sym (b .contract .procs)) (a .contract .vars ∙ sym (b .contract .vars)))
 
 module _ (lim : Limits) (s : List ℕ) (l : Lent) (v : ℕ) where
   pub once-value : {w w′ : ℕ} → ValueMeets lim s l v w → ValueMeets lim s l v w′ → w ≡ w′

@@ -2,7 +2,7 @@
 use mathlib.Core.Path.{_≡_}
 use mathlib.Core.List.{List}
 use Prim.Native.Nat.{_%_, _/_, ℕ}
-use Rattle.capi.specs.Tells.{LoadTells, RunTells, StartTells, StepTells, SupplyTells, TurnTells, ValuesTells, ValueTells, WatchTells}
+use Rattle.capi.specs.Tells.{LoadTells, ReplayTells, RunTells, StartTells, StepTells, SupplyTells, TurnTells, ValuesTells, ValueTells, WatchTells}
 use Rattle.parlog.specs.Limits.{Limits}
 use Rattle.parlog.specs.Run.{watchOf}
 use Rattle.parlog.specs.Tables.{Lent}
@@ -63,6 +63,10 @@ pub record ValueMeets (lim : Limits) (s : List ℕ) (l : Lent) (v w : ℕ) : Typ
 -- of rissobarm_values, lent a row besides: it is lent the tables to read only, and row′ is the row afterwards
 pub record ValuesMeets (lim : Limits) (s : List ℕ) (l : Lent) (row : List ℕ) (w : ℕ) (row′ : List ℕ) : Type 0 where
   pub contract : ValuesTells lim s l row w row′
+
+-- of rissobarm_replay, lent a trace besides, to read only
+pub record ReplayMeets (lim : Limits) (s : List ℕ) (l : Lent) (trace : List ℕ) (w : ℕ) (l′ : Lent) : Type 0 where
+  pub contract : ReplayTells lim s l trace w (l′ .head) (l′ .procs) (l′ .vars)
 
 -- of rissobarm_watch, over rows of processes: it is lent the bytes to read only
 pub record WatchMeets (rows : List ℕ) (w : ℕ) : Type 0 where

@@ -12,7 +12,7 @@ ghost use lib.Dec.{eqb};
 ghost use lib.ListN.{length};
 ghost use Rattle.entry.specs.Entered.{Inside};
 ghost use Rattle.parlog.specs.Limits.{small};
-ghost use Rattle.parlog.specs.Numbers.{ruleNumber, word};
+ghost use Rattle.parlog.specs.Numbers.{word};
 ghost use Rattle.parlog.specs.Program.{programOf};
 ghost use Rattle.parlog.specs.Run.{stepTables, supplyTables};
 ghost use Rattle.parlog.specs.Tables.{lent, tablesIn};
