@@ -1,8 +1,8 @@
 #!/usr/bin/env python3
 """Holds docs/MACHINE.md to the definitions, and to document 01 where that is there.
 
-Each numbered sentence names the definitions of crate parlog that cite it in their comments, all of them and no others; every number
-that a comment of any crate cites is there; each section has as many sentences as the document's, the table rules being one of those.
+Each numbered sentence names the definitions of the crates that define the machine (DEFINING) that cite it in their comments, all of them and
+no others; every number that a comment of any crate cites is there; each section has as many sentences as the document's, the table rules being one of those.
 `--write` writes the names into the page; `--list` prints the document's sentences."""
 import glob
 import os
@@ -16,6 +16,7 @@ DOCUMENT = os.path.join(ROOT, '..', 'shared', '01-scope.md')
 TITLES = {'Image': 'The image', 'Refusals': 'The refusal numbers', 'Tables': "A run's tables", 'Tags': 'Tags and modes',
           'Turns': 'Turn order and supplies'}
 SENTENCE = re.compile(r'(?ms)^- \*\*(\w+) (\d+[a-z]?)\*\* (.*?\.)((?:\s+`[^`]+`,?)*)\s*?(?=\n\n|\n- |\Z)')
+DEFINING = ['parlog', 'spell']
 WIDTH = 160
 
 
@@ -79,10 +80,13 @@ def files(pattern):
 
 def definitions():
     """The files whose definitions the page names, in the order of the definitions."""
-    specs = os.path.join(ROOT, 'crates', 'parlog', 'specs')
-    with open(os.path.join(specs, 'Lib.antt'), encoding='utf-8') as lines:
-        modules = re.findall(r'(?m)^pub mod (\w+)', lines.read())
-    return [os.path.join(ROOT, 'crates', 'parlog', 'src', 'lib.rt')] + [os.path.join(specs, name + '.antt') for name in modules]
+    found = []
+    for crate in DEFINING:
+        specs = os.path.join(ROOT, 'crates', crate, 'specs')
+        with open(os.path.join(specs, 'Lib.antt'), encoding='utf-8') as lines:
+            modules = re.findall(r'(?m)^pub mod (\w+)', lines.read())
+        found += [os.path.join(ROOT, 'crates', crate, 'src', 'lib.rt')] + [os.path.join(specs, name + '.antt') for name in modules]
+    return found
 
 
 def citers(page):
