@@ -1,12 +1,12 @@
 -- The text of an image, and what printing it answers.
 use mathlib.Core.Bool.{_&&_, Bool, cond, false, true}
 use mathlib.Core.List.{[], _++_, _∷_, List}
-use Prim.Native.Nat.{_+_, suc, ℕ}
+use Prim.Native.Nat.{_%_, _+_, suc, ℕ}
 use lib.Dec.{eqb, leb}
 use lib.ListN.{length}
 use Rattle.parlog.specs.Image.{equality, isInput}
 use Rattle.parlog.specs.Load.{loadOf, refusal}
-use Rattle.parlog.specs.Program.{argument, Clause, Goal, Literal, Program, programOf}
+use Rattle.parlog.specs.Program.{Clause, Goal, Literal, Program, programOf}
 use Rattle.parlog.specs.Tables.{written}
 use Rattle.parlog.specs.declared.Loaded.{Loaded}
 use Rattle.parlog.specs.declared.Loaded.the-variants.{Accepted, Refused}
@@ -69,16 +69,16 @@ semicolonMark = 59 ∷ lineEnd ∷ []
 -- ---- over a names row nm, with r relations
 
 module _ (r : ℕ) (nm : List ℕ) where
-  -- Text 15, 22: the name of a constant, or the letter of a variable, `A` for number 0
+  -- Text 15, 22: the name of a constant, or the letter of a variable, one of the sixteen from `A` on
   unfoldable pub termText : Term → List ℕ
   termText (Const c) = entryName nm (r + c)
-  termText (Var v) = (65 + v) ∷ []
+  termText (Var v) = (65 + v % 16) ∷ []
 
   -- Text 24: an equality, or a call
   unfoldable pub literalText : Literal → List ℕ
   literalText l =
       cond (eqb (l .rel) equality)
-      (termText (argument l 0) ++ (equalsMark ++ termText (argument l 1)))
+      (rowText termText equalsMark (l .args))
       (entryName nm (l .rel) ++ bracketText termText (l .args))
 
   -- Text 24: literals of a stage have `, ` between them, stages ` & `
@@ -136,20 +136,21 @@ programText nm pr =
 
 module _ (r : ℕ) (nm : List ℕ) where
   -- Text 26: a constant in use has its name
-  abbrev pub termNamed : Term → Bool
+  unfoldable pub termNamed : Term → Bool
   termNamed (Const c) = isEntry nm (r + c)
   termNamed (Var v) = true
 
-  abbrev pub literalNamed : Literal → Bool
-  literalNamed l = allOf termNamed (l .args)
+  -- Text 26: so has a relation that is called
+  unfoldable pub literalNamed : Literal → Bool
+  literalNamed l = cond (eqb (l .rel) equality) (allOf termNamed (l .args)) (isEntry nm (l .rel) && allOf termNamed (l .args))
 
   abbrev pub goalNamed : Goal → Bool
   goalNamed g = allOf (allOf literalNamed) g
 
   abbrev pub clauseNamed : Clause → Bool
-  clauseNamed c = allOf termNamed (c .head) && (goalNamed (c .guard) && goalNamed (c .body))
+  clauseNamed c = isEntry nm (c .rel) && (allOf termNamed (c .head) && (goalNamed (c .guard) && goalNamed (c .body)))
 
-  -- Text 26: so have the relations from k on, as many as there are modes
+  -- Text 26: so have all relations from k on, as many as there are modes
   unfoldable pub relationsNamed : ℕ → List (List ℕ) → Bool
   relationsNamed k [] = true
   relationsNamed k (ms ∷ mss) = isEntry nm k && relationsNamed (suc k) mss

@@ -1,6 +1,4 @@
 use mathlib.Core.Logic.{⊎-elim}
-use mathlib.Core.Path.{_∙_}
-use lib.ListN.{length-set}
 use borrow.Author.Needs.{needs}
 use Rattle.lay.proofs.Laws.{laid-length, lays-in, lays-out}
 use Rattle.lay.proofs.put.Statement.{statement}
