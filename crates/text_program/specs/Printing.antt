@@ -66,6 +66,19 @@ stopMark = 46 ∷ lineEnd ∷ []
 abbrev pub semicolonMark : List ℕ
 semicolonMark = 59 ∷ lineEnd ∷ []
 
+-- Text 25: `;` where the next clause has mark 1
+abbrev pub endMark : ℕ → List ℕ
+endMark m = cond (eqb m 1) semicolonMark stopMark
+
+-- the mark of the first of these clauses, 0 where there is none
+abbrev pub nextMark : List Clause → ℕ
+nextMark [] = 0
+nextMark (c ∷ cs) = c .mark
+
+-- Text 24: `?` for an input, `^` for an output
+abbrev pub modeText : ℕ → List ℕ
+modeText m = cond (isInput m) 63 94 ∷ []
+
 -- ---- over a names row nm, with r relations
 
 module _ (r : ℕ) (nm : List ℕ) where
@@ -91,18 +104,9 @@ module _ (r : ℕ) (nm : List ℕ) where
   halvesText [] (st ∷ g) = arrowMark ++ goalText (st ∷ g)
   halvesText (st ∷ g) b = arrowMark ++ (goalText (st ∷ g) ++ (guardMark ++ goalText b))
 
-  -- Text 25: `;` where the next clause has mark 1
-  abbrev pub endMark : ℕ → List ℕ
-  endMark m = cond (eqb m 1) semicolonMark stopMark
-
   -- Text 25: a clause, and the mark of the next
   unfoldable pub clauseText : Clause → ℕ → List ℕ
   clauseText c m = entryName nm (c .rel) ++ (bracketText termText (c .head) ++ (halvesText (c .guard) (c .body) ++ endMark m))
-
-  -- the mark of the first of these clauses, 0 where there is none
-  abbrev pub nextMark : List Clause → ℕ
-  nextMark [] = 0
-  nextMark (c ∷ cs) = c .mark
 
   -- Text 25: clauses, line by line
   unfoldable pub clausesText : List Clause → List ℕ
@@ -112,10 +116,6 @@ module _ (r : ℕ) (nm : List ℕ) where
   -- Text 25: `<- `, the goal, the end
   unfoldable pub goalLineText : Goal → List ℕ
   goalLineText g = 60 ∷ 45 ∷ 32 ∷ (goalText g ++ stopMark)
-
-  -- Text 24: `?` for an input, `^` for an output
-  abbrev pub modeText : ℕ → List ℕ
-  modeText m = cond (isInput m) 63 94 ∷ []
 
   -- Text 25: the mode line of relation k
   unfoldable pub modeLineText : ℕ → List ℕ → List ℕ

@@ -102,7 +102,7 @@ unfolding bracketText
 brackets-is text [] h = absurd (omega arith)
 brackets-is text (x ∷ xs) h = refl
 
-items-length : {A : Type 0} (read : ℕ → A) (next : ℕ → ℕ) (n q : ℕ) → length (listOf read next n q) ≡ n
+pub items-length : {A : Type 0} (read : ℕ → A) (next : ℕ → ℕ) (n q : ℕ) → length (listOf read next n q) ≡ n
 unfolding listOf
 items-length read next zero q = refl
 items-length read next (suc n) q = ap suc (items-length read next n (next q))
