@@ -7,6 +7,8 @@
 #define reference_supply rissobarm_supply
 #define reference_value rissobarm_value
 #define reference_watch rissobarm_watch
+#define reference_parse rissobarm_parse
+#define reference_print rissobarm_print
 
 #define ref_load standin_load
 #define ref_block_count standin_block_count
@@ -24,3 +26,5 @@
 #define ref_unify standin_unify
 #define ref_rule standin_rule
 #define ref_move standin_move
+#define ref_take_apart standin_take_apart
+#define ref_is_lower_name standin_is_lower_name
