@@ -45,7 +45,10 @@ static inline const char *rissobarm_refusal_text(unsigned refusal)
         "ROOM: the move needs more rows than are left",
         "NOVAR: the goal has no such variable",
         "BOUND: its value is a constant already",
-        "CONST: the value supplied is over 32,767"
+        "CONST: the value supplied is over 32,767",
+        "FOREIGN: the saved run is of an image of another length",
+        "TEXT: no text could go on so",
+        "UNDECLARED: a relation has no mode line, or the list lacks a name in use"
     };
 
     return rissobarm_text_of(texts, sizeof texts / sizeof texts[0], refusal);
