@@ -56,7 +56,7 @@ static void tell_refused_json(const struct plan *plan, const char *path, uint64_
 enum status command_check(const struct options *options)
 {
     char words[WORDS_ROOM];
-    struct plan plan;
+    static struct plan plan;
     uint64_t answer = plan_read(&plan, options->words[0], options->names);
 
     if (rissobarm_refusal(answer) == RISSOBARM_ACCEPTED) {
@@ -75,7 +75,7 @@ enum status command_check(const struct options *options)
 
 enum status command_compile(const struct options *options)
 {
-    struct plan plan;
+    static struct plan plan;
 
     plan_need(&plan, options->words[0], NULL);
     if (!plan.is_text)
@@ -91,9 +91,9 @@ enum status command_compile(const struct options *options)
 
 enum status command_print(const struct options *options)
 {
-    struct bytes text = { NULL, 0, 0 };
+    static struct bytes text;
     char words[WORDS_ROOM];
-    struct plan plan;
+    static struct plan plan;
     uint64_t answer;
 
     plan_need(&plan, options->words[0], options->names);

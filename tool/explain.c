@@ -42,7 +42,7 @@ void explain_note(const struct session *session, unsigned process, unsigned vari
     if (!binders.supply && binders.output_count == 0 && binders.input_count > 0)
         print_binders(session, binders.inputs, binders.input_count, "nobody gives it; it is also an input of ");
     if (!binders.supply && binders.output_count == 0 && binders.input_count == 0)
-        printf("nobody has it, so that it waits for ever");
+        printf("nobody: no other call that is live has it");
     printf("\n");
 }
 

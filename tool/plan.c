@@ -35,23 +35,36 @@ static uint64_t read_text(struct plan *plan)
     return answer;
 }
 
+/* An image, and its list of names tried by printing: what lacks a name in use is refused. */
+static uint64_t read_image(struct plan *plan, const char *names_path)
+{
+    struct bytes printed = { NULL, 0, 0 };
+    uint64_t answer;
+
+    bytes_add(&plan->text, "", 0);
+    if (names_path == NULL) {
+        bytes_add(&plan->names, "", 0);
+        return 0;
+    }
+    plan->names = file_read(names_path);
+    answer = plan_print(plan, &printed);
+    free(printed.at);
+    return answer;
+}
+
 uint64_t plan_read(struct plan *plan, const char *path, const char *names_path)
 {
-    struct bytes read = file_read(path), printed = { NULL, 0, 0 };
+    struct bytes read = file_read(path);
     uint64_t answer;
 
     memset(plan, 0, sizeof *plan);
-    bytes_add(&plan->names, "", 0);
-    bytes_add(&plan->text, "", 0);
     plan->is_text = !looks_like_image(&read);
     if (plan->is_text) {
         plan->text = read;
         answer = read_text(plan);
     } else {
         plan->image = read;
-        if (names_path != NULL)
-            plan->names = file_read(names_path);
-        answer = names_path != NULL ? plan_print(plan, &printed) : 0;
+        answer = read_image(plan, names_path);
     }
     if (rissobarm_refusal(answer) == RISSOBARM_ACCEPTED)
         answer = rissobarm_load(plan->image.at, plan->image.length);
@@ -59,7 +72,6 @@ uint64_t plan_read(struct plan *plan, const char *path, const char *names_path)
         plan->relations = rissobarm_relations(answer);
         plan->clauses = rissobarm_clauses(answer);
     }
-    free(printed.at);
     return answer;
 }
 
@@ -153,10 +165,20 @@ static void found_at(const struct plan *plan, size_t offset, char *found)
         sprintf(found, "no text could go on with byte %u here", plan->text.at[offset]);
 }
 
+/* What 4, 5 and 6 can mean of a mode line, a clause and the goal. */
+static const char *const limits[][3] = {
+    { "this mode line has more than 4 arguments", "this relation has a mode line already",
+      "there are 32 relations before this mode line" },
+    { "this clause has more than 4 arguments at a call, 16 variables, or 8 literals in its guard or body",
+      "a call of this clause has another number of arguments than its mode line, or the clauses do not stand in the order of the mode lines",
+      "there are 64 clauses before this one, or 8 in its block" },
+    { "this goal has more than 4 arguments at a call, 16 variables, or 8 literals",
+      "a call of this goal has another number of arguments than its mode line", "" },
+};
+
 /* What is the matter there. */
 static void matter_at(const struct plan *plan, unsigned refusal, size_t offset, char *found)
 {
-    static const char *const sorts[] = { "this mode line", "this clause", "this goal", "this line" };
     struct word word;
 
     if (refusal == RISSOBARM_TEXT) {
@@ -165,15 +187,25 @@ static void matter_at(const struct plan *plan, unsigned refusal, size_t offset, 
         word = undeclared(plan);
         sprintf(found, "`%.*s` has no mode line", word.length < 40 ? (int)word.length : 40, word.at);
     } else {
-        strcpy(found, sorts[refused_line(plan).sort]);
+        strcpy(found, limits[refused_line(plan).sort][refusal - RISSOBARM_BODY]);
     }
+}
+
+/* The name of a refusal, without its words. */
+static const char *refusal_name(unsigned refusal)
+{
+    static char name[16];
+    const char *text = rissobarm_refusal_text(refusal);
+
+    snprintf(name, sizeof name, "%.*s", (int)strcspn(text, ":") < 15 ? (int)strcspn(text, ":") : 15, text);
+    return name;
 }
 
 static void text_words(const struct plan *plan, uint64_t answer, char *words)
 {
     unsigned refusal = rissobarm_refusal(answer);
     size_t offset, line, column;
-    char found[96];
+    char found[256];
 
     if (!plan_place(plan, answer, &offset)) {
         snprintf(words, WORDS_ROOM, "refused %u (%s)", refusal, rissobarm_refusal_text(refusal));
@@ -181,8 +213,8 @@ static void text_words(const struct plan *plan, uint64_t answer, char *words)
     }
     place_of(&plan->text, offset, &line, &column);
     matter_at(plan, refusal, offset, found);
-    snprintf(words, WORDS_ROOM, "line %lu, column %lu: %s; refused %u (%s)", (unsigned long)line, (unsigned long)column, found,
-             refusal, rissobarm_refusal_text(refusal));
+    snprintf(words, WORDS_ROOM, "line %lu, column %lu: %s (refused %u, %s)", (unsigned long)line, (unsigned long)column, found,
+             refusal, refusal_name(refusal));
 }
 
 /* ---- refusals of an image ---- */

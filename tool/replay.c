@@ -7,7 +7,7 @@
 #include <stdio.h>
 #include <string.h>
 
-enum { TRACE_RECORD = 10, STEP_RECORD = 32 };
+enum { STEP_RECORD = 32 };
 
 /* What a record of the trace says. */
 static void record_words(const struct session *session, const uint8_t *record, char *words)
@@ -73,7 +73,7 @@ static unsigned end_now(const struct session *session)
 enum status command_replay(const struct options *options)
 {
     static struct session session;
-    struct bytes trace;
+    static struct bytes trace;
     uint64_t answer;
 
     session_open(&session, options->words[0], options->names);
@@ -83,6 +83,8 @@ enum status command_replay(const struct options *options)
         tell_refused(&session, &trace, options->words[1], answer);
     if (!say_json)
         printf("%s: %s played, and all agree\n", options->words[1], counted(answer >> 32, "record", "records"));
+    if (trace.length > 0)
+        session.stamp = (uint16_t)(rissobarm_word_at(trace.at + trace.length - TRACE_RECORD + TRACE_STAMP) + 1);
     if (options->save != NULL)
         session_save(&session, options->save);
     tell_run(&session, end_now(&session));

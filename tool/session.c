@@ -7,7 +7,7 @@
 #include <stdlib.h>
 #include <string.h>
 
-enum { TRACE_RECORD = 10, SAVED_MOST = 16 + 28 * RISSOBARM_PROCESS_LIMIT + 8 * RISSOBARM_VARIABLE_LIMIT, PART_LINE = 64 };
+enum { SAVED_MOST = 16 + 28 * RISSOBARM_PROCESS_LIMIT + 8 * RISSOBARM_VARIABLE_LIMIT, PART_LINE = 64 };
 
 static const char first_line[] = "rissobarm run 1\n";
 
@@ -20,20 +20,28 @@ void session_start(struct session *session)
     rissobarm_plan_start(&session->run, session->plan.image.at, session->plan.image.length);
 }
 
+/* Stamps count on whether records are kept or not: where some are missing, a replay says so. */
+static uint64_t count_on(struct session *session, uint64_t answer, const uint8_t *records, uint32_t count)
+{
+    if (rissobarm_refusal(answer) != RISSOBARM_ACCEPTED)
+        return answer;
+    if (session->traced)
+        bytes_add(&session->trace, records, (size_t)count * TRACE_RECORD);
+    session->stamp = (uint16_t)(session->stamp + count);
+    return answer;
+}
+
 uint64_t session_run(struct session *session, unsigned steps)
 {
     static uint8_t records[RISSOBARM_RUN_LIMIT * TRACE_RECORD];
     uint64_t answer;
 
-    if (!session->traced)
-        return rissobarm_plan_run(&session->run, steps);
-    answer = rissobarm_run_traced(RISSOBARM_PLAN_LENT(&session->run), records, (size_t)steps * TRACE_RECORD, (uint16_t)steps,
-                                  session->stamp);
-    if (rissobarm_refusal(answer) == RISSOBARM_ACCEPTED) {
-        bytes_add(&session->trace, records, (size_t)rissobarm_steps(answer) * TRACE_RECORD);
-        session->stamp = (uint16_t)(session->stamp + rissobarm_steps(answer));
-    }
-    return answer;
+    if (session->traced)
+        answer = rissobarm_run_traced(RISSOBARM_PLAN_LENT(&session->run), records, (size_t)steps * TRACE_RECORD,
+                                      (uint16_t)steps, session->stamp);
+    else
+        answer = rissobarm_plan_run(&session->run, steps);
+    return count_on(session, answer, records, rissobarm_steps(answer));
 }
 
 uint64_t session_supply(struct session *session, unsigned variable, unsigned value)
@@ -41,14 +49,12 @@ uint64_t session_supply(struct session *session, unsigned variable, unsigned val
     uint8_t record[TRACE_RECORD];
     uint64_t answer;
 
-    if (!session->traced)
-        return rissobarm_plan_supply(&session->run, variable, value);
-    answer = rissobarm_supply_traced(RISSOBARM_PLAN_LENT(&session->run), record, sizeof record, variable, value, session->stamp);
-    if (rissobarm_refusal(answer) == RISSOBARM_ACCEPTED) {
-        bytes_add(&session->trace, record, sizeof record);
-        session->stamp++;
-    }
-    return answer;
+    if (session->traced)
+        answer = rissobarm_supply_traced(RISSOBARM_PLAN_LENT(&session->run), record, sizeof record, variable, value,
+                                         session->stamp);
+    else
+        answer = rissobarm_plan_supply(&session->run, variable, value);
+    return count_on(session, answer, record, 1);
 }
 
 /* ---- saving ---- */
@@ -176,7 +182,7 @@ void session_open(struct session *session, const char *path, const char *names_p
 /* The machine compares lengths alone, so that an edited plan of the same length would pass. */
 void session_same_plan(const struct session *session, const char *saved, const char *path, const char *names_path)
 {
-    struct plan plan;
+    static struct plan plan;
     const struct bytes *mine = &session->plan.image;
     size_t k = 0;
 

@@ -5,6 +5,9 @@
 #include "plan.h"
 #include "program.h"
 
+/* Bytes of a record of a trace; its stamp is the last two. */
+enum { TRACE_RECORD = 10, TRACE_STAMP = 8 };
+
 struct session {
     struct plan plan;
     struct program program;
