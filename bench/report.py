@@ -75,6 +75,18 @@ def load_tables(found):
                      ["Image", "Bytes", "Ratio", "Length", "Archive", "Plain C"], rows)
 
 
+def text_tables(found):
+    """Parse and print, where they were measured."""
+    for what in ("parse", "print"):
+        rows = [[key[1], number(key[3]), spread(lines)] for key, lines in chosen(found, what)]
+        grown = [[key[1], number(key[3]), spread(lines), *multiples(lines)] for key, lines in chosen(found, what + " by size")]
+        if rows:
+            yield from table("%s by sort of text" % what.capitalize(), ["Text", "Bytes", "Ratio"], rows)
+        if grown:
+            yield from table("%s by length of text; times as multiples of those at a sixteenth" % what.capitalize(),
+                             ["Text", "Bytes", "Ratio", "Archive", "Plain C"], grown)
+
+
 def run_table(found):
     yield from table("Run of a whole plan", ["Plan", "Bytes", "Rows at the end", "Ratio", "To quick C"],
                      [[key[1], number(key[3]), str(key[2]), spread(lines), spread(lines, "to_quick")]
@@ -129,6 +141,7 @@ def tables(found):
     yield "Of %d runs: the median, in brackets the least and the greatest." % max(map(len, found.values()))
     yield ""
     yield from load_tables(found)
+    yield from text_tables(found)
     yield from run_table(found)
     yield from woken_table(found)
     yield from grid_table(found, "step", "A step, by rows in use and image size")
@@ -139,7 +152,7 @@ def tables(found):
     yield from report_table(found)
 
 
-TARGETS = {"load": 1.5, "run": 2.0, "step": 2.0, "report": 2.0, "call without a step": 2.0, "supply": None}
+TARGETS = {"load": 1.5, "run": 2.0, "step": 2.0, "report": 2.0, "call without a step": 2.0, "supply": None, "parse": None, "print": None}
 
 
 def quick_range(cases):
@@ -153,6 +166,8 @@ def summary(found):
     rows = []
     for what, target in TARGETS.items():
         measured = chosen(found, what)
+        if not measured:
+            continue
         cases = sorted((middle(lines), key) for key, lines in measured)
         ratio, (_, which, used, size) = cases[-1]
         case = "%s, %s bytes" % ("%d rows" % used if used and what != "run" else which, number(size))

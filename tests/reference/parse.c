@@ -409,23 +409,42 @@ static uint64_t write_out(const struct making *m, uint8_t *image, size_t image_l
     return (uint64_t)m->length << 8 | ref_accepted(0, 0, ref_told(used));
 }
 
+/* Slots for the constants of the parts, twice as many at least, and no more than an accepted image has use for. */
+static size_t constant_slots(const struct parts *parts)
+{
+    size_t constants = 0, slots = 64, k;
+
+    for (k = 0; k < parts->count; k++)
+        constants += parts->all[k].kind == CONSTANT_TERM;
+    while (slots < 2 * constants && slots < CONSTANT_SLOTS)
+        slots *= 2;
+    return slots;
+}
+
+static void begin_names(struct names *n, struct spelt *names, uint32_t *slots, size_t slot_count)
+{
+    n->names = names;
+    n->count = 0;
+    n->slots = slots;
+    n->slot_count = slot_count;
+    memset(slots, 0, slot_count * sizeof *slots);
+}
+
 /* The image of parts that are all declared. */
 static uint64_t make_and_write(const struct parts *parts, uint8_t *image, size_t image_len, uint8_t *names,
                                size_t names_len)
 {
     struct spelt relations[RELATION_LIMIT + 1], constants[TERMS_MOST], variables[OWN_LIMIT];
-    uint32_t relation_slots[RELATION_SLOTS] = { 0 }, constant_slots[CONSTANT_SLOTS] = { 0 };
+    uint32_t relation_slots[RELATION_SLOTS], slots[CONSTANT_SLOTS];
     struct making m;
     struct verdict verdict;
 
-    memset(&m, 0, sizeof m);
     m.part = parts->all;
-    m.relations.names = relations;
-    m.relations.slots = relation_slots;
-    m.relations.slot_count = RELATION_SLOTS;
-    m.constants.names = constants;
-    m.constants.slots = constant_slots;
-    m.constants.slot_count = CONSTANT_SLOTS;
+    m.clauses = m.before = m.in_block = 0;
+    m.closed = false;
+    m.length = 0;
+    begin_names(&m.relations, relations, relation_slots, RELATION_SLOTS);
+    begin_names(&m.constants, constants, slots, constant_slots(parts));
     m.variables.names = variables;
     verdict = make_image(&m);
     if (verdict.refusal != ACCEPTED)
