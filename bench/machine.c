@@ -988,3 +988,32 @@ uint64_t machine_supply(const uint8_t *image, size_t image_len, const uint8_t *h
     bind(&r, &c);
     return RISSOBARM_ACCEPTED;
 }
+
+/* ---- the values ---- */
+
+uint64_t machine_values(const uint8_t *image, size_t image_len, const uint8_t *head, size_t head_len,
+                        const uint8_t *procs, size_t procs_len, const uint8_t *vars, size_t vars_len,
+                        uint8_t *values, size_t values_len)
+{
+    struct run r;
+    struct changes c = { 0, { 0 }, { 0 } };
+    uint64_t refusal;
+    unsigned k;
+
+    r.procs = (uint8_t *)procs; /* neither is written */
+    r.vars = (uint8_t *)vars;
+    refusal = enter(&r, image, image_len, head, head_len, procs_len, vars_len);
+    if (refusal != RISSOBARM_ACCEPTED)
+        return refusal;
+    if (values_len < r.goal_variables * (size_t)RISSOBARM_VARIABLE_ROW)
+        return RISSOBARM_ROOM;
+    for (k = 0; k < r.goal_variables; k++) {
+        uint8_t *cell = values + k * RISSOBARM_VARIABLE_ROW;
+        uint32_t found = value(&r, &c, k | IS_VARIABLE);
+
+        cell[RISSOBARM_CELL_SORT] = found & IS_VARIABLE ? RISSOBARM_SORT_VARIABLE : RISSOBARM_SORT_CONSTANT;
+        put_word(cell + RISSOBARM_CELL_NUMBER, found & ~IS_VARIABLE);
+        cell[RISSOBARM_CELL_NUMBER + 2] = 0;
+    }
+    return (uint64_t)r.goal_variables << 32;
+}

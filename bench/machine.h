@@ -1,4 +1,4 @@
-/* The run and the supply in plain C: the same lent bytes, the same answers as rissobarm_run and rissobarm_supply. */
+/* Run, supply and values in plain C: the same lent bytes, the same answers as rissobarm_run, _supply and _values. */
 #ifndef MACHINE_H
 #define MACHINE_H
 
@@ -12,5 +12,9 @@ uint64_t machine_run(const uint8_t *image, size_t image_len, uint8_t *head, size
 uint64_t machine_supply(const uint8_t *image, size_t image_len, const uint8_t *head, size_t head_len,
                         const uint8_t *procs, size_t procs_len, uint8_t *vars, size_t vars_len,
                         uint32_t variable, uint32_t constant);
+
+uint64_t machine_values(const uint8_t *image, size_t image_len, const uint8_t *head, size_t head_len,
+                        const uint8_t *procs, size_t procs_len, const uint8_t *vars, size_t vars_len,
+                        uint8_t *values, size_t values_len);
 
 #endif

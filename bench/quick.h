@@ -1,4 +1,4 @@
-/* The fastest run and supply in C that we have: the same lent bytes and answers as rissobarm_run and rissobarm_supply. */
+/* The fastest run and supply in C that we have, and values: the same lent bytes and answers as rissobarm_run, _supply and _values. */
 #ifndef QUICK_H
 #define QUICK_H
 
@@ -12,5 +12,9 @@ uint64_t quick_run(const uint8_t *image, size_t image_len, uint8_t *head, size_t
 uint64_t quick_supply(const uint8_t *image, size_t image_len, const uint8_t *head, size_t head_len,
                       const uint8_t *procs, size_t procs_len, uint8_t *vars, size_t vars_len,
                       uint32_t variable, uint32_t constant);
+
+uint64_t quick_values(const uint8_t *image, size_t image_len, const uint8_t *head, size_t head_len,
+                      const uint8_t *procs, size_t procs_len, const uint8_t *vars, size_t vars_len,
+                      uint8_t *values, size_t values_len);
 
 #endif

@@ -1,6 +1,6 @@
 /*
- * The archive's load, run and supply beside those of the plain C and of the quick C: the same answers and the same bytes in every
- * call, on random images and plans, and on the plans that are measured, which must also end as they should.
+ * The archive's load, run, supply and values beside those of the plain C and of the quick C: the same answers and the same bytes
+ * in every call, on random images and plans, and on the plans that are measured, which must also end as they should.
  */
 #include "checker.h"
 #include "plans.h"
@@ -15,7 +15,7 @@ enum { IMAGES = 120000, SMALL_PLANS = 20000, WHOLE_IMAGES = 4000 };
 static struct image image;
 static struct arrivals arrivals;
 static struct tables ours, theirs; /* of the archive, of another side */
-static unsigned runs, supplies, refused, differences;
+static unsigned runs, supplies, looks, refused, differences;
 
 /* Notes whether a side answered and left the same as the archive. */
 static void compare_side(uint64_t answer, uint64_t other)
@@ -53,6 +53,24 @@ static uint64_t all_supply(uint32_t variable, uint32_t value)
         compare_side(answer, supply_of[side](IMAGE, TABLES(&theirs), variable, value));
     }
     return answer;
+}
+
+/* All sides tell the values of the same tables, into rows of one length; short ones are refused. */
+static void all_values(size_t length)
+{
+    uint8_t values[ALL_SIDES][RISSOBARM_VALUES_SIZE];
+    uint64_t answers[ALL_SIDES];
+    unsigned side;
+
+    looks++;
+    theirs = ours;
+    for (side = ARCHIVE; side < ALL_SIDES; side++) {
+        memset(values[side], 0xA5, sizeof values[side]);
+        answers[side] = values_of[side](IMAGE, TABLES(&theirs), values[side], length);
+        compare_side(answers[ARCHIVE], answers[side]);
+        differences += memcmp(values[ARCHIVE], values[side], sizeof values[side]) != 0;
+    }
+    refused += rissobarm_refusal(answers[ARCHIVE]) != RISSOBARM_ACCEPTED;
 }
 
 /* A random supply; now and then of a value that is too large, or for no variable. */
@@ -98,6 +116,7 @@ static void compare(struct random *random)
         if (end == RISSOBARM_END_WAITING || random_once(random, 3))
             supply_any(random);
     }
+    all_values(RISSOBARM_VALUES_SIZE);
     rows = processes(&ours);
     for (slices = 0; slices < 4; slices++) {
         damage_row(random, rows);
@@ -106,6 +125,7 @@ static void compare(struct random *random)
         if (random_once(random, 6))
             damage(random, ours.head, sizeof ours.head, 20);
         supply_any(random);
+        all_values(random_below(random, RISSOBARM_VALUES_SIZE + 1));
         all_run(random_below(random, 40));
     }
 }
@@ -189,7 +209,7 @@ static unsigned loads_differ(void)
     return differ;
 }
 
-/* Runs and supplies of all sides on random plans. */
+/* Runs, supplies and values of all sides on random plans. */
 static unsigned runs_differ(void)
 {
     struct random random = { 90210 };
@@ -203,8 +223,8 @@ static unsigned runs_differ(void)
         image_whole(&image, &random);
         compare(&random);
     }
-    printf("run and supply: %u runs and %u supplies on %d plans, %u of them refused, %u differences\n", runs, supplies,
-           SMALL_PLANS + WHOLE_IMAGES, refused, differences);
+    printf("run, supply, values: %u runs, %u supplies, %u looks at all values on %d plans, %u of them refused, %u differences\n",
+           runs, supplies, looks, SMALL_PLANS + WHOLE_IMAGES, refused, differences);
     return differences;
 }
 

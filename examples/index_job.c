@@ -1,29 +1,36 @@
 /*
  * An index job: runs a plan whose records are fetched, normalised and placed, while their values still arrive.
  *
- *   index_job IMAGE RECORDS [SLICE] <ARRIVALS
+ *   index_job IMAGE RECORDS [SLICE [SAVED]] <ARRIVALS
  *
- * IMAGE is a file (build one with plan.c), RECORDS how many records its goal places, SLICE the most steps of one run
- * call (default 50). The goal's variables stand as index.plan says: for record r, from 1 on, 3(r - 1) is the place that is
- * free before it, the next one its key, the one after that its place. An arrival is a line
+ * IMAGE is a file (build one with plan.c), RECORDS how many records its goal places, SLICE how many turns are made before
+ * arrivals are looked for again (default 50). The goal's variables stand as index.plan says: for record r, from 1 on,
+ * 3(r - 1) is the place that is free before it, the next one its key, the one after that its place. An arrival is a line
  *
  *   RECORD FIELD VALUE [STEPS]            FIELD is free, key or place; # begins a comment
  *
  * and comes in when that many steps are made (0 without the number), or earlier when the run waits: then nothing else
  * can happen. Lines come in as they stand, one read ahead.
  *
+ * SAVED is a file for the run: where there is one, the job goes on from it, with the arrivals behind those that came before; it
+ * is written anew behind each slice and each arrival. So a job that is killed, at any moment, loses nothing: started again with
+ * the same words it comes to the same end with the same tables.
+ *
  * Ends with 0 where the goal succeeded, 1 failed, 2 still waits when no arrival is left, 3 has no room, 4 where a call was
  * refused that had to be accepted, 5 where the arguments or a file are no good. A refused arrival is told and left out.
  */
+#define _POSIX_C_SOURCE 200809L /* fsync */
 #include "rissobarm_plan.h"
 
 #include <stdio.h>
 #include <stdlib.h>
 #include <string.h>
+#include <unistd.h>
 
 enum { SUCCEEDED = 0, FAILED = 1, WAITS = 2, NO_ROOM = 3, REFUSED = 4, NO_GOOD = 5 };
 enum { FREE = 0, KEY = 1, PLACE = 2, FIELDS = 3 };
-enum { MOST_RECORDS = 5, LAST_RECORD = 9999, LINE_ROOM = 200, SLICE = 50, SLICE_LIMIT = 1000000 };
+enum { MOST_RECORDS = 5, LAST_RECORD = 9999, LINE_ROOM = 200, PATH_ROOM = 4096, SLICE = 50, SLICE_LIMIT = 1000000 };
+enum { TAKEN_SIZE = 4 }; /* bytes before the run in its file: how many arrivals came before */
 
 static const char *const field_names[FIELDS] = { "free", "key", "place" };
 
@@ -35,6 +42,9 @@ struct job {
     unsigned records;
     unsigned slice;
     int placed[MOST_RECORDS]; /* whether its place was told */
+    const char *saved;        /* the file of the run, or NULL */
+    unsigned taken;           /* arrivals that came in */
+    int unsaved;              /* whether the file could not be written */
 };
 
 /* A value from outside; there is none when it is not pending. */
@@ -72,20 +82,20 @@ static unsigned record_of(const struct job *job, unsigned process)
 
 /* ---- what is told ---- */
 
-/* Tells each place that has come out since the last look. */
+/* Tells each place that has come out since the last look: one call gives the values of all goal variables. */
 static void tell_places(struct job *job)
 {
+    uint8_t values[RISSOBARM_VALUES_SIZE];
+    uint32_t count = rissobarm_values_count(rissobarm_plan_values(&job->run, values, sizeof values));
     unsigned r;
 
     for (r = 0; r < job->records; r++) {
-        uint64_t value = rissobarm_plan_value(&job->run, FIELDS * r + PLACE);
+        unsigned variable = FIELDS * r + PLACE;
 
-        if (job->placed[r] || rissobarm_refusal(value) != RISSOBARM_ACCEPTED)
-            continue;
-        if (rissobarm_value_sort(value) != RISSOBARM_SORT_CONSTANT)
+        if (job->placed[r] || variable >= count || rissobarm_sort_at(values, variable) != RISSOBARM_SORT_CONSTANT)
             continue;
         job->placed[r] = 1;
-        printf("step %u: record %u has place %u\n", steps_made(job), r + 1, (unsigned)rissobarm_value_number(value));
+        printf("step %u: record %u has place %u\n", steps_made(job), r + 1, (unsigned)rissobarm_number_at(values, variable));
     }
 }
 
@@ -134,12 +144,111 @@ static void tell_waiting(struct job *job)
     }
 }
 
+/* Whether a process sleeps on a variable that was bound just now, so that it wakes by that. */
+static int wakes(const struct job *job, unsigned process, const uint8_t *bound)
+{
+    const uint8_t *row = rissobarm_plan_row(&job->run, process);
+    unsigned n, k;
+
+    if (row[RISSOBARM_ROW_MODE] != RISSOBARM_MODE_SUSPENDED)
+        return 0;
+    for (n = 0; n < row[RISSOBARM_ROW_NOTE_COUNT]; n++)
+        for (k = 0; k < rissobarm_bound_count(bound); k++)
+            if (rissobarm_word_at(row + RISSOBARM_ROW_NOTES + 2 * n) == rissobarm_bound_at(bound, k))
+                return 1;
+    return 0;
+}
+
+/* Tells of each record whom the variables bound have woken: by an arrival (from 0) anyone, by a record those of others. */
+static void tell_woken(const struct job *job, const uint8_t *bound, unsigned from)
+{
+    unsigned count = rissobarm_bound_count(bound) > 0 ? rissobarm_plan_processes(&job->run) : 0, r, p;
+
+    for (r = 1; r <= job->records; r++) {
+        unsigned told = 0;
+
+        for (p = 0; p < count && r != from; p++) {
+            if (!wakes(job, p, bound) || record_of(job, p) != r)
+                continue;
+            if (told == 0 && from > 0)
+                printf("step %u: record %u", steps_made(job), from);
+            if (told++ == 0)
+                printf("%s wakes record %u: process", from > 0 ? "" : " ", r);
+            printf(" %u", p);
+        }
+        if (told > 0)
+            printf("\n");
+    }
+}
+
 /* Rows are never used twice in a run, so this is final: cut the plan into smaller ones. */
 static void tell_room(struct job *job)
 {
     printf("step %u: no room, with %u processes and %u variables\n  ", steps_made(job),
            rissobarm_plan_processes(&job->run), rissobarm_plan_variables(&job->run));
     say_refusal("the next turn", rissobarm_plan_turn(&job->run));
+}
+
+/* ---- the run as a file ---- */
+
+/* Writes beside the file, out to the disk, and then puts it in its place at once: a kill leaves the old or the new one whole. */
+static int put_file(const char *path, const uint8_t *bytes, size_t length)
+{
+    char beside[PATH_ROOM];
+    FILE *file;
+    int good;
+
+    if (snprintf(beside, sizeof beside, "%s.new", path) >= (int)sizeof beside)
+        return 0;
+    file = fopen(beside, "wb");
+    if (file == NULL)
+        return 0;
+    good = fwrite(bytes, 1, length, file) == length && fflush(file) == 0 && fsync(fileno(file)) == 0;
+    good = fclose(file) == 0 && good;
+    return good && rename(beside, path) == 0;
+}
+
+/* Saves the run, with how many arrivals came in. */
+static void save(struct job *job)
+{
+    static uint8_t bytes[TAKEN_SIZE + RISSOBARM_SAVED_SIZE];
+    uint64_t answer;
+    unsigned k;
+
+    if (job->saved == NULL || job->unsaved)
+        return;
+    for (k = 0; k < TAKEN_SIZE; k++)
+        bytes[k] = (uint8_t)(job->taken >> 8 * k & 255);
+    answer = rissobarm_plan_save(&job->run, bytes + TAKEN_SIZE, RISSOBARM_SAVED_SIZE);
+    if (rissobarm_refusal(answer) != RISSOBARM_ACCEPTED || !put_file(job->saved, bytes, TAKEN_SIZE + rissobarm_saved(answer)))
+        job->unsaved = 1;
+}
+
+/* Begins the run, or takes it up from its file where there is one; tells a refusal. */
+static int begin(struct job *job)
+{
+    static uint8_t bytes[TAKEN_SIZE + RISSOBARM_SAVED_SIZE + 1];
+    FILE *file = job->saved == NULL ? NULL : fopen(job->saved, "rb");
+    size_t length = 0;
+    uint64_t answer;
+    unsigned k;
+
+    if (file != NULL) {
+        length = fread(bytes, 1, sizeof bytes, file);
+        fclose(file);
+    }
+    if (length < TAKEN_SIZE) {
+        answer = rissobarm_plan_start(&job->run, job->image, job->length);
+    } else {
+        for (k = 0; k < TAKEN_SIZE; k++)
+            job->taken += (unsigned)bytes[k] << 8 * k;
+        answer = rissobarm_plan_resume(&job->run, job->image, job->length, bytes + TAKEN_SIZE, length - TAKEN_SIZE);
+    }
+    if (rissobarm_refusal(answer) != RISSOBARM_ACCEPTED)
+        say_refusal(length < TAKEN_SIZE ? "start" : "resume", answer);
+    else if (length >= TAKEN_SIZE)
+        printf("step %u: taken up again, behind %u arrivals\n", steps_made(job), job->taken);
+    return rissobarm_refusal(answer) == RISSOBARM_ACCEPTED;
 }
 
 /* ---- arrivals ---- */
@@ -174,17 +283,31 @@ static void look_ahead(struct arrival *next)
     }
 }
 
-/* A value comes in: a supply, between two run calls. */
+/* A value comes in: a supply, between two turns. */
 static void deliver(struct job *job, struct arrival *next)
 {
+    uint8_t bound[RISSOBARM_BOUND_SIZE];
     unsigned variable = FIELDS * (next->record - 1) + next->field;
-    uint64_t answer = rissobarm_plan_supply(&job->run, variable, next->value);
+    uint64_t answer = rissobarm_plan_supply_bound(&job->run, bound, sizeof bound, variable, next->value);
 
     printf("step %u: %s of record %u arrives as %u\n", steps_made(job), field_names[next->field], next->record,
            next->value);
-    if (rissobarm_refusal(answer) != RISSOBARM_ACCEPTED)
+    if (rissobarm_refusal(answer) == RISSOBARM_ACCEPTED)
+        tell_woken(job, bound, 0);
+    else
         say_refusal("  supply", answer);
     next->pending = 0;
+    job->taken++;
+    save(job);
+}
+
+/* Passes over the arrivals that came in before the run was saved. */
+static void pass_over(unsigned taken, struct arrival *next)
+{
+    while (taken-- > 0) {
+        look_ahead(next);
+        next->pending = 0;
+    }
 }
 
 static void deliver_due(struct job *job, struct arrival *next)
@@ -198,7 +321,33 @@ static void deliver_due(struct job *job, struct arrival *next)
 
 /* ---- the job ---- */
 
-/* What follows the end of one run call; -1 where the run goes on. */
+/* Up to a slice of turns, with whom each has woken; then a run call tells where the run stands, and makes no step. */
+static uint64_t run_slice(struct job *job)
+{
+    uint8_t bound[RISSOBARM_BOUND_SIZE];
+    unsigned made = 0;
+
+    while (made < job->slice &&
+           rissobarm_refusal(rissobarm_plan_turn_bound(&job->run, bound, sizeof bound)) == RISSOBARM_ACCEPTED) {
+        tell_woken(job, bound, record_of(job, rissobarm_word_at(job->run.head + RISSOBARM_HEAD_LAST)));
+        made++;
+    }
+    /* a limit of one step where there is none to make, so that want of room is told and not the budget */
+    return rissobarm_plan_run(&job->run, made < job->slice);
+}
+
+/* Where a run stands that was taken up, asked of a copy that may make a step. */
+static unsigned stands(const struct job *job)
+{
+    static struct rissobarm_plan copy;
+    uint64_t answer;
+
+    copy = job->run;
+    answer = rissobarm_plan_run(&copy, 1);
+    return rissobarm_steps(answer) == 0 ? rissobarm_end(answer) : (unsigned)RISSOBARM_END_BUDGET;
+}
+
+/* What follows the end of one slice; -1 where the run goes on. */
 static int after_slice(struct job *job, struct arrival *next, unsigned end)
 {
     switch (end) {
@@ -228,23 +377,29 @@ static int after_slice(struct job *job, struct arrival *next, unsigned end)
 static int work(struct job *job)
 {
     struct arrival next = { 0, 0, 0, 0, 0 };
-    uint64_t answer = rissobarm_plan_start(&job->run, job->image, job->length);
+    uint64_t answer;
     int how = -1;
 
-    if (rissobarm_refusal(answer) != RISSOBARM_ACCEPTED) {
-        say_refusal("start", answer);
+    if (!begin(job))
         return REFUSED;
+    pass_over(job->taken, &next);
+    if (steps_made(job) > 0) { /* taken up behind a slice */
+        tell_places(job);
+        how = after_slice(job, &next, stands(job));
     }
-    while (how < 0) {
-        answer = rissobarm_plan_run(&job->run, job->slice);
+    while (how < 0 && !job->unsaved) {
+        answer = run_slice(job);
         if (rissobarm_refusal(answer) != RISSOBARM_ACCEPTED) {
             say_refusal("run", answer);
             return REFUSED;
         }
+        save(job);
         tell_places(job);
         how = after_slice(job, &next, rissobarm_end(answer));
     }
-    return how;
+    if (job->unsaved)
+        fprintf(stderr, "index_job: %s cannot be written\n", job->saved);
+    return job->unsaved ? (int)NO_GOOD : how;
 }
 
 /* Reads the image, one byte past the limit at most: that is enough to have it refused as LONG. */
@@ -263,12 +418,13 @@ int main(int count, char **words)
     static struct job job;
     uint64_t answer;
 
-    if (count < 3 || count > 4 || !read_image(&job, words[1])) {
-        fprintf(stderr, "index_job IMAGE RECORDS [SLICE] <ARRIVALS\n");
+    if (count < 3 || count > 5 || !read_image(&job, words[1])) {
+        fprintf(stderr, "index_job IMAGE RECORDS [SLICE [SAVED]] <ARRIVALS\n");
         return NO_GOOD;
     }
     job.records = (unsigned)strtoul(words[2], NULL, 10);
-    job.slice = count == 4 ? (unsigned)strtoul(words[3], NULL, 10) : (unsigned)SLICE;
+    job.slice = count >= 4 ? (unsigned)strtoul(words[3], NULL, 10) : (unsigned)SLICE;
+    job.saved = count >= 5 ? words[4] : NULL;
     if (job.records < 1 || job.records > MOST_RECORDS || job.slice < 1 || job.slice > SLICE_LIMIT) {
         fprintf(stderr, "index_job: 1 to %d records, slices of 1 to %d steps\n", MOST_RECORDS, SLICE_LIMIT);
         return NO_GOOD;

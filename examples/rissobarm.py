@@ -1,9 +1,11 @@
 """The PARLOG process machine from Python: a Plan is a run of an image, in rows that it lends to librissobarm.so."""
 import ctypes
+import struct
 
 LIMIT = 65535  # of one run call
 ENDS = {1: 'success', 2: 'failure', 3: 'waiting', 4: 'room', 5: 'budget'}
 ROWS = (10, 12288, 4096)  # bytes of head, processes and variables
+VALUES, BOUND, SAVED = 64, 10, 22544  # bytes for the values of all goal variables, a list of variables bound, a saved run
 LIBRARY = ctypes.CDLL('librissobarm.so.0')
 
 
@@ -18,16 +20,27 @@ class Refused(Exception):
 class Plan:
     """A run of an image; each call raises Refused or answers what its word tells."""
 
-    def __init__(self, image):
+    def __init__(self, image, saved=None):
+        """Begins a run, or takes up one that was saved."""
         rows = [ctypes.create_string_buffer(image, len(image) + 1)] + [ctypes.create_string_buffer(size) for size in ROWS]
         sizes = map(ctypes.c_size_t, (len(image),) + ROWS)
         self.lent = [part for pair in zip(rows, sizes) for part in pair]
-        self.call('start')
+        if saved is None:
+            self.call('start')
+        else:
+            self.call('resume', row=(saved, ctypes.c_size_t(len(saved))))
 
-    def call(self, name, *numbers):
+    def save(self):
+        """The run as bytes of a file."""
+        row = ctypes.create_string_buffer(SAVED)
+        size = self.call('save', row=(row, ctypes.c_size_t(SAVED))) >> 32
+        return row.raw[:size]
+
+    def call(self, name, *numbers, row=()):
+        """A call by its name; row is what it is lent behind the tables, and its length."""
         function = getattr(LIBRARY, 'rissobarm_' + name)
         function.restype = ctypes.c_uint64
-        word = function(*self.lent, *map(ctypes.c_uint32, numbers))
+        word = function(*self.lent, *row, *map(ctypes.c_uint32, numbers))
         if word & 255:
             raise Refused(word)
         return word
@@ -43,9 +56,24 @@ class Plan:
                 return end, made
 
     def supply(self, variable, value):
-        self.call('supply', variable, value)
+        """Binds a goal variable; the variable that took the binding, in a list."""
+        return self.bound('supply', variable, value)[1]
+
+    def bound(self, name, *numbers):
+        """A step, turn or supply: its word, and the variables that it bound, in their order."""
+        row = ctypes.create_string_buffer(BOUND)
+        word = self.call(name + '_bound', *numbers, row=(row, ctypes.c_size_t(BOUND)))
+        count, *variables = struct.unpack('<5H', row.raw)
+        return word, variables[:count]
 
     def value(self, variable):
         """A constant, or None where it is open."""
         word = self.call('value', variable)
         return word >> 32 if word >> 8 & 255 == 1 else None
+
+    def values(self):
+        """The values of all goal variables: constants, or None where one is open."""
+        row = ctypes.create_string_buffer(VALUES)
+        count = self.call('values', row=(row, ctypes.c_size_t(VALUES))) >> 32
+        cells = [row.raw[4 * k:4 * k + 4] for k in range(count)]
+        return [int.from_bytes(cell[1:], 'little') if cell[0] == 1 else None for cell in cells]

@@ -5,19 +5,6 @@ import sys
 from rissobarm import Plan, Refused
 
 LIMIT = 100000
-NOVAR = 12
-
-
-def values(plan):
-    """The values of the goal's variables, from 0 up to the first that is refused."""
-    found = []
-    try:
-        while True:
-            found.append(plan.value(len(found)))
-    except Refused as refused:
-        if refused.number != NOVAR:
-            raise
-    return found
 
 
 def main():
@@ -31,12 +18,13 @@ def main():
     end, steps = plan.run(LIMIT)
     while end == 'waiting' and arrivals:
         variable, value = arrivals.pop(0)
+        plan = Plan(image, plan.save())  # as if the night lay between
         plan.supply(variable, value)
         print('%d steps: waiting, variable %d arrives as %d' % (steps, variable, value))
         end, more = plan.run(LIMIT)
         steps += more
     print('%d steps: %s' % (steps, end))
-    for variable, value in enumerate(values(plan)):
+    for variable, value in enumerate(plan.values()):
         print('variable %d is %s' % (variable, 'open' if value is None else value))
 
 

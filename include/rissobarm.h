@@ -4,7 +4,8 @@
  *
  * A plan is an image, a row of bytes. A run of it lives in three byte rows that the caller lends to each call: a head, the
  * process table and the variable table (docs/LAYOUT.md has every byte). Between two calls the rows are the whole run: a
- * copy of them is a copy of the run. Calls take what they are lent in the order image, head, procs, vars, then numbers.
+ * copy of them is a copy of the run. Calls take what they are lent in the order image, head, procs, vars, further rows, then
+ * numbers.
  *
  * A byte row is lent as a pointer and its length. The pointer is never null, not even for a length of 0, and the row
  * is readable (and writable where it is not const) over the whole length. Rows lent to one call do not overlap.
@@ -51,11 +52,12 @@ enum {
 };
 
 /*
- * Bytes of stack that are enough for any call. Turn and run take the most: under 8,000 bytes of their own, by the machine code
- * and as tests/header/stack.c measures it, and some 3,200 more where the C library's memset or memcpy is bound in that very
- * call (measured with AVX-512; not so in the shared library, which binds them as it is loaded).
+ * Bytes of stack that are enough for any call, by the machine code and as tests/header/stack.c measures it. Resume takes the most,
+ * since it holds the three rows until they are tested; of the others turn and run do: under 8,000 bytes of their own. Some 3,200
+ * more come to that where the C library's memset or memcpy is bound in that very call (measured with AVX-512; not so in the
+ * shared library, which binds them as it is loaded).
  */
-enum { RISSOBARM_STACK = 16384 };
+enum { RISSOBARM_STACK = 32768 };
 
 /* The three rows of a run; a row that is lent with another length is refused 8. Only the watch takes any length. */
 enum {
@@ -69,16 +71,33 @@ enum {
     RISSOBARM_VARS_SIZE = RISSOBARM_VARIABLE_LIMIT * RISSOBARM_VARIABLE_ROW
 };
 
+/* Bytes that are always enough for the further row of a call; any length is taken that has room for what is written. */
+enum {
+    RISSOBARM_VALUES_SIZE = RISSOBARM_OWN_LIMIT * RISSOBARM_VARIABLE_ROW, /* of rissobarm_values */
+    RISSOBARM_BOUND_SIZE = 2 + 2 * RISSOBARM_ARITY_LIMIT,                 /* of a list of variables bound */
+    RISSOBARM_SAVED_SIZE = 22544                                          /* of a saved run */
+};
+
 /* Bytes of the longest image that is accepted; a text becomes no longer one. */
 enum { RISSOBARM_TEXT_IMAGE = 12798 };
 
-/* ---- images ---- */
+/* ---- images and saved runs ---- */
 
-/* Kinds of records. */
+/* Kinds of the records of an image. */
 enum {
     RISSOBARM_RECORD_RELATION = 1,
     RISSOBARM_RECORD_CLAUSE = 2,
     RISSOBARM_RECORD_GOAL = 3
+};
+
+/* Kinds of the records of a saved run, and the bytes of one of each. */
+enum {
+    RISSOBARM_RECORD_RUN = 16, /* the head's ten bytes, then the image's length in two */
+    RISSOBARM_RECORD_PROCESS = 17,
+    RISSOBARM_RECORD_VARIABLE = 18,
+    RISSOBARM_RUN_RECORD_SIZE = RISSOBARM_RECORD_HEAD + RISSOBARM_HEAD_SIZE + 2,
+    RISSOBARM_PROCESS_RECORD_SIZE = RISSOBARM_RECORD_HEAD + RISSOBARM_PROCESS_ROW,
+    RISSOBARM_VARIABLE_RECORD_SIZE = RISSOBARM_RECORD_HEAD + RISSOBARM_VARIABLE_ROW
 };
 
 /* What literals and terms hold. */
@@ -166,7 +185,7 @@ enum {
     RISSOBARM_CELL_NUMBER = 1 /* of the constant or variable, 3 bytes; 0 when unbound */
 };
 
-/* Sorts: what a variable row holds, and what the value of a variable is. */
+/* Sorts: what a variable row holds, and what the value of a variable is, as a word or as such a row. */
 enum {
     RISSOBARM_SORT_UNBOUND = 0,  /* of a row alone */
     RISSOBARM_SORT_CONSTANT = 1, /* a constant */
@@ -188,11 +207,11 @@ enum {
     RISSOBARM_STATE = 8,    /* the tables break a table rule, or a lent row has another length */
     RISSOBARM_NODE = 9,     /* there is no such process */
     RISSOBARM_STILL = 10,   /* it has nothing to do */
-    RISSOBARM_ROOM = 11,    /* its move does not fit into the tables any more */
+    RISSOBARM_ROOM = 11,    /* its move does not fit into the tables any more, or a further row has no room for what is written */
     RISSOBARM_NOVAR = 12,   /* the goal has no such variable */
     RISSOBARM_BOUND = 13,   /* the value of that variable is a constant already */
     RISSOBARM_CONST = 14,   /* the value supplied is above RISSOBARM_CONSTANT_LIMIT */
-    RISSOBARM_FOREIGN = 15, /* the saved run is of another image */
+    RISSOBARM_FOREIGN = 15, /* the saved run is one of an image with another length */
     RISSOBARM_TEXT = 16,    /* no text could go on so */
     RISSOBARM_UNDECLARED = 17, /* a relation has no mode line, or a name in use is not in the list */
     RISSOBARM_REFUSAL_COUNT = 17
@@ -260,12 +279,16 @@ enum {
 
 /*
  * Every call answers one 64-bit number. Bits 0-7 hold the refusal number, 0 when the call is accepted. Refusals 1 to 7
- * hold the offset of the refused record in bits 32-63 (0 for LONG, the image's length for NOGOAL). What an accepted
- * call answers stands at the call. Every bit that is not named is 0.
+ * hold the offset of the refused record in bits 32-63 (0 for LONG, the image's length for NOGOAL), in the image or, where that
+ * is accepted by a load, in the other row of records that the call takes. What an accepted call answers stands at the call.
+ * Every bit that is not named is 0.
  *
  * Every call that takes an image tests it first, as the load does, and may refuse with 1 to 7. Then come the lent rows:
- * 8 when one is not of its full length or, in every call but the start, when the tables break a table rule. Tables that
- * keep the rules are taken, whether a run makes them or not.
+ * 8 when one is not of its full length or, in every call but start and resume, when the tables break a table rule. Tables
+ * that keep the rules are taken, whether a run makes them or not.
+ *
+ * A further row may have any length. Where it is shorter than what the call writes into it, the call is refused 11, which is
+ * tested last; bytes behind what is written stay.
  */
 
 /* The refusal number of any answer; RISSOBARM_ACCEPTED for none. */
@@ -342,6 +365,27 @@ static inline uint32_t rissobarm_touched(uint64_t answer)
     return (uint32_t)(answer >> 32);
 }
 
+/* ---- what a step, a turn or a supply has bound ---- */
+
+/*
+ * rissobarm_step, rissobarm_turn and rissobarm_supply with a list of the variables that were bound, in the order in which they
+ * were: their count, then the number of each, all of two bytes. A move that binds none, which is every one but the success of
+ * an input-match or an equate, writes the count 0; a supply writes the one variable that took the binding, which is the value of
+ * the goal variable that was asked for. Words, tables and refusals are those of the plain call; then 11 when bound has no room
+ * for the list.
+ */
+uint64_t rissobarm_step_bound(const uint8_t *image, size_t image_len, uint8_t *head, size_t head_len,
+                              uint8_t *procs, size_t procs_len, uint8_t *vars, size_t vars_len,
+                              uint8_t *bound, size_t bound_len, uint32_t process);
+
+uint64_t rissobarm_turn_bound(const uint8_t *image, size_t image_len, uint8_t *head, size_t head_len,
+                              uint8_t *procs, size_t procs_len, uint8_t *vars, size_t vars_len,
+                              uint8_t *bound, size_t bound_len);
+
+uint64_t rissobarm_supply_bound(const uint8_t *image, size_t image_len, const uint8_t *head, size_t head_len,
+                                const uint8_t *procs, size_t procs_len, uint8_t *vars, size_t vars_len,
+                                uint8_t *bound, size_t bound_len, uint32_t variable, uint32_t value);
+
 /* ---- run ---- */
 
 /*
@@ -366,7 +410,7 @@ static inline uint32_t rissobarm_steps(uint64_t answer)
     return (uint32_t)(answer >> 32);
 }
 
-/* ---- supply and value ---- */
+/* ---- supply, value and values ---- */
 
 /*
  * Binds the value of a goal variable to a constant, between any two steps; it is no step, so that head and processes stay
@@ -395,6 +439,49 @@ static inline uint32_t rissobarm_value_number(uint64_t answer)
 {
     return (uint32_t)(answer >> 32);
 }
+
+/*
+ * Gives the values of all goal variables at once, in the order of their numbers: each as a variable row of
+ * RISSOBARM_VARIABLE_ROW bytes, with the sort that rissobarm_value tells and the number. Accepted: how many they are in bits
+ * 32-63. Refused: 1 to 8, then 11 when values has no room for all.
+ */
+uint64_t rissobarm_values(const uint8_t *image, size_t image_len, const uint8_t *head, size_t head_len,
+                          const uint8_t *procs, size_t procs_len, const uint8_t *vars, size_t vars_len,
+                          uint8_t *values, size_t values_len);
+
+/* How many values were written. */
+static inline uint32_t rissobarm_values_count(uint64_t answer)
+{
+    return (uint32_t)(answer >> 32);
+}
+
+/* ---- save and resume ---- */
+
+/*
+ * Writes the run as a file of records: one of kind RISSOBARM_RECORD_RUN, one of RISSOBARM_RECORD_PROCESS for each process and
+ * one of RISSOBARM_RECORD_VARIABLE for each variable, by number. It holds no pointer and is the same on every machine; equal
+ * runs give equal bytes. Accepted: how many bytes in bits 32-63. Refused: 1 to 8, then 11 when saved has no room for all.
+ */
+uint64_t rissobarm_save(const uint8_t *image, size_t image_len, const uint8_t *head, size_t head_len,
+                        const uint8_t *procs, size_t procs_len, const uint8_t *vars, size_t vars_len,
+                        uint8_t *saved, size_t saved_len);
+
+/* The bytes that a save wrote. */
+static inline uint32_t rissobarm_saved(uint64_t answer)
+{
+    return (uint32_t)(answer >> 32);
+}
+
+/*
+ * Takes a saved run up again: fills all three rows, whatever they held, with zeros where rows are not in use, so that the run
+ * goes on with its image as if it had never stopped. Saved is the whole file and nothing behind it. Accepted: 0. Refused: 1 to
+ * 7 for the image; then for the saved run by record 2; 3, also where the first record is not the only RISSOBARM_RECORD_RUN, or
+ * there is none; 4, for a length that is not the kind's; then 15 when it says another image length; then 8, also for counts
+ * that are not those of the records.
+ */
+uint64_t rissobarm_resume(const uint8_t *image, size_t image_len, uint8_t *head, size_t head_len,
+                          uint8_t *procs, size_t procs_len, uint8_t *vars, size_t vars_len,
+                          const uint8_t *saved, size_t saved_len);
 
 /* ---- text ---- */
 

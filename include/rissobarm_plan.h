@@ -42,11 +42,11 @@ static inline const char *rissobarm_refusal_text(unsigned refusal)
         "STATE: the tables break a table rule, or a lent row has another size",
         "NODE: there is no such process",
         "STILL: no rule applies",
-        "ROOM: the move needs more rows than are left",
+        "ROOM: the move needs more rows than are left, or a further row is too short",
         "NOVAR: the goal has no such variable",
         "BOUND: its value is a constant already",
         "CONST: the value supplied is over 32,767",
-        "FOREIGN: the saved run is of an image of another length",
+        "FOREIGN: the saved run is one of an image with another length",
         "TEXT: no text could go on so",
         "UNDECLARED: a relation has no mode line, or the list lacks a name in use"
     };
@@ -128,6 +128,15 @@ static inline uint64_t rissobarm_plan_start(struct rissobarm_plan *plan, const u
     return rissobarm_start(RISSOBARM_PLAN_LENT(plan));
 }
 
+/* Takes up a saved run of an image, whatever the struct held; where it is refused, the rows are as they were. */
+static inline uint64_t rissobarm_plan_resume(struct rissobarm_plan *plan, const uint8_t *image, size_t image_len,
+                                             const uint8_t *saved, size_t saved_len)
+{
+    plan->image = image;
+    plan->image_len = image_len;
+    return rissobarm_resume(RISSOBARM_PLAN_LENT(plan), saved, saved_len);
+}
+
 /* Makes the move of one process. */
 static inline uint64_t rissobarm_plan_step(struct rissobarm_plan *plan, uint32_t process)
 {
@@ -138,6 +147,19 @@ static inline uint64_t rissobarm_plan_step(struct rissobarm_plan *plan, uint32_t
 static inline uint64_t rissobarm_plan_turn(struct rissobarm_plan *plan)
 {
     return rissobarm_turn(RISSOBARM_PLAN_LENT(plan));
+}
+
+/* Makes the move of one process and lists the variables bound; RISSOBARM_BOUND_SIZE bytes are always enough. */
+static inline uint64_t rissobarm_plan_step_bound(struct rissobarm_plan *plan, uint8_t *bound, size_t bound_len,
+                                                 uint32_t process)
+{
+    return rissobarm_step_bound(RISSOBARM_PLAN_LENT(plan), bound, bound_len, process);
+}
+
+/* Makes the move of the process whose turn it is and lists the variables bound. */
+static inline uint64_t rissobarm_plan_turn_bound(struct rissobarm_plan *plan, uint8_t *bound, size_t bound_len)
+{
+    return rissobarm_turn_bound(RISSOBARM_PLAN_LENT(plan), bound, bound_len);
 }
 
 /*
@@ -169,10 +191,29 @@ static inline uint64_t rissobarm_plan_supply(struct rissobarm_plan *plan, uint32
     return rissobarm_supply(RISSOBARM_PLAN_LENT(plan), variable, value);
 }
 
+/* Binds the value of a goal variable to a constant and lists the variable that took it. */
+static inline uint64_t rissobarm_plan_supply_bound(struct rissobarm_plan *plan, uint8_t *bound, size_t bound_len,
+                                                   uint32_t variable, uint32_t value)
+{
+    return rissobarm_supply_bound(RISSOBARM_PLAN_LENT(plan), bound, bound_len, variable, value);
+}
+
 /* Gives the value of a goal variable. */
 static inline uint64_t rissobarm_plan_value(const struct rissobarm_plan *plan, uint32_t variable)
 {
     return rissobarm_value(RISSOBARM_PLAN_LENT(plan), variable);
+}
+
+/* Writes the values of all goal variables; RISSOBARM_VALUES_SIZE bytes are always enough. */
+static inline uint64_t rissobarm_plan_values(const struct rissobarm_plan *plan, uint8_t *values, size_t values_len)
+{
+    return rissobarm_values(RISSOBARM_PLAN_LENT(plan), values, values_len);
+}
+
+/* Saves the run; RISSOBARM_SAVED_SIZE bytes are always enough. */
+static inline uint64_t rissobarm_plan_save(const struct rissobarm_plan *plan, uint8_t *saved, size_t saved_len)
+{
+    return rissobarm_save(RISSOBARM_PLAN_LENT(plan), saved, saved_len);
 }
 
 /* The lowest suspended process from a number on, told by its own number. */
@@ -187,12 +228,38 @@ static inline uint64_t rissobarm_plan_watch(const struct rissobarm_plan *plan, u
     return rissobarm_watch_found(answer) ? answer + ((uint64_t)from << 32) : answer;
 }
 
-/* ---- what the head of a run tells; these answer the number itself ---- */
+/* ---- what rows tell; these answer the number itself ---- */
 
 /* A number of two bytes, the low one in front. */
 static inline unsigned rissobarm_word_at(const uint8_t *bytes)
 {
     return bytes[0] + 256u * bytes[1];
+}
+
+/* How many variables a list of those bound has. */
+static inline unsigned rissobarm_bound_count(const uint8_t *bound)
+{
+    return rissobarm_word_at(bound);
+}
+
+/* One of them, counted from 0 in the order in which they were bound. */
+static inline unsigned rissobarm_bound_at(const uint8_t *bound, unsigned k)
+{
+    return rissobarm_word_at(bound + 2 + 2 * k);
+}
+
+/* The sort of one of the values that were written. */
+static inline unsigned rissobarm_sort_at(const uint8_t *values, uint32_t variable)
+{
+    return values[variable * RISSOBARM_VARIABLE_ROW + RISSOBARM_CELL_SORT];
+}
+
+/* The constant or variable that it is. */
+static inline uint32_t rissobarm_number_at(const uint8_t *values, uint32_t variable)
+{
+    const uint8_t *number = values + variable * RISSOBARM_VARIABLE_ROW + RISSOBARM_CELL_NUMBER;
+
+    return rissobarm_word_at(number) + 65536u * number[2];
 }
 
 /* The processes made so far. */

@@ -7,7 +7,7 @@
 #include <stdlib.h>
 #include <string.h>
 
-enum { SAVED_MOST = 16 + 28 * RISSOBARM_PROCESS_LIMIT + 8 * RISSOBARM_VARIABLE_LIMIT, PART_LINE = 64 };
+enum { PART_LINE = 64 };
 
 static const char first_line[] = "rissobarm run 1\n";
 
@@ -70,7 +70,7 @@ static void add_part(struct bytes *file, const char *name, const void *bytes, si
 
 void session_save(const struct session *session, const char *path)
 {
-    static uint8_t saved[SAVED_MOST];
+    static uint8_t saved[RISSOBARM_SAVED_SIZE];
     struct bytes file = { NULL, 0, 0 };
     uint64_t answer = rissobarm_save(RISSOBARM_PLAN_LENT(&session->run), saved, sizeof saved);
     char stamp[16];
@@ -82,7 +82,7 @@ void session_save(const struct session *session, const char *path)
     add_part(&file, "names", session->plan.names.at, session->plan.names.length);
     add_part(&file, "text", session->plan.text.at, session->plan.text.length);
     add_part(&file, "stamp", stamp, (size_t)sprintf(stamp, "%u", session->stamp));
-    add_part(&file, "run", saved, (size_t)(answer >> 32));
+    add_part(&file, "run", saved, rissobarm_saved(answer));
     file_write(path, &file);
     free(file.at);
 }

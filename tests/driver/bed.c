@@ -3,6 +3,7 @@
 
 #include "call.h"
 #include "counts.h"
+#include "further.h"
 #include "legal.h"
 #include "properties.h"
 #include "seen.h"
@@ -31,7 +32,7 @@ bool bed_open(struct bed *bed)
     for (k = 0; k < LENT_ROWS; k++)
         if (!row_open(&bed->lent[k]))
             return false;
-    return row_open(&bed->image) && row_open(&bed->wide);
+    return row_open(&bed->image) && row_open(&bed->wide) && row_open(&bed->further);
 }
 
 /* The archive's tables become the reference's. */
@@ -64,6 +65,10 @@ void bed_begin(struct bed *bed, const struct story *story)
                       : ref_accepted(bed->program.relation_count, bed->program.clause_count, 0);
     row_place(&bed->image, story->image.length, standing);
     row_place(&bed->wide, 0, standing);
+    row_place(&bed->further, 0, (standing + LENT_ROWS) % STANDINGS);
+    bed->further_length = UNTOLD;
+    bed->calls = 0;
+    bed->kept.length = 0;
     memcpy(bed->image.bytes, story->image.bytes, story->image.length);
     memset(&bed->ours, MEANINGLESS, sizeof bed->ours);
     for (k = 0; k < LENT_ROWS; k++)
@@ -91,7 +96,7 @@ const struct broken *bed_broken(struct bed *bed)
 static bool change(struct bed *bed, const struct event *event)
 {
     if (event->kind == SIZES) {
-        bed->sizes[event->row] = event->a;
+        *(event->row == THE_FURTHER ? &bed->further_length : &bed->sizes[event->row]) = event->a;
         return true;
     }
     bed->straight = false;
@@ -156,7 +161,7 @@ static bool same_guards(struct bed *bed)
 
 static bool reads_only(unsigned kind)
 {
-    return kind == LOADS || kind == VALUES || kind == WATCHES;
+    return kind == LOADS || kind == VALUES || kind == WATCHES || kind == ALL_VALUES || kind == SAVES;
 }
 
 bool bed_play(struct bed *bed, const struct event *event)
@@ -167,14 +172,15 @@ bool bed_play(struct bed *bed, const struct event *event)
         return change(bed, event);
     entry = entry_of(bed, event);
     bed->before = bed->ours;
+    further_place(bed, event);
     bed->wanted = call_reference(bed, event);
     bed->answer = call_archive(bed, event);
     full_sizes(bed);
-    if (!same_answer(bed) || !same_guards(bed))
+    if (!same_answer(bed) || !same_guards(bed) || !further_right(bed, event))
         return false;
     if (!same_bytes(bed, rissobarm_refusal(bed->answer) != RISSOBARM_ACCEPTED || reads_only(event->kind)))
         return false;
-    if (!entry_right(bed, event, &entry) || !properties_hold(bed, event))
+    if (!entry_right(bed, event, &entry) || !properties_hold(bed, event) || !further_holds(bed, event))
         return false;
     if (counting)
         seen(bed, event, &entry);

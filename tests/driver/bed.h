@@ -7,15 +7,29 @@
 #include "machine.h"
 #include "tablerules.h"
 
-enum { FAULT_ROOM = 400 };
+enum { FAULT_ROOM = 400, UNTOLD = ROW_ROOM + 1 };
+
+/* What was saved last, and the tables then. */
+struct kept {
+    uint8_t bytes[RISSOBARM_SAVED_SIZE];
+    size_t length; /* 0 where nothing was saved */
+    struct rows rows;
+    bool straight, changed, scattered;
+};
 
 struct bed {
     struct row image;              /* the archive's */
     struct row lent[LENT_ROWS];    /* the archive's */
     struct row wide;               /* rows of processes to be watched, more than a table has */
+    struct row further;            /* what a call is lent behind the tables, the archive's */
+    uint8_t beside[ROW_ROOM];      /* the reference's */
+    size_t further_length;         /* of the next call, where it was told */
+    unsigned calls;                /* made so far */
+    bool was_short;                /* whether the last call can have been refused for its further row alone */
     struct rows ours;              /* the reference's */
     struct rows before;            /* both sides' before the last call */
     size_t sizes[LENT_ROWS];       /* the lengths that the next call is lent */
+    struct kept kept;
     const struct image *source;
     uint64_t loaded;               /* what a load answers */
     struct program program;        /* meant only when the image is accepted */

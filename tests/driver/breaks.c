@@ -3,7 +3,7 @@
 
 void poke_byte(struct breaking *breaking, unsigned row, unsigned at, unsigned byte)
 {
-    struct event event = { POKES, (uint8_t)row, at, byte & 255 };
+    struct event event = { POKES, PLAIN, (uint8_t)row, at, byte & 255 };
     uint8_t *bytes = row_bytes(&breaking->rows, row);
 
     if (breaking->count == POKE_ROOM)

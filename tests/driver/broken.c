@@ -11,15 +11,21 @@ static bool go_table_call(struct journey *journey)
     struct random *random = journey->random;
     uint32_t count = process_count(&journey->bed->ours);
 
-    switch (random_below(random, 5)) {
+    switch (random_below(random, 8)) {
     case 0:
-        return go(journey, STEPS, random_below(random, count + 1), 0);
+        return go_move(journey, STEPS, random_below(random, count + 1), 0);
     case 1:
-        return go(journey, TURNS, 0, 0);
+        return go_move(journey, TURNS, 0, 0);
     case 2:
         return go(journey, RUNS, random_below(random, 4), 0);
     case 3:
-        return go(journey, SUPPLIES, random_below(random, 4), random_below(random, 4));
+        return go_move(journey, SUPPLIES, random_below(random, 4), random_below(random, 4));
+    case 4:
+        return go_values(journey);
+    case 5:
+        return go_save(journey);
+    case 6:
+        return go(journey, RESUMES, 0, 1);
     default:
         return go(journey, VALUES, random_below(random, 4), 0);
     }

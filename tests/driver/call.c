@@ -10,6 +10,9 @@
     (bed)->source->bytes, (bed)->source->length, (bed)->ours.head, (bed)->sizes[THE_HEAD], (bed)->ours.procs, \
         (bed)->sizes[THE_PROCS], (bed)->ours.vars, (bed)->sizes[THE_VARS]
 
+#define OUR_FURTHER(bed) (bed)->beside, (bed)->further.length
+#define THEIR_FURTHER(bed) (bed)->further.bytes, (bed)->further.length
+
 #define ROW(bed, row) row_of_length(&(bed)->lent[row], (bed)->sizes[row]), (bed)->sizes[row]
 
 #define THEIRS(bed) \
@@ -43,8 +46,29 @@ static uint64_t watch_archive(struct bed *bed, const struct event *event)
     return memcmp(bed->wide.bytes, wide_rows(event), event->a) == 0 ? answer : UINT64_MAX;
 }
 
+/* The calls with a list of the variables bound. */
+static uint64_t list_reference(struct bed *bed, const struct event *event)
+{
+    if (event->kind == STEPS)
+        return reference_step_bound(OURS(bed), OUR_FURTHER(bed), event->a);
+    if (event->kind == TURNS)
+        return reference_turn_bound(OURS(bed), OUR_FURTHER(bed));
+    return reference_supply_bound(OURS(bed), OUR_FURTHER(bed), event->a, event->b);
+}
+
+static uint64_t list_archive(struct bed *bed, const struct event *event)
+{
+    if (event->kind == STEPS)
+        return rissobarm_step_bound(THEIRS(bed), THEIR_FURTHER(bed), event->a);
+    if (event->kind == TURNS)
+        return rissobarm_turn_bound(THEIRS(bed), THEIR_FURTHER(bed));
+    return rissobarm_supply_bound(THEIRS(bed), THEIR_FURTHER(bed), event->a, event->b);
+}
+
 uint64_t call_reference(struct bed *bed, const struct event *event)
 {
+    if (event->form == LISTED)
+        return list_reference(bed, event);
     switch (event->kind) {
     case LOADS:
         return reference_load(bed->source->bytes, bed->source->length);
@@ -60,6 +84,12 @@ uint64_t call_reference(struct bed *bed, const struct event *event)
         return reference_supply(OURS(bed), event->a, event->b);
     case VALUES:
         return reference_value(OURS(bed), event->a);
+    case ALL_VALUES:
+        return reference_values(OURS(bed), OUR_FURTHER(bed));
+    case SAVES:
+        return reference_save(OURS(bed), OUR_FURTHER(bed));
+    case RESUMES:
+        return reference_resume(OURS(bed), OUR_FURTHER(bed));
     default: /* WATCHES */
         return reference_watch(event->b == 0 ? bed->ours.procs : wide_rows(event), event->a);
     }
@@ -67,6 +97,8 @@ uint64_t call_reference(struct bed *bed, const struct event *event)
 
 uint64_t call_archive(struct bed *bed, const struct event *event)
 {
+    if (event->form == LISTED)
+        return list_archive(bed, event);
     switch (event->kind) {
     case LOADS:
         return rissobarm_load(bed->image.bytes, bed->image.length);
@@ -82,13 +114,41 @@ uint64_t call_archive(struct bed *bed, const struct event *event)
         return rissobarm_supply(THEIRS(bed), event->a, event->b);
     case VALUES:
         return rissobarm_value(THEIRS(bed), event->a);
+    case ALL_VALUES:
+        return rissobarm_values(THEIRS(bed), THEIR_FURTHER(bed));
+    case SAVES:
+        return rissobarm_save(THEIRS(bed), THEIR_FURTHER(bed));
+    case RESUMES:
+        return rissobarm_resume(THEIRS(bed), THEIR_FURTHER(bed));
     default: /* WATCHES */
         return watch_archive(bed, event);
     }
 }
 
+#define BESIDE(bed, rows) \
+    (bed)->image.bytes, (bed)->image.length, (rows)->head, RISSOBARM_HEAD_SIZE, (rows)->procs, RISSOBARM_PROCS_SIZE, \
+        (rows)->vars, RISSOBARM_VARS_SIZE
+
 uint64_t call_turn(const struct bed *bed, struct rows *rows)
 {
-    return rissobarm_turn(bed->image.bytes, bed->image.length, rows->head, RISSOBARM_HEAD_SIZE, rows->procs,
-                          RISSOBARM_PROCS_SIZE, rows->vars, RISSOBARM_VARS_SIZE);
+    return rissobarm_turn(BESIDE(bed, rows));
+}
+
+uint64_t call_plain(const struct bed *bed, const struct event *event, struct rows *rows)
+{
+    if (event->kind == STEPS)
+        return rissobarm_step(BESIDE(bed, rows), event->a);
+    if (event->kind == TURNS)
+        return call_turn(bed, rows);
+    return rissobarm_supply(BESIDE(bed, rows), event->a, event->b);
+}
+
+uint64_t call_value(const struct bed *bed, uint32_t variable)
+{
+    return rissobarm_value(THEIRS(bed), variable);
+}
+
+uint64_t call_save(const struct bed *bed, struct rows *rows, uint8_t *saved, size_t length)
+{
+    return rissobarm_save(BESIDE(bed, rows), saved, length);
 }

@@ -49,7 +49,7 @@ static const char *const refusals[RISSOBARM_REFUSAL_COUNT + 1] = {
     [RISSOBARM_LONG] = "LONG", [RISSOBARM_CUT] = "CUT", [RISSOBARM_KIND] = "KIND", [RISSOBARM_BODY] = "BODY",
     [RISSOBARM_NAME] = "NAME", [RISSOBARM_MANY] = "MANY", [RISSOBARM_NOGOAL] = "NOGOAL", [RISSOBARM_STATE] = "STATE",
     [RISSOBARM_NODE] = "NODE", [RISSOBARM_STILL] = "STILL", [RISSOBARM_ROOM] = "ROOM", [RISSOBARM_NOVAR] = "NOVAR",
-    [RISSOBARM_BOUND] = "BOUND", [RISSOBARM_CONST] = "CONST",
+    [RISSOBARM_BOUND] = "BOUND", [RISSOBARM_CONST] = "CONST", [RISSOBARM_FOREIGN] = "FOREIGN",
 };
 
 static const char *const ends[RISSOBARM_END_COUNT + 1] = {
@@ -77,6 +77,11 @@ static const char *const features[FEATURES] = {
     "turns in which all were watched",
     "plans whose records were all placed",
     "calls let in with tables of pure chance",
+    "further rows that are too short",
+    "further rows with no byte to spare",
+    "saved runs taken up where they were saved",
+    "saved runs taken up in other rows",
+    "damaged saved runs that are still one",
 };
 
 /* A line of the table; false where nothing was seen. */
@@ -153,16 +158,41 @@ static bool tell_shapes(void)
     return enough & tell("tags", 0, "pairs that no rule makes, of 63", "", pairs_seen(), 63);
 }
 
-static void tell_totals(void)
+/* Lists of the variables bound, by how many they name. */
+static bool tell_lists(void)
 {
+    bool enough = true;
     unsigned k;
 
+    for (k = 0; k <= RISSOBARM_ARITY_LIMIT; k++)
+        enough &= tell("bound", k, "variables in one list", "", counts.lists[k], 1);
+    return enough;
+}
+
+/* What became of damaged saved runs: each of their refusals. */
+static bool tell_resumed(void)
+{
+    static const uint8_t expected[] = { RISSOBARM_CUT, RISSOBARM_KIND, RISSOBARM_BODY, RISSOBARM_FOREIGN, RISSOBARM_STATE };
+    bool enough = true;
+    unsigned k;
+
+    for (k = 0; k < sizeof expected; k++)
+        enough &= tell("damaged", expected[k], refusals[expected[k]], "", counts.resumed[expected[k]], 1);
+    return enough;
+}
+
+static void tell_totals(void)
+{
+    unsigned form, k;
+
     printf("%" PRIu64 " cases, %" PRIu64 " images (%" PRIu64 " accepted)\n", counts.cases, counts.images, counts.accepted);
-    printf("%" PRIu64 " calls let in with tables that no run made\n", counts.legal);
+    printf("%" PRIu64 " calls let in with tables that no run made, %" PRIu64 " damaged saved runs\n", counts.legal, counts.damaged);
     printf("%" PRIu64 " steps by number, %" PRIu64 " by turn, %" PRIu64 " in runs\ncalls:", counts.by_number,
            counts.steps - counts.by_number, counts.run_steps);
-    for (k = 0; k < CALLS; k++)
-        printf(" %s %" PRIu64, event_name(k), counts.calls[k]);
+    for (form = 0; form < FORMS; form++)
+        for (k = 0; k < CALLS; k++)
+            if (counts.calls[form][k] > 0)
+                printf(" %s%s %" PRIu64, event_name(k), form_name(form), counts.calls[form][k]);
     printf("\n");
 }
 
@@ -175,6 +205,8 @@ bool counts_tell(uint64_t least_broken)
     enough &= tell_names("seen", features, counts.features, 0, FEATURES);
     enough &= tell_broken(least_broken);
     enough &= tell_shapes();
+    enough &= tell_lists();
+    enough &= tell_resumed();
     tell_totals();
     return enough;
 }

@@ -28,6 +28,11 @@ enum feature {
     SERVED,
     RECORDS_PLACED,
     CHANCE_LET_IN,
+    SHORT_ROW,
+    JUST_ENOUGH,
+    TAKEN_UP,
+    TAKEN_UP_ELSEWHERE,
+    DAMAGED_LET_IN,
     FEATURES
 };
 
@@ -35,10 +40,14 @@ struct counts {
     uint64_t cases;
     uint64_t images;
     uint64_t accepted;              /* images that were loaded */
-    uint64_t calls[CALLS];
+    uint64_t calls[FORMS][CALLS];
+    uint64_t listed;                /* calls with a list of the variables bound */
+    uint64_t lists[RISSOBARM_ARITY_LIMIT + 1]; /* lists by how many they name */
     uint64_t steps;                 /* moves made one by one, by number or by turn */
     uint64_t by_number;             /* those by number */
     uint64_t run_steps;             /* moves made inside runs */
+    uint64_t damaged;               /* saved runs that were damaged */
+    uint64_t resumed[RISSOBARM_REFUSAL_COUNT + 1]; /* what became of them */
     uint64_t refusals[RISSOBARM_REFUSAL_COUNT + 1];
     uint64_t rules[RISSOBARM_RULE_COUNT + 1];
     uint64_t ends[RISSOBARM_END_COUNT + 1];

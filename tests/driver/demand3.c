@@ -68,6 +68,9 @@ bool fair_holds(struct bed *bed, const struct event *event)
 
     if (!bed->fair || !bed->straight)
         return true;
+    /* a run that was taken up where it was saved counts through */
+    if (event->kind == RESUMES && waiting.known)
+        return true;
     if (event->kind == RUNS)
         fair_begin();
     decode(bed, &tables);

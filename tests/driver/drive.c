@@ -3,15 +3,28 @@
 
 #include "counts.h"
 
-bool go_row(struct journey *journey, unsigned kind, unsigned row, uint32_t a, uint32_t b)
+static bool go_event(struct journey *journey, struct event event)
 {
-    struct event event = { (uint8_t)kind, (uint8_t)row, a, b };
     struct story *story = journey->story;
 
     if (story->count == STORY_ROOM)
         return true;
     story->events[story->count++] = event;
     return bed_play(journey->bed, &event);
+}
+
+bool go_row(struct journey *journey, unsigned kind, unsigned row, uint32_t a, uint32_t b)
+{
+    struct event event = { (uint8_t)kind, PLAIN, (uint8_t)row, a, b };
+
+    return go_event(journey, event);
+}
+
+bool go_form(struct journey *journey, unsigned kind, unsigned form, uint32_t a, uint32_t b)
+{
+    struct event event = { (uint8_t)kind, (uint8_t)form, THE_HEAD, a, b };
+
+    return go_event(journey, event);
 }
 
 bool go(struct journey *journey, unsigned kind, uint32_t a, uint32_t b)
@@ -110,6 +123,46 @@ static bool go_size(struct journey *journey)
     return go_row(journey, SIZES, row, sizes[random_below(journey->random, 6)], 0);
 }
 
+/* Now and then tells how long the next further row is: about what is needed, or any length. */
+static bool go_length(struct journey *journey, uint32_t need)
+{
+    uint32_t lengths[6] = { 0, need, need + 1 };
+
+    if (random_once(journey->random, 2))
+        return true;
+    lengths[3] = need > 0 ? need - 1 : 0;
+    lengths[4] = random_below(journey->random, need + 1);
+    lengths[5] = need + random_below(journey->random, need + 64);
+    return go_row(journey, SIZES, THE_FURTHER, lengths[random_below(journey->random, 6)], 0);
+}
+
+bool go_values(struct journey *journey)
+{
+    uint32_t count = bed_accepts(journey->bed) ? journey->bed->program.goal_variables : 0;
+
+    return go_length(journey, count * RISSOBARM_VARIABLE_ROW) &&
+           go(journey, ALL_VALUES, 0, random_once(journey->random, 4));
+}
+
+bool go_save(struct journey *journey)
+{
+    const struct rows *rows = &journey->bed->ours;
+    uint32_t need = RISSOBARM_RUN_RECORD_SIZE;
+
+    if (process_count(rows) <= RISSOBARM_PROCESS_LIMIT && variable_count(rows) <= RISSOBARM_VARIABLE_LIMIT)
+        need += process_count(rows) * RISSOBARM_PROCESS_RECORD_SIZE + variable_count(rows) * RISSOBARM_VARIABLE_RECORD_SIZE;
+    return go_length(journey, need) && go(journey, SAVES, 0, 0);
+}
+
+/* Two of three with a list, its row about as long as some move needs it. */
+bool go_move(struct journey *journey, unsigned kind, uint32_t a, uint32_t b)
+{
+    if (random_once(journey->random, 3))
+        return go(journey, kind, a, b);
+    return go_length(journey, 2 + 2 * random_below(journey->random, RISSOBARM_ARITY_LIMIT + 1)) &&
+           go_form(journey, kind, LISTED, a, kind == SUPPLIES ? b : (uint32_t)random_once(journey->random, 4));
+}
+
 static bool go_run(struct journey *journey)
 {
     uint32_t limit = draw_limit(journey);
@@ -134,40 +187,50 @@ static bool go_supply(struct journey *journey)
 {
     uint32_t variable = draw_variable(journey);
 
-    return go(journey, SUPPLIES, variable, draw_constant(journey));
+    return go_move(journey, SUPPLIES, variable, draw_constant(journey));
 }
 
 bool go_anywhere(struct journey *journey)
 {
-    switch (random_below(journey->random, 8)) {
+    switch (random_below(journey->random, 10)) {
     case 0:
         return go(journey, LOADS, 0, 0);
+    case 8:
+        return go_save(journey);
+    case 9:
+        return go(journey, RESUMES, random_once(journey->random, 2) ? 0 : random_bits(journey->random),
+                  random_once(journey->random, 2));
     case 1:
-        return random_once(journey->random, 4) ? go(journey, STARTS, 0, 0) : go(journey, TURNS, 0, 0);
+        return random_once(journey->random, 4) ? go(journey, STARTS, 0, 0) : go_move(journey, TURNS, 0, 0);
     case 2:
-        return go(journey, TURNS, 0, 0);
+        return go_move(journey, TURNS, 0, 0);
     case 3:
         return go_run(journey);
     case 4:
         return go_supply(journey);
     case 5:
-        return go(journey, VALUES, draw_variable(journey), 0);
+        return random_once(journey->random, 2) ? go_values(journey) : go(journey, VALUES, draw_variable(journey), 0);
     case 6:
         return go_watch(journey);
     default:
-        return go(journey, STEPS, bed_accepts(journey->bed) ? draw_process(journey) : 0, 0);
+        return go_move(journey, STEPS, bed_accepts(journey->bed) ? draw_process(journey) : 0, 0);
     }
 }
 
 /* What is asked only now and then. */
 static bool go_aside(struct journey *journey)
 {
-    switch (random_below(journey->random, 8)) {
+    switch (random_below(journey->random, 10)) {
     case 0:
         return go_size(journey) && go_anywhere(journey);
     case 1:
         return go_anywhere(journey);
+    case 8:
+        return go_save(journey);
+    case 9:
+        return go(journey, RESUMES, 0, 0);
     case 2:
+        return go_values(journey);
     case 3:
         return go(journey, VALUES, draw_variable(journey), 0);
     case 4:
@@ -183,21 +246,21 @@ static bool go_by_temper(struct journey *journey, unsigned temper)
         temper = random_below(journey->random, MIXED);
     switch (temper) {
     case STEPPING:
-        return go(journey, STEPS, draw_process(journey), 0);
+        return go_move(journey, STEPS, draw_process(journey), 0);
     case RUNNING:
         return go_run(journey);
     default:
-        return go(journey, TURNS, 0, 0);
+        return go_move(journey, TURNS, 0, 0);
     }
 }
 
-/* Whether the last answer says that time or values are needed: nothing can move, or there is no room. */
+/* Whether the last answer says that time or values are needed: nothing can move, or there is no room in the tables. */
 static bool stands(const struct bed *bed)
 {
     unsigned refusal = rissobarm_refusal(bed->answer), end = rissobarm_end(bed->answer);
 
     if (refusal != RISSOBARM_ACCEPTED)
-        return refusal == RISSOBARM_STILL || refusal == RISSOBARM_ROOM;
+        return refusal == RISSOBARM_STILL || (refusal == RISSOBARM_ROOM && !bed->was_short);
     return bed->answer % 256 == 0 && end == RISSOBARM_END_WAITING;
 }
 
@@ -208,7 +271,7 @@ static bool look_round(struct journey *journey)
     for (v = 0; v < journey->bed->program.goal_variables; v++)
         if (!go(journey, VALUES, v, 0))
             return false;
-    return go(journey, TURNS, 0, 0) && go(journey, WATCHES, RISSOBARM_PROCS_SIZE, 0);
+    return go_values(journey) && go(journey, TURNS, 0, 0) && go(journey, WATCHES, RISSOBARM_PROCS_SIZE, 0);
 }
 
 bool drive(struct journey *journey, unsigned temper, unsigned events)

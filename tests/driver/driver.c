@@ -18,6 +18,8 @@ struct order {
     uint64_t steps;   /* at least so many steps one by one */
     uint64_t images;  /* at least so many images */
     uint64_t broken;  /* each table rule broken alone at least so often */
+    uint64_t listed;  /* at least so many calls with a list of the variables bound */
+    uint64_t damaged; /* at least so many damaged saved runs */
     unsigned minutes; /* with any of them, as long as this and nothing else */
     unsigned patience; /* the seconds that a case may take */
 };
@@ -44,8 +46,10 @@ static bool play_case(void *context)
     struct journey journey = { &bed, &story, random };
     unsigned sort = random_below(random, 64);
 
-    if (sort < 44)
+    if (sort < 42)
         return story_of_loads(&journey);
+    if (sort < 44)
+        return story_of_nights(&journey);
     if (sort < 55)
         return story_of_a_run(&journey);
     if (sort == 55)
@@ -60,9 +64,10 @@ static bool play_case(void *context)
 static void tell_fault(const char *when, enum trapped came)
 {
     const char *what = came == CRASHED ? "a crash" : came == HUNG ? "no end" : bed.fault;
+    const struct event *last = story.count > 0 ? &story.events[story.count - 1] : NULL;
 
-    printf("%s: event %u (%s): %s\n", when, story.count,
-           story.count > 0 ? event_name(story.events[story.count - 1].kind) : "none", what);
+    printf("%s: event %u (%s%s): %s\n", when, story.count, last == NULL ? "none" : event_name(last->kind),
+           last == NULL ? "" : form_name(last->form), what);
 }
 
 /* Shows what went wrong, as short as it can be made. */
@@ -122,7 +127,8 @@ static bool seek(const struct order *order)
     uint64_t number;
 
     for (number = 0; counts.images < 10 * order->images; number++) {
-        if (counts.images >= order->images && counts.steps >= order->steps && counts_broken(order->broken))
+        if (counts.images >= order->images && counts.steps >= order->steps && counts.listed >= order->listed &&
+            counts.damaged >= order->damaged && counts_broken(order->broken))
             return true;
         if (!right(order, number))
             return false;
@@ -146,6 +152,10 @@ static bool take(struct order *order, const char *word, const char *value)
         order->images = number;
     else if (strcmp(word, "broken") == 0)
         order->broken = number;
+    else if (strcmp(word, "listed") == 0)
+        order->listed = number;
+    else if (strcmp(word, "damaged") == 0)
+        order->damaged = number;
     else if (strcmp(word, "minutes") == 0)
         order->minutes = (unsigned)number;
     else if (strcmp(word, "patience") == 0)
@@ -157,7 +167,7 @@ static bool take(struct order *order, const char *word, const char *value)
 
 int main(int count, char **words)
 {
-    struct order order = { 1, 0, false, 1000000, 200000, 1000, 0, 60 };
+    struct order order = { 1, 0, false, 1000000, 200000, 1000, 1000000, 100000, 0, 60 };
     bool good;
     int k;
 

@@ -3,18 +3,25 @@
 
 #include <stdio.h>
 
-static const char *const names[EVENT_KINDS] = { "load",  "start", "step", "turn", "run",   "supply",
-                                                "value", "watch", "size", "poke", "legal", "scatter" };
-static const char *const rows[] = { "head", "procs", "vars" };
+static const char *const names[EVENT_KINDS] = { "load",  "start",  "step", "turn", "run",   "supply", "value",
+                                                "watch", "values", "save", "resume", "size", "poke", "legal", "scatter" };
+static const char *const rows[] = { "head", "procs", "vars", "further" };
 
 const char *event_name(unsigned kind)
 {
     return names[kind];
 }
 
+const char *form_name(unsigned form)
+{
+    static const char *const forms[FORMS] = { "", "-bound" };
+
+    return forms[form];
+}
+
 void event_print(const struct event *event)
 {
-    const char *name = names[event->kind];
+    const char *name = names[event->kind], *form = form_name(event->form);
 
     switch (event->kind) {
     case SIZES:
@@ -23,18 +30,20 @@ void event_print(const struct event *event)
     case POKES:
         printf("  %s %s %u %u\n", name, rows[event->row], event->a, event->b);
         break;
+    case STEPS:
     case SUPPLIES:
     case RUNS:
     case WATCHES:
     case LEGALS:
     case SCATTERS:
-        printf("  %s %u %u\n", name, event->a, event->b);
+    case ALL_VALUES:
+    case RESUMES:
+        printf("  %s%s %u %u\n", name, form, event->a, event->b);
         break;
-    case STEPS:
     case VALUES:
         printf("  %s %u\n", name, event->a);
         break;
     default:
-        printf("  %s\n", name);
+        printf("  %s%s\n", name, form);
     }
 }

@@ -8,16 +8,19 @@
 #include <stdbool.h>
 #include <stdint.h>
 
-/* The eight calls, then what changes the tables on both sides alike without a call. */
+/* The calls, then what changes the tables on both sides alike without a call. */
 enum event_kind {
     LOADS,
     STARTS,
-    STEPS,    /* a the process */
-    TURNS,
+    STEPS,    /* a the process; b whether, in another form than the plain one, that is made beside it */
+    TURNS,    /* b as for a step */
     RUNS,     /* a the limit, b whether turns are made beside it */
     SUPPLIES, /* a the variable, b the value */
     VALUES,   /* a the variable */
     WATCHES,  /* a the length of the row: the process table or, with b, rows by chance from the seed b */
+    ALL_VALUES, /* b whether each is asked for alone too */
+    SAVES,
+    RESUMES,  /* the run saved last or, with b, the tables at hand as records; damaged by the seed a, whole for 0 */
     CALLS,
     SIZES = CALLS, /* the next call is lent a row with the length a */
     POKES,    /* the byte at a of a row becomes b */
@@ -26,8 +29,16 @@ enum event_kind {
     EVENT_KINDS
 };
 
+/* Forms of a step, a turn or a supply. */
+enum event_form {
+    PLAIN,
+    LISTED, /* with a list of the variables bound */
+    FORMS
+};
+
 struct event {
     uint8_t kind;
+    uint8_t form;
     uint8_t row;
     uint32_t a;
     uint32_t b;
@@ -46,7 +57,8 @@ struct story {
 /* An event as a line of text. */
 void event_print(const struct event *event);
 
-/* The name of a kind of event. */
+/* The name of a kind of event, and of a form. */
 const char *event_name(unsigned kind);
+const char *form_name(unsigned form);
 
 #endif

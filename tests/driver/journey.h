@@ -14,8 +14,12 @@ struct journey {
 /* Puts an event down and plays it; false where something is wrong. */
 bool go(struct journey *journey, unsigned kind, uint32_t a, uint32_t b);
 
-/* The same for an event on one row. */
+/* The same for an event on one row, or in a form. */
 bool go_row(struct journey *journey, unsigned kind, unsigned row, uint32_t a, uint32_t b);
+bool go_form(struct journey *journey, unsigned kind, unsigned form, uint32_t a, uint32_t b);
+
+/* A step, a turn or a supply in any form, its further row of any length. */
+bool go_move(struct journey *journey, unsigned kind, uint32_t a, uint32_t b);
 
 /* How a run is driven. */
 enum temper {
@@ -28,6 +32,12 @@ enum temper {
 
 /* Drives the run by so many events, and looks at every goal variable at the end. */
 bool drive(struct journey *journey, unsigned temper, unsigned events);
+
+/* The values of all variables, into a row of any length. */
+bool go_values(struct journey *journey);
+
+/* A save, into a row of any length. */
+bool go_save(struct journey *journey);
 
 /* One call of any kind with numbers by chance. */
 bool go_anywhere(struct journey *journey);
@@ -42,5 +52,6 @@ bool story_of_records(struct journey *journey);
 bool story_of_legal_tables(struct journey *journey);
 bool story_of_broken_rules(struct journey *journey);
 bool story_of_chance(struct journey *journey);
+bool story_of_nights(struct journey *journey);
 
 #endif

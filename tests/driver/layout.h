@@ -16,8 +16,8 @@ struct rows {
     uint8_t vars[RISSOBARM_VARS_SIZE + SPARE];
 };
 
-/* The rows by number, in the order in which they are lent. */
-enum lent_row { THE_HEAD, THE_PROCS, THE_VARS, LENT_ROWS };
+/* The rows by number, in the order in which they are lent; behind the three of every run the further row of some calls. */
+enum lent_row { THE_HEAD, THE_PROCS, THE_VARS, LENT_ROWS, THE_FURTHER = LENT_ROWS };
 
 static const uint16_t row_sizes[LENT_ROWS] = { RISSOBARM_HEAD_SIZE, RISSOBARM_PROCS_SIZE, RISSOBARM_VARS_SIZE };
 

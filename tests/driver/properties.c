@@ -22,7 +22,7 @@ struct entry entry_of(struct bed *bed, const struct event *event)
 
     if (!entry.tested)
         return entry;
-    if (!bed_accepts(bed) || event->kind == LOADS) {
+    if (!bed_accepts(bed) || event->kind == LOADS || (event->kind == RESUMES && (event->a != 0 || event->b == 0))) {
         entry.refused = bed_accepts(bed) ? 0 : bed->loaded;
         return entry;
     }
@@ -38,7 +38,14 @@ struct entry entry_of(struct bed *bed, const struct event *event)
     return entry;
 }
 
-/* The refusal that the event's own numbers come to, before anything else of the call is looked at. */
+/* The bytes of a saved run. */
+static size_t saved_size(const struct rows *rows)
+{
+    return RISSOBARM_RUN_RECORD_SIZE + process_count(rows) * (size_t)RISSOBARM_PROCESS_RECORD_SIZE +
+           variable_count(rows) * (size_t)RISSOBARM_VARIABLE_RECORD_SIZE;
+}
+
+/* The refusal that the event's own numbers and lengths come to, before anything else of the call is looked at. */
 static unsigned numbers_refused(const struct bed *bed, const struct event *event)
 {
     switch (event->kind) {
@@ -50,20 +57,36 @@ static unsigned numbers_refused(const struct bed *bed, const struct event *event
         return event->b > RISSOBARM_CONSTANT_LIMIT ? RISSOBARM_CONST : RISSOBARM_ACCEPTED;
     case VALUES:
         return event->a >= bed->program.goal_variables ? RISSOBARM_NOVAR : RISSOBARM_ACCEPTED;
+    case SAVES:
+        return bed->further.length < saved_size(&bed->before) ? RISSOBARM_ROOM : RISSOBARM_ACCEPTED;
+    case ALL_VALUES:
+        return bed->further.length < bed->program.goal_variables * (size_t)RISSOBARM_VARIABLE_ROW ? RISSOBARM_ROOM
+                                                                                                  : RISSOBARM_ACCEPTED;
     default:
         return RISSOBARM_ACCEPTED;
     }
 }
 
-/* Whether a call that is let in can have this refusal. */
-static bool refusal_possible(unsigned kind, unsigned refusal)
+/* Whether a refusal is one of a row of records, with the offset of the record. */
+static bool in_records(unsigned refusal)
 {
-    switch (kind) {
+    return refusal == RISSOBARM_CUT || refusal == RISSOBARM_KIND || refusal == RISSOBARM_BODY;
+}
+
+/* Whether a call that is let in can have this refusal. */
+static bool refusal_possible(const struct event *event, unsigned refusal)
+{
+    if (event->form != PLAIN && refusal == RISSOBARM_ROOM)
+        return true;
+    switch (event->kind) {
     case STEPS:
     case TURNS:
         return refusal == RISSOBARM_ACCEPTED || refusal == RISSOBARM_STILL || refusal == RISSOBARM_ROOM;
     case SUPPLIES:
         return refusal == RISSOBARM_ACCEPTED || refusal == RISSOBARM_BOUND;
+    case RESUMES:
+        return refusal == RISSOBARM_ACCEPTED || refusal == RISSOBARM_STATE || refusal == RISSOBARM_FOREIGN ||
+               in_records(refusal);
     default:
         return refusal == RISSOBARM_ACCEPTED;
     }
@@ -85,8 +108,10 @@ bool entry_right(struct bed *bed, const struct event *event, const struct entry 
     numbers = numbers_refused(bed, event);
     if (numbers != RISSOBARM_ACCEPTED)
         return bed->answer == numbers || bed_fault(bed, "refusal %u where the numbers come to %u", refusal, numbers);
-    if (!refusal_possible(event->kind, refusal))
+    if (!refusal_possible(event, refusal))
         return bed_fault(bed, "refusal %u of a call that is let in", refusal);
+    if (event->kind == RESUMES && in_records(refusal))
+        return rissobarm_offset(bed->answer) <= bed->further.length || bed_fault(bed, "an offset behind the saved run");
     return refusal == RISSOBARM_ACCEPTED || bed->answer == refusal || bed_fault(bed, "more than a number in a refusal");
 }
 
@@ -149,7 +174,7 @@ static bool run_is_turns(struct bed *bed, const struct event *event)
 static bool changes_tables(const struct event *event)
 {
     return event->kind == STARTS || event->kind == STEPS || event->kind == TURNS || event->kind == RUNS ||
-           event->kind == SUPPLIES;
+           event->kind == SUPPLIES || event->kind == RESUMES;
 }
 
 /* Whether the answer says that nothing can move. */
@@ -158,6 +183,23 @@ static bool says_still(const struct bed *bed, const struct event *event)
     if (event->kind == TURNS)
         return rissobarm_refusal(bed->answer) == RISSOBARM_STILL;
     return event->kind == RUNS && bed->answer % 65536 == RISSOBARM_END_WAITING << 8;
+}
+
+/* What is known of the tables is what was known when they were saved; of damaged ones nothing. Turns count on in the same tables. */
+static void taken_up(struct bed *bed, const struct event *event)
+{
+    bool going_on = bed->straight && event->a == 0 && memcmp(&bed->before, &bed->ours, sizeof bed->ours) == 0;
+
+    if (event->b == 0) {
+        bed->straight = event->a == 0 && bed->kept.straight;
+        bed->changed = event->a != 0 || bed->kept.changed;
+        bed->scattered = event->a == 0 && bed->kept.scattered;
+    } else {
+        bed->straight = bed->straight && event->a == 0;
+        bed->changed = bed->changed || event->a != 0;
+    }
+    if (!going_on || !bed->straight)
+        fair_begin();
 }
 
 bool properties_hold(struct bed *bed, const struct event *event)
@@ -175,6 +217,8 @@ bool properties_hold(struct bed *bed, const struct event *event)
         bed->scattered = false;
         fair_begin();
     }
+    if (event->kind == RESUMES)
+        taken_up(bed, event);
     if (bed_broken(bed)->count > 0)
         return bed_fault(bed, "the tables left break a rule: %s %s", table_rule_name(bed->broken.first),
                          table_rule_tag(bed->broken.first));

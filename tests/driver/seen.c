@@ -2,6 +2,9 @@
 #include "seen.h"
 
 #include "counts.h"
+#include "further.h"
+
+#include <string.h>
 
 /* The most that one move makes: children for a committed body's literals, variables for the clauses of a block. */
 enum {
@@ -59,7 +62,7 @@ static void seen_room(const struct bed *bed, const struct event *event)
     unsigned processes = RISSOBARM_PROCESS_LIMIT - process_count(&bed->ours);
     unsigned variables = RISSOBARM_VARIABLE_LIMIT - variable_count(&bed->ours);
 
-    if (event->kind != STEPS)
+    if (event->kind != STEPS || bed->was_short)
         return;
     counts.features[NO_VARIABLE_LEFT] += processes >= MOST_CHILDREN;
     counts.features[NO_PROCESS_LEFT] += variables >= MOST_VARIABLES;
@@ -95,6 +98,15 @@ static void seen_refusal(const struct bed *bed, const struct event *event, const
         counts.broken[entry->first]++;
 }
 
+static void seen_resume(const struct bed *bed, const struct event *event)
+{
+    bool same = memcmp(&bed->before, &bed->ours, sizeof bed->ours) == 0;
+
+    counts.features[TAKEN_UP] += event->a == 0 && event->b == 0 && same;
+    counts.features[TAKEN_UP_ELSEWHERE] += event->a == 0 && event->b == 0 && !same;
+    counts.features[DAMAGED_LET_IN] += event->a != 0;
+}
+
 static void seen_accepted(const struct bed *bed, const struct event *event)
 {
     switch (event->kind) {
@@ -110,6 +122,9 @@ static void seen_accepted(const struct bed *bed, const struct event *event)
         counts.features[SUPPLY_AT_END] += bed->ours.procs[RISSOBARM_ROW_MODE] == RISSOBARM_MODE_DORMANT;
         counts.features[WOKEN_BY_SUPPLY] += wakes_somebody(bed);
         break;
+    case RESUMES:
+        seen_resume(bed, event);
+        break;
     default:
         break;
     }
@@ -117,7 +132,12 @@ static void seen_accepted(const struct bed *bed, const struct event *event)
 
 void seen(const struct bed *bed, const struct event *event, const struct entry *entry)
 {
-    counts.calls[event->kind]++;
+    counts.calls[event->form][event->kind]++;
+    counts.listed += event->form == LISTED;
+    if (event->kind == RESUMES && event->a != 0) {
+        counts.damaged++;
+        counts.resumed[rissobarm_refusal(bed->answer)]++;
+    }
     counts.features[LONGEST_IMAGE] += event->kind == LOADS && bed->source->length == RISSOBARM_IMAGE_LIMIT;
     if (rissobarm_refusal(bed->answer) != RISSOBARM_ACCEPTED) {
         seen_refusal(bed, event, entry);
@@ -128,5 +148,8 @@ void seen(const struct bed *bed, const struct event *event, const struct entry *
         counts.features[CHANCE_LET_IN] += bed->scattered;
     }
     counts.by_number += event->kind == STEPS;
+    counts.features[JUST_ENOUGH] += further_lent(event) && bed->further.length == further_written(bed, event);
+    if (event->form == LISTED)
+        counts.lists[word_at(bed->further.bytes)]++;
     seen_accepted(bed, event);
 }

@@ -71,6 +71,62 @@ static void try_waiting(void)
     hold("turn refused", rissobarm_refusal(rissobarm_plan_turn(&run)) == RISSOBARM_STILL);
 }
 
+/* The values of all variables, written as rows: open, then a constant; a row that is too short is left as it is. */
+static void try_values(void)
+{
+    uint8_t values[RISSOBARM_VALUES_SIZE] = { 9, 9, 9, 9, 9 };
+
+    rissobarm_plan_start(&run, waits, sizeof waits);
+    hold("values: too short", rissobarm_refusal(rissobarm_plan_values(&run, values, 3)) == RISSOBARM_ROOM && values[0] == 9);
+    hold("values", rissobarm_values_count(rissobarm_plan_values(&run, values, sizeof values)) == 1);
+    hold("values: open", rissobarm_sort_at(values, 0) == RISSOBARM_SORT_VARIABLE && rissobarm_number_at(values, 0) == 0);
+    hold("values: the byte behind", values[4] == 9);
+    rissobarm_plan_supply(&run, 0, RISSOBARM_CONSTANT_LIMIT);
+    hold("values: just enough", rissobarm_values_count(rissobarm_plan_values(&run, values, 4)) == 1);
+    hold("values: a constant", rissobarm_sort_at(values, 0) == RISSOBARM_SORT_CONSTANT);
+    hold("values: its number", rissobarm_number_at(values, 0) == RISSOBARM_CONSTANT_LIMIT);
+}
+
+/* The variables bound: none by a suspension, one by the supply; without room for the list nothing moves. */
+static void try_bound(void)
+{
+    uint8_t bound[RISSOBARM_BOUND_SIZE] = { 9, 9, 9 };
+    uint64_t step;
+
+    rissobarm_plan_start(&run, waits, sizeof waits);
+    hold("bound: too short", rissobarm_refusal(rissobarm_plan_turn_bound(&run, bound, 1)) == RISSOBARM_ROOM);
+    hold("bound: nothing moves", rissobarm_plan_steps(&run) == 0 && bound[0] == 9);
+    step = rissobarm_plan_step_bound(&run, bound, 2, 0);
+    hold("bound: by a step", rissobarm_rule(step) == RISSOBARM_RULE_OR_PAR_START && rissobarm_bound_count(bound) == 0);
+    hold("bound: the byte behind", bound[2] == 9);
+    rissobarm_plan_run(&run, LARGE_LIMIT);
+    hold("bound: nothing moves any more", rissobarm_plan_turn_bound(&run, bound, 0) == RISSOBARM_STILL);
+    hold("bound: by a supply", rissobarm_plan_supply_bound(&run, bound, sizeof bound, 0, 1) == RISSOBARM_ACCEPTED);
+    hold("bound: the goal's variable", rissobarm_bound_count(bound) == 1 && rissobarm_bound_at(bound, 0) == 0);
+}
+
+/* A run is saved, goes on, and is taken up again in other rows; then both come to the same end. */
+static void try_saved(void)
+{
+    static uint8_t saved[RISSOBARM_SAVED_SIZE];
+    uint32_t size;
+
+    rissobarm_plan_start(&run, waits, sizeof waits);
+    rissobarm_plan_run(&run, LARGE_LIMIT);
+    size = rissobarm_saved(rissobarm_plan_save(&run, saved, sizeof saved));
+    hold("saved: its size", size == RISSOBARM_RUN_RECORD_SIZE + 6 * RISSOBARM_PROCESS_RECORD_SIZE + RISSOBARM_VARIABLE_RECORD_SIZE);
+    hold("saved: no room", rissobarm_refusal(rissobarm_plan_save(&run, saved, size - 1)) == RISSOBARM_ROOM);
+    memset(&other, 9, sizeof other);
+    hold("saved: taken up", rissobarm_plan_resume(&other, waits, sizeof waits, saved, size) == RISSOBARM_ACCEPTED);
+    hold("saved: the same rows", same_rows());
+    rissobarm_plan_supply(&run, 0, 1);
+    rissobarm_plan_supply(&other, 0, 1);
+    hold("saved: the same end", rissobarm_plan_run(&run, LARGE_LIMIT) == rissobarm_plan_run(&other, LARGE_LIMIT));
+    hold("saved: the same rows at the end", same_rows());
+    hold("saved: foreign", rissobarm_plan_resume(&other, fills, sizeof fills, saved, size) == RISSOBARM_FOREIGN);
+    hold("saved: cut", rissobarm_refusal(rissobarm_plan_resume(&other, waits, sizeof waits, saved, size - 1)) == RISSOBARM_CUT);
+}
+
 static void try_room(void)
 {
     rissobarm_plan_start(&run, fills, sizeof fills);
@@ -89,6 +145,9 @@ static void try_refused(void)
     hold("turn refused too", rissobarm_plan_turn(&run) == answer);
     hold("supply refused", rissobarm_plan_supply(&run, 0, 1) == answer);
     hold("value refused", rissobarm_plan_value(&run, 0) == answer);
+    hold("turn with a list refused", rissobarm_plan_turn_bound(&run, other.vars, 0) == answer);
+    hold("save refused", rissobarm_plan_save(&run, other.vars, 0) == answer);
+    hold("values refused", rissobarm_plan_values(&run, other.vars, 0) == answer);
 }
 
 /* The long run by the calls themselves, a thousand steps at a time. */
@@ -140,6 +199,9 @@ static void try_long(void)
 int main(void)
 {
     try_waiting();
+    try_values();
+    try_bound();
+    try_saved();
     try_room();
     try_refused();
     try_long();

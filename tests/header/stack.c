@@ -11,9 +11,13 @@
 #include <ucontext.h>
 
 enum { STACK_ROOM = 262144, PAINT = 0xA5, IMAGES = 20, LARGE_RUN = 5000 };
-enum deed { NOTHING, LOAD, START, STEP, TURN, RUN, SUPPLY, VALUE, WATCH, DEEDS };
+enum deed {
+    NOTHING, LOAD, START, STEP, TURN, RUN, SUPPLY, VALUE, WATCH, VALUES, STEP_BOUND, TURN_BOUND, SUPPLY_BOUND, SAVE, RESUME, DEEDS
+};
 
-static const char *const names[DEEDS] = { "nothing", "load", "start", "step", "turn", "run", "supply", "value", "watch" };
+static const char *const names[DEEDS] = { "nothing", "load",   "start", "step",  "turn",
+                                          "run",     "supply", "value", "watch", "values",
+                                          "step with a list",  "turn with a list", "supply with a list", "save", "resume" };
 
 static uint8_t stack[STACK_ROOM];
 static ucontext_t here, there;
@@ -21,6 +25,7 @@ static struct rissobarm_plan plan;
 static struct image image;
 static enum deed next;
 static uint64_t answer;
+static uint8_t further[RISSOBARM_SAVED_SIZE];
 static size_t most[DEEDS];
 
 /* Makes the call that is next; the same frame for each, so that what nothing takes can be taken off. */
@@ -34,6 +39,15 @@ static void make(void)
     case RUN: answer = rissobarm_run(RISSOBARM_PLAN_LENT(&plan), LARGE_RUN); break;
     case SUPPLY: answer = rissobarm_supply(RISSOBARM_PLAN_LENT(&plan), 0, 1); break;
     case VALUE: answer = rissobarm_value(RISSOBARM_PLAN_LENT(&plan), 0); break;
+    case STEP_BOUND:
+        answer = rissobarm_step_bound(RISSOBARM_PLAN_LENT(&plan), further, sizeof further,
+                                      rissobarm_word_at(plan.head + RISSOBARM_HEAD_LAST));
+        break;
+    case TURN_BOUND: answer = rissobarm_turn_bound(RISSOBARM_PLAN_LENT(&plan), further, sizeof further); break;
+    case SUPPLY_BOUND: answer = rissobarm_supply_bound(RISSOBARM_PLAN_LENT(&plan), further, sizeof further, 0, 1); break;
+    case SAVE: answer = rissobarm_save(RISSOBARM_PLAN_LENT(&plan), further, sizeof further); break;
+    case RESUME: answer = rissobarm_resume(RISSOBARM_PLAN_LENT(&plan), further, rissobarm_saved(answer)); break;
+    case VALUES: answer = rissobarm_values(RISSOBARM_PLAN_LENT(&plan), further, sizeof further); break;
     case WATCH: answer = rissobarm_watch(plan.procs, sizeof plan.procs); break;
     default: break;
     }
@@ -64,8 +78,13 @@ static void measure_all(void)
     measure(NOTHING);
     measure(LOAD);
     measure(VALUE);
+    measure(VALUES);
     measure(WATCH);
     measure(STEP);
+    measure(SAVE);
+    measure(RESUME); /* of what was just saved */
+    measure(STEP_BOUND);
+    measure(SUPPLY_BOUND);
     measure(SUPPLY);
 }
 
@@ -77,7 +96,7 @@ static void measure_image(struct random *random)
     image_by_recipe(&image, random, &full_recipe);
     rissobarm_plan_start(&plan, image.bytes, image.length);
     do {
-        measure(TURN);
+        measure(turns % 2 == 0 ? TURN : TURN_BOUND);
     } while (rissobarm_refusal(answer) == RISSOBARM_ACCEPTED && ++turns < LARGE_RUN);
     measure_all();
     measure(START);

@@ -44,6 +44,7 @@ enum refusal {
     REFUSED_NOVAR = 12,
     REFUSED_BOUND = 13,
     REFUSED_CONST = 14,
+    REFUSED_FOREIGN = 15,
     REFUSED_TEXT = 16,
     REFUSED_UNDECLARED = 17
 };
@@ -222,6 +223,8 @@ struct move {
     unsigned rule;
     bool touches_variable;
     uint32_t touched;
+    unsigned bound_count;
+    uint32_t bound[ARITY_LIMIT]; /* the variables bound, in the order of the unifier */
 };
 
 /* load.c */
@@ -235,8 +238,11 @@ unsigned ref_goal_tag(const struct goal *goal);
 const struct goal *ref_goal_at(const struct program *program, const struct place *place);
 const struct literal *ref_literal_at(const struct program *program, const struct place *place);
 bool ref_full_size(const struct lent *lent);
+void ref_put16(uint8_t *bytes, unsigned number);
+uint16_t ref_get16(const uint8_t *bytes);
 void ref_decode(const struct lent *lent, struct tables *tables);
 void ref_encode(const struct tables *tables, const struct lent *lent);
+void ref_encode_variable(struct term binding, uint8_t *row);
 bool ref_keeps_rules(const struct program *program, const struct tables *tables);
 
 /* unify.c */
@@ -247,6 +253,14 @@ bool ref_unify(struct unifier *unifier, struct term left, struct term right);
 /* rules.c */
 unsigned ref_rule(const struct program *program, const struct tables *tables, unsigned number);
 struct move ref_move(const struct program *program, struct tables *tables, unsigned number);
+
+/* run.c */
+struct verdict ref_open(const uint8_t *image, size_t image_len, const struct lent *lent, struct program *program,
+                        struct tables *tables);
+struct move ref_step(const struct program *p, struct tables *t, unsigned number);
+bool ref_next_in_turn(const struct program *p, const struct tables *t, unsigned *number);
+unsigned ref_supply(const struct program *p, struct tables *t, uint32_t variable, uint32_t value, uint32_t *bound);
+uint64_t ref_move_answer(struct move move);
 
 /* The 64-bit answers. */
 

@@ -1,26 +1,9 @@
 /* The marked runs: each case drives the calls, prints one line, and counts as passed or failed. */
-#include "reference.h"
+#include "marked.h"
 
-#include <stdbool.h>
 #include <stdio.h>
-#include <string.h>
 
-enum { LIMIT = 60000, SUCCESS = 1, FAILURE = 2, WAITING = 3, ROOM = 4, BUDGET = 5 };
-
-/* A run: the image and the three tables. */
-struct run {
-    const uint8_t *image;
-    size_t length;
-    uint8_t head[REFERENCE_HEAD_SIZE];
-    uint8_t procs[REFERENCE_PROCS_SIZE];
-    uint8_t vars[REFERENCE_VARS_SIZE];
-};
-
-#define IMAGE(r) (r)->image, (r)->length
-#define TABLES(r) (r)->head, sizeof (r)->head, (r)->procs, sizeof (r)->procs, (r)->vars, sizeof (r)->vars
-#define WITH(array) (array), sizeof(array)
-
-static struct run run;
+struct run run;
 static unsigned passed, failed;
 static unsigned last_end; /* how the run last driven ended */
 
@@ -32,7 +15,7 @@ static unsigned last_end; /* how the run last driven ended */
 #define P_GOAL 0x09, 0, 3, 0, 0, 1, 1, 0, 0
 
 static const uint8_t empty_goal[] = { 0x06, 0, 3, 0, 0, 0 };
-static const uint8_t one_is_one[] = { 0x0D, 0, 3, 0, 0, 1, 1, 0xFF, 2, 1, 0, 1, 0 };
+const uint8_t one_is_one[13] = { 0x0D, 0, 3, 0, 0, 1, 1, 0xFF, 2, 1, 0, 1, 0 };
 static const uint8_t one_is_two[] = { 0x0D, 0, 3, 0, 0, 1, 1, 0xFF, 2, 1, 0, 2, 0 };
 static const uint8_t p_alone[] = { P_RELATION, P_GOAL };
 static const uint8_t p_fact[] = { P_RELATION, P_FACT, P_GOAL };
@@ -41,14 +24,14 @@ static const uint8_t no_image[] = { 0 };
 static const uint8_t cut_image[] = { 0x03, 0, 3, 0 };
 
 /* mode q(?), fact q(1), goal q(A) */
-static const uint8_t q_one[] = {
+const uint8_t q_one[29] = {
     0x06, 0, 1, 0, 1, 0,
     0x0C, 0, 2, 0, 0, 1, 0, 0, 1, 0, 0, 0,
     0x0B, 0, 3, 0, 1, 1, 1, 0, 1, 0, 0x80,
 };
 
 /* mode t(?,?), fact t(X,X), goal t(A,B) */
-static const uint8_t t_pair[] = {
+const uint8_t t_pair[34] = {
     0x07, 0, 1, 0, 2, 0, 0,
     0x0E, 0, 2, 0, 0, 2, 0, 1, 0, 0x80, 0, 0x80, 0, 0,
     0x0D, 0, 3, 0, 2, 1, 1, 0, 2, 0, 0x80, 1, 0x80,
@@ -62,7 +45,7 @@ static const uint8_t t_triple[] = {
 };
 
 /* mode s(^), fact s(5), goal s(A) */
-static const uint8_t s_five[] = {
+const uint8_t s_five[29] = {
     0x06, 0, 1, 0, 1, 1,
     0x0C, 0, 2, 0, 0, 1, 0, 0, 5, 0, 0, 0,
     0x0B, 0, 3, 0, 1, 1, 1, 0, 1, 0, 0x80,
@@ -83,32 +66,32 @@ static const uint8_t p_guarded[] = {
 
 /* Taking answers and tables apart. */
 
-static unsigned refusal_of(uint64_t answer)
+unsigned refusal_of(uint64_t answer)
 {
     return answer & 255;
 }
 
-static unsigned bits8(uint64_t answer)
+unsigned bits8(uint64_t answer)
 {
     return answer >> 8 & 255;
 }
 
-static unsigned bits32(uint64_t answer)
+unsigned bits32(uint64_t answer)
 {
     return (unsigned)(answer >> 32);
 }
 
-static unsigned number_at(const uint8_t *bytes)
+unsigned number_at(const uint8_t *bytes)
 {
     return bytes[0] + 256u * bytes[1];
 }
 
-static unsigned processes(void)
+unsigned processes(void)
 {
     return number_at(run.head);
 }
 
-static unsigned total_steps(void)
+unsigned total_steps(void)
 {
     return number_at(run.head + 6) + 65536u * number_at(run.head + 8);
 }
@@ -147,7 +130,7 @@ static const char *end_name(unsigned end)
 
 /* Driving a run. */
 
-static void begin(const uint8_t *image, size_t length)
+void begin(const uint8_t *image, size_t length)
 {
     run.image = image;
     run.length = length;
@@ -157,7 +140,7 @@ static void begin(const uint8_t *image, size_t length)
     reference_start(IMAGE(&run), TABLES(&run));
 }
 
-static uint64_t go(unsigned limit)
+uint64_t go(unsigned limit)
 {
     uint64_t answer = reference_run(IMAGE(&run), TABLES(&run), (uint16_t)limit);
 
@@ -165,22 +148,22 @@ static uint64_t go(unsigned limit)
     return answer;
 }
 
-static uint64_t turn(void)
+uint64_t turn(void)
 {
     return reference_turn(IMAGE(&run), TABLES(&run));
 }
 
-static unsigned supply(unsigned variable, unsigned value)
+unsigned supply(unsigned variable, unsigned value)
 {
     return refusal_of(reference_supply(IMAGE(&run), TABLES(&run), variable, value));
 }
 
-static uint64_t value(unsigned variable)
+uint64_t value(unsigned variable)
 {
     return reference_value(IMAGE(&run), TABLES(&run), variable);
 }
 
-static void say(const char *name, bool good, const char *what)
+void say(const char *name, bool good, const char *what)
 {
     printf("%-28s %s  %s\n", name, good ? "ok    " : "FAILED", what);
     if (good)
@@ -200,7 +183,7 @@ static bool ends(unsigned steps, unsigned end)
 }
 
 /* Says how a case came out together with where its run stands. */
-static void say_run(const char *name, bool good)
+void say_run(const char *name, bool good)
 {
     char what[80];
 
@@ -386,6 +369,25 @@ static void commit_case(void)
     say_run("commit beside a guard", good && ends(29, SUCCESS) && processes() == 16);
 }
 
+/* A row for each goal variable, the bytes behind as they were; a row that is one byte short is refused. */
+static void values_case(void)
+{
+    const uint8_t expected[12] = { 1, 7, 0, 0, 2, 1, 0, 0, 0xAA, 0xAA, 0xAA, 0xAA };
+    uint8_t values[12];
+    struct run before;
+    bool good;
+
+    begin(WITH(t_pair));
+    memset(values, 0xAA, sizeof values);
+    good = bits8(go(LIMIT)) == WAITING && supply(0, 7) == 0;
+    before = run;
+    good = good && reference_values(IMAGE(&run), TABLES(&run), values, 7) == 11 && values[0] == 0xAA;
+    good = good && reference_values(IMAGE(&run), TABLES(&run), WITH(values)) == (uint64_t)2 << 32;
+    good = good && memcmp(values, expected, sizeof values) == 0 && memcmp(&before, &run, sizeof run) == 0;
+    good = good && reference_values(IMAGE(&run), run.head, 9, run.procs, 0, run.vars, 0, values, 0) == 8;
+    say_run("values of t(A,B), A = 7", good);
+}
+
 static void watch_case(void)
 {
     bool good;
@@ -410,7 +412,10 @@ int main(void)
     refusal_case();
     family_case();
     commit_case();
+    values_case();
     watch_case();
+    bound_cases();
+    saved_cases();
     printf("marked: %u as told, %u not\n", passed, failed);
     return failed == 0 ? 0 : 1;
 }

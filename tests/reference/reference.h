@@ -43,10 +43,36 @@ uint64_t reference_supply(const uint8_t *image, size_t image_len, uint8_t *head,
                           uint8_t *procs, size_t procs_len, uint8_t *vars, size_t vars_len,
                           uint32_t variable, uint32_t value);
 
+/* Step, turn and supply with a list of the variables bound: their count, then each, two bytes each; answers as theirs. */
+uint64_t reference_step_bound(const uint8_t *image, size_t image_len, uint8_t *head, size_t head_len,
+                              uint8_t *procs, size_t procs_len, uint8_t *vars, size_t vars_len,
+                              uint8_t *bound, size_t bound_len, uint32_t process);
+uint64_t reference_turn_bound(const uint8_t *image, size_t image_len, uint8_t *head, size_t head_len,
+                              uint8_t *procs, size_t procs_len, uint8_t *vars, size_t vars_len,
+                              uint8_t *bound, size_t bound_len);
+uint64_t reference_supply_bound(const uint8_t *image, size_t image_len, uint8_t *head, size_t head_len,
+                                uint8_t *procs, size_t procs_len, uint8_t *vars, size_t vars_len,
+                                uint8_t *bound, size_t bound_len, uint32_t variable, uint32_t value);
+
 /* Accepted: sort in bits 8-15 (1 constant, 2 variable), its number in bits 32-63. */
 uint64_t reference_value(const uint8_t *image, size_t image_len, uint8_t *head, size_t head_len,
                          uint8_t *procs, size_t procs_len, uint8_t *vars, size_t vars_len,
                          uint32_t variable);
+
+/* Accepted: a variable row (sort and number) for the value of each goal variable, how many in bits 32-63. */
+uint64_t reference_values(const uint8_t *image, size_t image_len, uint8_t *head, size_t head_len,
+                          uint8_t *procs, size_t procs_len, uint8_t *vars, size_t vars_len,
+                          uint8_t *values, size_t values_len);
+
+/* Writes the run as records of kinds 16, 17 and 18. Accepted: how many bytes in bits 32-63. */
+uint64_t reference_save(const uint8_t *image, size_t image_len, uint8_t *head, size_t head_len,
+                        uint8_t *procs, size_t procs_len, uint8_t *vars, size_t vars_len,
+                        uint8_t *saved, size_t saved_len);
+
+/* Fills all three tables with a saved run; refusals 2, 3 and 4 hold the offset of its record. */
+uint64_t reference_resume(const uint8_t *image, size_t image_len, uint8_t *head, size_t head_len,
+                          uint8_t *procs, size_t procs_len, uint8_t *vars, size_t vars_len,
+                          const uint8_t *saved, size_t saved_len);
 
 /* Refuses nothing: 1 in bits 8-15 when some row is suspended, the lowest such number in bits 32-63. */
 uint64_t reference_watch(const uint8_t *procs, size_t procs_len);

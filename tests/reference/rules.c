@@ -431,6 +431,17 @@ static void bind(struct tables *t, const struct attempt *a)
         t->variables[a->unifier.changes[k].variable] = a->unifier.changes[k].value;
 }
 
+/* Only what binds has bound something: no list where the unification suspended or failed. */
+static void list_bound(struct move *move, const struct attempt *a)
+{
+    unsigned k;
+
+    if (move->rule != INPUT_MATCH_SUCCESS && move->rule != EQUATE_SUCCESS)
+        return;
+    for (k = 0; k < a->unifier.count; k++)
+        move->bound[move->bound_count++] = a->unifier.changes[k].variable;
+}
+
 static void suspend(struct process *me, const struct attempt *a)
 {
     me->mode = SUSPENDED;
@@ -580,7 +591,7 @@ static bool unifies(unsigned rule)
 /* Makes the move of a process; a refused one leaves the tables alone. */
 struct move ref_move(const struct program *program, struct tables *tables, unsigned number)
 {
-    struct move move = { ACCEPTED, ref_rule(program, tables, number), false, number };
+    struct move move = { ACCEPTED, ref_rule(program, tables, number), false, number, 0, { 0 } };
     struct need need = need_of(program, &tables->processes[number], move.rule);
     struct attempt a;
 
@@ -594,6 +605,7 @@ struct move ref_move(const struct program *program, struct tables *tables, unsig
     if (unifies(move.rule))
         a = attempt(program, tables, number);
     touch(&move, tables, need, &a);
+    list_bound(&move, &a);
     make_children(program, tables, number, move.rule);
     change_tables(tables, number, move.rule, &a);
     if (reported[move.rule] != NONE)

@@ -1,12 +1,12 @@
-/* The calls on a run: step, turn, run, supply, value, watch. */
+/* The calls on a run: step, turn, run, supply, value, values, watch. */
 #include "machine.h"
 #include "reference.h"
 
 enum end { END_SUCCESS = 1, END_FAILURE = 2, END_WAITING = 3, END_ROOM = 4, END_BUDGET = 5 };
 
 /* Tests image and tables and decodes both; offset 0 goes with a refusal for the tables. */
-static struct verdict open_run(const uint8_t *image, size_t image_len, const struct lent *lent,
-                               struct program *program, struct tables *tables)
+struct verdict ref_open(const uint8_t *image, size_t image_len, const struct lent *lent, struct program *program,
+                        struct tables *tables)
 {
     struct verdict verdict = ref_load(image, image_len, program);
 
@@ -23,7 +23,7 @@ static struct verdict open_run(const uint8_t *image, size_t image_len, const str
 }
 
 /* Moves a process and, where that is not refused, sets the turn marker. */
-static struct move step(const struct program *p, struct tables *t, unsigned number)
+struct move ref_step(const struct program *p, struct tables *t, unsigned number)
 {
     struct move move = ref_move(p, t, number);
 
@@ -36,7 +36,7 @@ static struct move step(const struct program *p, struct tables *t, unsigned numb
 }
 
 /* The first process that can move after the one last stepped, that one being tried last; false if there is none. */
-static bool next_in_turn(const struct program *p, const struct tables *t, unsigned *number)
+bool ref_next_in_turn(const struct program *p, const struct tables *t, unsigned *number)
 {
     unsigned k;
 
@@ -48,7 +48,7 @@ static bool next_in_turn(const struct program *p, const struct tables *t, unsign
     return false;
 }
 
-static uint64_t move_answer(struct move move)
+uint64_t ref_move_answer(struct move move)
 {
     if (move.refusal != ACCEPTED)
         return ref_refused(move.refusal, 0);
@@ -62,17 +62,17 @@ uint64_t reference_step(const uint8_t *image, size_t image_len, uint8_t *head, s
     struct lent lent = { head, head_len, procs, procs_len, vars, vars_len };
     struct program program;
     struct tables tables;
-    struct verdict verdict = open_run(image, image_len, &lent, &program, &tables);
+    struct verdict verdict = ref_open(image, image_len, &lent, &program, &tables);
     struct move move;
 
     if (verdict.refusal != ACCEPTED)
         return ref_refused(verdict.refusal, verdict.offset);
     if (process >= tables.process_count)
         return ref_refused(REFUSED_NODE, 0);
-    move = step(&program, &tables, process);
+    move = ref_step(&program, &tables, process);
     if (move.refusal == ACCEPTED)
         ref_encode(&tables, &lent);
-    return move_answer(move);
+    return ref_move_answer(move);
 }
 
 uint64_t reference_turn(const uint8_t *image, size_t image_len, uint8_t *head, size_t head_len,
@@ -81,18 +81,18 @@ uint64_t reference_turn(const uint8_t *image, size_t image_len, uint8_t *head, s
     struct lent lent = { head, head_len, procs, procs_len, vars, vars_len };
     struct program program;
     struct tables tables;
-    struct verdict verdict = open_run(image, image_len, &lent, &program, &tables);
+    struct verdict verdict = ref_open(image, image_len, &lent, &program, &tables);
     struct move move;
     unsigned number;
 
     if (verdict.refusal != ACCEPTED)
         return ref_refused(verdict.refusal, verdict.offset);
-    if (!next_in_turn(&program, &tables, &number))
+    if (!ref_next_in_turn(&program, &tables, &number))
         return ref_refused(REFUSED_STILL, 0);
-    move = step(&program, &tables, number);
+    move = ref_step(&program, &tables, number);
     if (move.refusal == ACCEPTED)
         ref_encode(&tables, &lent);
-    return move_answer(move);
+    return ref_move_answer(move);
 }
 
 /* Turns until an end; made counts the moves. */
@@ -105,11 +105,11 @@ static unsigned run_to_end(const struct program *p, struct tables *t, unsigned l
 
         if (root->mode == DORMANT)
             return root->result == SUCCESS ? END_SUCCESS : END_FAILURE;
-        if (!next_in_turn(p, t, &number))
+        if (!ref_next_in_turn(p, t, &number))
             return END_WAITING;
         if (*made == limit)
             return END_BUDGET;
-        if (step(p, t, number).refusal != ACCEPTED)
+        if (ref_step(p, t, number).refusal != ACCEPTED)
             return END_ROOM;
     }
 }
@@ -121,7 +121,7 @@ uint64_t reference_run(const uint8_t *image, size_t image_len, uint8_t *head, si
     struct lent lent = { head, head_len, procs, procs_len, vars, vars_len };
     struct program program;
     struct tables tables;
-    struct verdict verdict = open_run(image, image_len, &lent, &program, &tables);
+    struct verdict verdict = ref_open(image, image_len, &lent, &program, &tables);
     unsigned end, made;
 
     if (verdict.refusal != ACCEPTED)
@@ -138,6 +138,24 @@ static struct term variable_value(const struct tables *t, uint32_t variable)
     return ref_value(t, term);
 }
 
+/* Binds the value of a goal variable to a constant; the refusal, and which variable took the binding. */
+unsigned ref_supply(const struct program *p, struct tables *t, uint32_t variable, uint32_t value, uint32_t *bound)
+{
+    struct term constant = { CONSTANT, value };
+    struct term open;
+
+    if (variable >= p->goal_variables)
+        return REFUSED_NOVAR;
+    if (value > CONSTANT_LIMIT)
+        return REFUSED_CONST;
+    open = variable_value(t, variable);
+    if (open.sort == CONSTANT)
+        return REFUSED_BOUND;
+    *bound = open.number;
+    t->variables[open.number] = constant;
+    return ACCEPTED;
+}
+
 uint64_t reference_supply(const uint8_t *image, size_t image_len, uint8_t *head, size_t head_len,
                           uint8_t *procs, size_t procs_len, uint8_t *vars, size_t vars_len,
                           uint32_t variable, uint32_t value)
@@ -145,19 +163,13 @@ uint64_t reference_supply(const uint8_t *image, size_t image_len, uint8_t *head,
     struct lent lent = { head, head_len, procs, procs_len, vars, vars_len };
     struct program program;
     struct tables tables;
-    struct verdict verdict = open_run(image, image_len, &lent, &program, &tables);
-    struct term supplied = { CONSTANT, value }, bound;
+    struct verdict verdict = ref_open(image, image_len, &lent, &program, &tables);
+    uint32_t bound;
 
+    if (verdict.refusal == ACCEPTED)
+        verdict.refusal = ref_supply(&program, &tables, variable, value, &bound);
     if (verdict.refusal != ACCEPTED)
         return ref_refused(verdict.refusal, verdict.offset);
-    if (variable >= program.goal_variables)
-        return ref_refused(REFUSED_NOVAR, 0);
-    if (value > CONSTANT_LIMIT)
-        return ref_refused(REFUSED_CONST, 0);
-    bound = variable_value(&tables, variable);
-    if (bound.sort == CONSTANT)
-        return ref_refused(REFUSED_BOUND, 0);
-    tables.variables[bound.number] = supplied;
     ref_encode(&tables, &lent);
     return ref_accepted(0, 0, 0);
 }
@@ -169,7 +181,7 @@ uint64_t reference_value(const uint8_t *image, size_t image_len, uint8_t *head, 
     struct lent lent = { head, head_len, procs, procs_len, vars, vars_len };
     struct program program;
     struct tables tables;
-    struct verdict verdict = open_run(image, image_len, &lent, &program, &tables);
+    struct verdict verdict = ref_open(image, image_len, &lent, &program, &tables);
     struct term value;
 
     if (verdict.refusal != ACCEPTED)
@@ -178,6 +190,25 @@ uint64_t reference_value(const uint8_t *image, size_t image_len, uint8_t *head, 
         return ref_refused(REFUSED_NOVAR, 0);
     value = variable_value(&tables, variable);
     return ref_accepted(value.sort, 0, value.number);
+}
+
+uint64_t reference_values(const uint8_t *image, size_t image_len, uint8_t *head, size_t head_len,
+                          uint8_t *procs, size_t procs_len, uint8_t *vars, size_t vars_len,
+                          uint8_t *values, size_t values_len)
+{
+    struct lent lent = { head, head_len, procs, procs_len, vars, vars_len };
+    struct program program;
+    struct tables tables;
+    struct verdict verdict = ref_open(image, image_len, &lent, &program, &tables);
+    unsigned k;
+
+    if (verdict.refusal != ACCEPTED)
+        return ref_refused(verdict.refusal, verdict.offset);
+    if (values_len < program.goal_variables * (size_t)REFERENCE_VARIABLE_ROW)
+        return ref_refused(REFUSED_ROOM, 0);
+    for (k = 0; k < program.goal_variables; k++)
+        ref_encode_variable(variable_value(&tables, k), values + k * REFERENCE_VARIABLE_ROW);
+    return ref_accepted(0, 0, program.goal_variables);
 }
 
 /* Looks at the mode byte alone, since any row will do. */

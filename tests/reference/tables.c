@@ -38,7 +38,7 @@ const struct literal *ref_literal_at(const struct program *program, const struct
 
 /* Bytes to structs. */
 
-static uint16_t get16(const uint8_t *bytes)
+uint16_t ref_get16(const uint8_t *bytes)
 {
     return (uint16_t)(bytes[0] | bytes[1] << 8);
 }
@@ -52,23 +52,23 @@ static struct process decode_process(const uint8_t *row)
     process.mode = row[1];
     process.result = row[2];
     process.note_count = row[3];
-    process.parent = get16(row + 4);
+    process.parent = ref_get16(row + 4);
     process.place.kind = row[6];
     process.place.clause = row[7];
-    process.place.first = get16(row + 8);
+    process.place.first = ref_get16(row + 8);
     process.place.stage = row[10];
     process.place.literal = row[11];
     process.block = row[12];
     process.found.clause = row[13];
-    process.found.first = get16(row + 14);
+    process.found.first = ref_get16(row + 14);
     for (k = 0; k < NOTE_LIMIT; k++)
-        process.notes[k] = get16(row + 16 + 2 * k);
+        process.notes[k] = ref_get16(row + 16 + 2 * k);
     return process;
 }
 
 static struct term decode_variable(const uint8_t *row)
 {
-    struct term binding = { row[0], get16(row + 1) + 65536u * row[3] };
+    struct term binding = { row[0], ref_get16(row + 1) + 65536u * row[3] };
 
     return binding;
 }
@@ -84,10 +84,10 @@ void ref_decode(const struct lent *lent, struct tables *tables)
 {
     unsigned k;
 
-    tables->process_count = get16(lent->head);
-    tables->variable_count = get16(lent->head + 2);
-    tables->last = get16(lent->head + 4);
-    tables->steps = get16(lent->head + 6) + 65536u * get16(lent->head + 8);
+    tables->process_count = ref_get16(lent->head);
+    tables->variable_count = ref_get16(lent->head + 2);
+    tables->last = ref_get16(lent->head + 4);
+    tables->steps = ref_get16(lent->head + 6) + 65536u * ref_get16(lent->head + 8);
     for (k = 0; k < PROCESS_LIMIT; k++)
         tables->processes[k] = decode_process(lent->procs + k * REFERENCE_PROCESS_ROW);
     for (k = 0; k < VARIABLE_LIMIT; k++)
@@ -96,7 +96,7 @@ void ref_decode(const struct lent *lent, struct tables *tables)
 
 /* Structs to bytes. */
 
-static void put16(uint8_t *bytes, unsigned number)
+void ref_put16(uint8_t *bytes, unsigned number)
 {
     bytes[0] = (uint8_t)(number & 255);
     bytes[1] = (uint8_t)(number >> 8 & 255);
@@ -110,23 +110,23 @@ static void encode_process(const struct process *process, uint8_t *row)
     row[1] = process->mode;
     row[2] = process->result;
     row[3] = process->note_count;
-    put16(row + 4, process->parent);
+    ref_put16(row + 4, process->parent);
     row[6] = process->place.kind;
     row[7] = process->place.clause;
-    put16(row + 8, process->place.first);
+    ref_put16(row + 8, process->place.first);
     row[10] = process->place.stage;
     row[11] = process->place.literal;
     row[12] = process->block;
     row[13] = process->found.clause;
-    put16(row + 14, process->found.first);
+    ref_put16(row + 14, process->found.first);
     for (k = 0; k < NOTE_LIMIT; k++)
-        put16(row + 16 + 2 * k, process->notes[k]);
+        ref_put16(row + 16 + 2 * k, process->notes[k]);
 }
 
-static void encode_variable(struct term binding, uint8_t *row)
+void ref_encode_variable(struct term binding, uint8_t *row)
 {
     row[0] = binding.sort;
-    put16(row + 1, binding.number & 65535);
+    ref_put16(row + 1, binding.number & 65535);
     row[3] = (uint8_t)(binding.number >> 16);
 }
 
@@ -135,15 +135,15 @@ void ref_encode(const struct tables *tables, const struct lent *lent)
 {
     unsigned k;
 
-    put16(lent->head, tables->process_count);
-    put16(lent->head + 2, tables->variable_count);
-    put16(lent->head + 4, tables->last);
-    put16(lent->head + 6, tables->steps & 65535);
-    put16(lent->head + 8, tables->steps >> 16);
+    ref_put16(lent->head, tables->process_count);
+    ref_put16(lent->head + 2, tables->variable_count);
+    ref_put16(lent->head + 4, tables->last);
+    ref_put16(lent->head + 6, tables->steps & 65535);
+    ref_put16(lent->head + 8, tables->steps >> 16);
     for (k = 0; k < tables->process_count; k++)
         encode_process(&tables->processes[k], lent->procs + k * REFERENCE_PROCESS_ROW);
     for (k = 0; k < tables->variable_count; k++)
-        encode_variable(tables->variables[k], lent->vars + k * REFERENCE_VARIABLE_ROW);
+        ref_encode_variable(tables->variables[k], lent->vars + k * REFERENCE_VARIABLE_ROW);
 }
 
 /* The start. */

@@ -1,9 +1,9 @@
-/* The calls of requests 2 and 7 over the others, to try the tool with until the archive has them. */
+/* The calls of request 7 over the others, to try the tool with until the archive has them. */
 #include "later.h"
 
 #include <string.h>
 
-enum { HEAD = 16, PROCESS = 28, VARIABLE = 8, TRACE = 10, STEP = 32, SUPPLY = 33 };
+enum { TRACE = 10, STEP = 32, SUPPLY = 33 };
 
 #define RUN image, image_len, head, head_len, procs, procs_len, vars, vars_len
 
@@ -29,85 +29,6 @@ static uint8_t *put_record(uint8_t *at, unsigned kind, const uint8_t *body, size
 static uint64_t refused(unsigned refusal, size_t offset)
 {
     return refusal | (uint64_t)offset << 32;
-}
-
-uint64_t rissobarm_save(const uint8_t *image, size_t image_len, const uint8_t *head, size_t head_len, const uint8_t *procs,
-                        size_t procs_len, const uint8_t *vars, size_t vars_len, uint8_t *saved, size_t saved_len)
-{
-    uint64_t value = rissobarm_value(RUN, 0);
-    uint8_t first[12];
-    size_t n, m, k;
-
-    if (rissobarm_refusal(value) != 0 && rissobarm_refusal(value) != RISSOBARM_NOVAR)
-        return value;
-    n = word_at(head);
-    m = word_at(head + 2);
-    if (HEAD + PROCESS * n + VARIABLE * m > saved_len)
-        return RISSOBARM_ROOM;
-    memcpy(first, head, 10);
-    put_word(first + 10, (unsigned)image_len);
-    saved = put_record(saved, 16, first, 12);
-    for (k = 0; k < n; k++)
-        saved = put_record(saved, 17, procs + 24 * k, 24);
-    for (k = 0; k < m; k++)
-        saved = put_record(saved, 18, vars + 4 * k, 4);
-    return (uint64_t)(HEAD + PROCESS * n + VARIABLE * m) << 32;
-}
-
-/* 2, 3, 4 by record, counting the kinds. */
-static uint64_t saved_fault(const uint8_t *saved, size_t length, unsigned *counts)
-{
-    static const unsigned sizes[] = { HEAD, PROCESS, VARIABLE };
-    unsigned before = 16, kind, size;
-    size_t at = 0;
-
-    if (length == 0)
-        return refused(RISSOBARM_KIND, 0);
-    for (; at < length; at += size) {
-        if (length - at < 4 || word_at(saved + at) < 4 || word_at(saved + at) > length - at)
-            return refused(RISSOBARM_CUT, at);
-        size = word_at(saved + at);
-        kind = word_at(saved + at + 2);
-        if (kind < before || kind > 18 || (at == 0) != (kind == 16))
-            return refused(RISSOBARM_KIND, at);
-        if (size != sizes[kind - 16])
-            return refused(RISSOBARM_BODY, at);
-        counts[kind - 16]++;
-        before = kind;
-    }
-    return 0;
-}
-
-uint64_t rissobarm_resume(LATER_RUN, const uint8_t *saved, size_t saved_len)
-{
-    static uint8_t h[RISSOBARM_HEAD_SIZE], p[RISSOBARM_PROCS_SIZE], v[RISSOBARM_VARS_SIZE];
-    unsigned counts[3] = { 0, 0, 0 }, k;
-    uint64_t answer = rissobarm_load(image, image_len);
-
-    if (rissobarm_refusal(answer) != 0)
-        return answer;
-    answer = saved_fault(saved, saved_len, counts);
-    if (answer != 0)
-        return answer;
-    if (word_at(saved + 14) != image_len)
-        return RISSOBARM_FOREIGN;
-    memset(p, 0, sizeof p);
-    memset(v, 0, sizeof v);
-    memcpy(h, saved + 4, 10);
-    if (counts[1] != word_at(h) || counts[2] != word_at(h + 2) || counts[1] > 512 || counts[2] > 1024 || head_len != sizeof h ||
-        procs_len != sizeof p || vars_len != sizeof v)
-        return RISSOBARM_STATE;
-    for (k = 0; k < counts[1]; k++)
-        memcpy(p + 24 * k, saved + HEAD + PROCESS * k + 4, 24);
-    for (k = 0; k < counts[2]; k++)
-        memcpy(v + 4 * k, saved + HEAD + PROCESS * counts[1] + VARIABLE * k + 4, 4);
-    answer = rissobarm_value(image, image_len, h, sizeof h, p, sizeof p, v, sizeof v, 0);
-    if (rissobarm_refusal(answer) == RISSOBARM_STATE)
-        return answer;
-    memcpy(head, h, sizeof h);
-    memcpy(procs, p, sizeof p);
-    memcpy(vars, v, sizeof v);
-    return 0;
 }
 
 static void put_trace(uint8_t *at, unsigned kind, unsigned a, unsigned b, unsigned stamp)
