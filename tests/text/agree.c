@@ -88,27 +88,28 @@ static void parse_both(struct random *random)
 
 /* ---- print ---- */
 
-static void make_names(struct random *random)
+/* Full lists mostly; some lack names, are cut, by the last byte alone too, or have bytes that no name has. */
+static void make_names(struct random *random, unsigned most)
 {
     struct naming naming = { random_bits(random), random_once(random, 8) };
-    unsigned sort = random_below(random, 8), most = image_constants(&image);
+    unsigned sort = random_below(random, 8);
 
     list_names(&list, &naming, image_relations(&image), sort == 0 ? random_below(random, most + 1) : most);
     if (sort == 1 && list.length > 0)
-        list.length -= 1 + random_below(random, (uint32_t)list.length);
+        list.length -= random_once(random, 2) ? 1 : 1 + random_below(random, (uint32_t)list.length);
     for (; sort >= 2 && sort < 4 && list.length > 0 && !random_once(random, 3);)
         list.bytes[random_below(random, (uint32_t)list.length)] = (uint8_t)random_below(random, random_once(random, 2) ? 128 : 256);
 }
 
-/* Any image, or one that is accepted as a rule. */
-static void make_image(struct random *random)
+/* Any image, or one that is accepted as a rule; answers how many constants can stand in it. */
+static unsigned make_image(struct random *random)
 {
     if (random_once(random, 2)) {
         image_any(&image, random);
-        return;
+        return image_constants(&image);
     }
     image_for_text(&image, random);
-    image_renumber(&image);
+    return image_renumber(&image);
 }
 
 static uint64_t print_reference(size_t text_len)
@@ -121,8 +122,7 @@ static void print_both(struct random *random)
     const uint8_t *lent;
     size_t text_len = ROOM;
 
-    make_image(random);
-    make_names(random);
+    make_names(random, make_image(random));
     lent = guard_last(image.bytes, image.length);
     reference.answer = print_reference(ROOM);
     if (rissobarm_refusal(reference.answer) == RISSOBARM_ACCEPTED)

@@ -70,7 +70,7 @@ static void number_line(struct numbering *n, unsigned kind)
     *count = (uint8_t)n->variable_count;
 }
 
-void image_renumber(struct image *image)
+unsigned image_renumber(struct image *image)
 {
     static struct numbering n;
 
@@ -85,6 +85,7 @@ void image_renumber(struct image *image)
             number_line(&n, kind);
         n.at = next;
     }
+    return n.constant_count;
 }
 
 static uint8_t *clause_at(struct image *image, unsigned record)

@@ -34,8 +34,11 @@ void image_for_text(struct image *image, struct random *random);
 /* Gives a clause another relation: mostly one of another arity, or out of order. */
 void image_misname(struct image *image, struct random *random);
 
-/* Numbers constants and variables by first appearance, as a text does; only the fields are looked at, so counts may pass limits. */
-void image_renumber(struct image *image);
+/*
+ * Numbers constants and variables by first appearance, as a text does, and answers how many constants there are; only the fields are looked
+ * at, so counts may pass limits.
+ */
+unsigned image_renumber(struct image *image);
 
 /* The image's records as text, with blanks by chance and clauses that end in any right way. */
 void text_spell(struct text *text, const struct image *image, const struct naming *naming, struct random *random);
