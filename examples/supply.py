@@ -1,11 +1,13 @@
 #!/usr/bin/env python3
 """supply.py PLAN [VARIABLE=VALUE ..]: runs a plan, a text or an image; each value comes in when the run waits. Then tells the goal's variables.
-VALUE is a constant's name in the text, or its number."""
+VALUE is a constant's name in the text, or its number.
+
+What follows a value is traced and played again beside it, by which the steps are counted."""
 import sys
 
 from rissobarm import Plan, Refused, parse
 
-LIMIT = 100000
+LIMIT, TURNS = 100000, 5000
 
 
 def opened(path):
@@ -33,8 +35,9 @@ def main():
         plan = Plan(image, plan.save())  # as if the night lay between
         plan.supply(int(variable), int(numbers.get(value, value)))
         print('%d steps: waiting, variable %s arrives as %s' % (steps, variable, value))
-        end, more = plan.run(LIMIT)
-        steps += more
+        again = Plan(image, plan.save())
+        end, trace = plan.run_traced(TURNS, steps % 65536)
+        steps += again.replay(trace)
     print('%d steps: %s' % (steps, end))
     for variable, value in enumerate(plan.values()):
         print('variable %d is %s' % (variable, 'open' if value is None else named.get(value, value)))

@@ -1,7 +1,7 @@
 /* rissobarm: plans, runs and traces of the PARLOG process machine from the command line. */
 #include "commands.h"
 
-#include "calls.h"
+#include "rissobarm_plan.h"
 
 #include <stdio.h>
 #include <string.h>

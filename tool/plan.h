@@ -2,7 +2,7 @@
 #ifndef TOOL_PLAN_H
 #define TOOL_PLAN_H
 
-#include "calls.h"
+#include "rissobarm_plan.h"
 #include "files.h"
 
 #include <stddef.h>

@@ -2,7 +2,7 @@
 #ifndef TOOL_PROGRAM_H
 #define TOOL_PROGRAM_H
 
-#include "calls.h"
+#include "rissobarm_plan.h"
 #include "files.h"
 
 enum { LITERALS = RISSOBARM_LITERAL_LIMIT + RISSOBARM_ARITY_LIMIT };

@@ -7,15 +7,13 @@
 #include <stdio.h>
 #include <string.h>
 
-enum { STEP_RECORD = 32 };
-
 /* What a record of the trace says. */
 static void record_words(const struct session *session, const uint8_t *record, char *words)
 {
-    unsigned first = rissobarm_word_at(record + 4), second = rissobarm_word_at(record + 6);
+    unsigned first = rissobarm_word_at(record + RISSOBARM_TRACE_PROCESS), second = rissobarm_word_at(record + RISSOBARM_TRACE_RULE);
     char variable[LINE_ROOM], value[NAME_ROOM];
 
-    if (rissobarm_word_at(record + 2) == STEP_RECORD) {
+    if (rissobarm_word_at(record + 2) == RISSOBARM_RECORD_STEP) {
         sprintf(words, "process %u makes the move `%s`", first, rissobarm_rule_text(second));
         return;
     }
@@ -31,11 +29,11 @@ static void record_words(const struct session *session, const uint8_t *record, c
 static void machine_words(const struct session *session, const uint8_t *record, char *words)
 {
     static struct rissobarm_plan copy;
-    unsigned first = rissobarm_word_at(record + 4), second = rissobarm_word_at(record + 6);
+    unsigned first = rissobarm_word_at(record + RISSOBARM_TRACE_PROCESS), second = rissobarm_word_at(record + RISSOBARM_TRACE_RULE);
     uint64_t answer;
 
     copy = session->run;
-    if (rissobarm_word_at(record + 2) == STEP_RECORD)
+    if (rissobarm_word_at(record + 2) == RISSOBARM_RECORD_STEP)
         answer = rissobarm_plan_step(&copy, first);
     else
         answer = rissobarm_plan_supply(&copy, first, second);
@@ -53,7 +51,7 @@ static void tell_refused(const struct session *session, const struct bytes *trac
 
     if (refusal != RISSOBARM_DISAGREES)
         quit(TRACE_REFUSED, "%s: record %s, byte %s: refused %u (%s)", path, grouped(offset / TRACE_RECORD + 1), grouped(offset),
-             refusal, refusal == RISSOBARM_GAP ? "GAP: its stamp does not follow the one before" : rissobarm_refusal_text(refusal));
+             refusal, rissobarm_refusal_text(refusal));
     record_words(session, trace->at + offset, said);
     machine_words(session, trace->at + offset, machine);
     quit(TRACE_REFUSED, "%s: record %s, byte %s: disagrees after %s: the trace says that %s; of the machine: %s", path,
@@ -84,7 +82,7 @@ enum status command_replay(const struct options *options)
     if (!say_json)
         printf("%s: %s played, and all agree\n", options->words[1], counted(answer >> 32, "record", "records"));
     if (trace.length > 0)
-        session.stamp = (uint16_t)(rissobarm_word_at(trace.at + trace.length - TRACE_RECORD + TRACE_STAMP) + 1);
+        session.stamp = (uint16_t)(rissobarm_word_at(trace.at + trace.length - TRACE_RECORD + RISSOBARM_TRACE_STAMP) + 1);
     if (options->save != NULL)
         session_save(&session, options->save);
     tell_run(&session, end_now(&session));

@@ -5,8 +5,7 @@
 #include "plan.h"
 #include "program.h"
 
-/* Bytes of a record of a trace; its stamp is the last two. */
-enum { TRACE_RECORD = 10, TRACE_STAMP = 8 };
+enum { TRACE_RECORD = RISSOBARM_TRACE_RECORD_SIZE };
 
 struct session {
     struct plan plan;
