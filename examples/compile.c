@@ -3,9 +3,9 @@
  *
  *   compile [NAMES] <PLAN >IMAGE
  *
- * NAMES is a file for the list of names: relations by number, then constants, one a line. What is refused is told with line and
- * column where it is the form of the text (16), and with the record's place in the image where it is what the text says. Ends with 0,
- * 1 where the text is refused, 2 where a file is no good.
+ * NAMES is a file for the list of names: relations by number, then constants, one a line. What is refused is told with line
+ * and column where it is the form of the text (16), and with the record's place in the image where it is what the text
+ * says. Ends with 0, 1 where the text is refused, 2 where a file is no good.
  */
 #include "rissobarm_plan.h"
 

@@ -32,7 +32,8 @@
 
 enum { SUCCEEDED = 0, FAILED = 1, WAITS = 2, NO_ROOM = 3, REFUSED = 4, NO_GOOD = 5 };
 enum { FREE = 0, KEY = 1, PLACE = 2, FIELDS = 3 };
-enum { NAMES_ROOM = 65536, MOST_RECORDS = 5, LAST_RECORD = 9999, LINE_ROOM = 200, PATH_ROOM = 4096, SLICE = 50, SLICE_LIMIT = 1000000 };
+enum { MOST_RECORDS = 5, LAST_RECORD = 9999, SLICE = 50, SLICE_LIMIT = 1000000 };
+enum { NAMES_ROOM = 65536, LINE_ROOM = 200, PATH_ROOM = 4096 };
 enum { TAKEN_SIZE = 4 }; /* bytes before the run in its file: how many arrivals came before */
 enum { TRACE_STEPS = 1000, TRACE_ROOM = TRACE_STEPS * RISSOBARM_TRACE_RECORD_SIZE };
 

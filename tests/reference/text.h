@@ -7,9 +7,9 @@
 #include <stdint.h>
 
 /*
- * A mode line is MODE, then INPUT or OUTPUT for each argument, then STOP. A clause is HEAD, its terms, literals, and STOP or NEXT for
- * `.` or `;`; the goal line is GOAL, literals, STOP. A literal is CALL and its terms, or EQUALS and two terms. Behind the literals of
- * a stage stands STAGE where another stage follows, and behind those of a guard COLON.
+ * A mode line is MODE, then INPUT or OUTPUT for each argument, then STOP. A clause is HEAD, its terms, literals, and STOP
+ * or NEXT for `.` or `;`; the goal line is GOAL, literals, STOP. A literal is CALL and its terms, or EQUALS and two terms.
+ * Behind the literals of a stage stands STAGE where another stage follows, and behind those of a guard COLON.
  */
 enum part_kind { MODE, INPUT, OUTPUT, HEAD, GOAL, CALL, EQUALS, CONSTANT_TERM, VARIABLE_TERM, STAGE, COLON, STOP, NEXT };
 
@@ -31,7 +31,10 @@ struct parts {
     size_t room;
 };
 
-/* Takes a text apart. False where it is no text: then stuck is the first byte that none could continue with, or the text's length. */
+/*
+ * Takes a text apart. False where it is no text: then stuck is the first byte that none could continue with, or the text's
+ * length.
+ */
 bool ref_take_apart(const uint8_t *text, size_t length, struct parts *parts, size_t *stuck);
 
 /* Whether these bytes are a lower-case name. */

@@ -1,6 +1,7 @@
 /*
- * Parse and print of the archive beside the reference's: random, damaged and garbled texts, images and lists of names, rows of every
- * length. Each answer and each byte of the rows that are written must be the same, and no byte outside a lent row may be read.
+ * Parse and print of the archive beside the reference's: random, damaged and garbled texts, images and lists of names, rows
+ * of every length. Each answer and each byte of the rows that are written must be the same, and no byte outside a lent row
+ * may be read.
  */
 #include "guard.h"
 #include "reference.h"
@@ -97,8 +98,11 @@ static void make_names(struct random *random, unsigned most)
     list_names(&list, &naming, image_relations(&image), sort == 0 ? random_below(random, most + 1) : most);
     if (sort == 1 && list.length > 0)
         list.length -= random_once(random, 2) ? 1 : 1 + random_below(random, (uint32_t)list.length);
-    for (; sort >= 2 && sort < 4 && list.length > 0 && !random_once(random, 3);)
-        list.bytes[random_below(random, (uint32_t)list.length)] = (uint8_t)random_below(random, random_once(random, 2) ? 128 : 256);
+    while (sort >= 2 && sort < 4 && list.length > 0 && !random_once(random, 3)) {
+        uint8_t *at = &list.bytes[random_below(random, (uint32_t)list.length)];
+
+        *at = (uint8_t)random_below(random, random_once(random, 2) ? 128 : 256);
+    }
 }
 
 /* Any image, or one that is accepted as a rule; answers how many constants can stand in it. */

@@ -1,6 +1,6 @@
 /*
- * Shows by brute force that the offset of 16 is exact. From some beginnings on, every byte is put behind what can be continued; the
- * reader must say that the text is stuck there exactly when no ending, of all those tried, makes it a text.
+ * Shows by brute force that the offset of 16 is exact. From some beginnings on, every byte is put behind what can be
+ * continued; the reader must say that the text is stuck there exactly when no ending, of all those tried, makes it a text.
  */
 #include "text.h"
 

@@ -35,8 +35,8 @@ void image_for_text(struct image *image, struct random *random);
 void image_misname(struct image *image, struct random *random);
 
 /*
- * Numbers constants and variables by first appearance, as a text does, and answers how many constants there are; only the fields are looked
- * at, so counts may pass limits.
+ * Numbers constants and variables by first appearance, as a text does, and answers how many constants there are; only the
+ * fields are looked at, so counts may pass limits.
  */
 unsigned image_renumber(struct image *image);
 

@@ -1,6 +1,7 @@
 /*
- * Images and texts forth and back. An image is spelt as text by chance: that must be read as the image itself, or be refused as its load
- * is. It is printed with names for everything: what is read back is the image with its numbers in order, and prints as before.
+ * Images and texts forth and back. An image is spelt as text by chance: that must be read as the image itself, or be
+ * refused as its load is. It is printed with names for everything: what is read back is the image with its numbers in
+ * order, and prints as before.
  */
 #include "reference.h"
 #include "texts.h"
@@ -118,7 +119,8 @@ int main(void)
         if ((reference_load(image.bytes, image.length) & 255) == 0)
             printed(&naming);
     }
-    printf("trips: %u images spelt and read, %lu as they are, %lu, %lu and %lu refused 4, 5 and 6 as they are; printed and read back, %lu names\n",
+    printf("trips: %u images spelt and read, %lu as they are, %lu, %lu and %lu refused 4, 5 and 6 as they are; printed and read "
+           "back, %lu names\n",
            TRIPS, seen[0], seen[4], seen[5], seen[6], constants_used);
     return seen[0] > TRIPS / 2 && seen[4] > 100 && seen[5] > 100 && seen[6] > 100 ? 0 : 1;
 }
