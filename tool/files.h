@@ -19,8 +19,8 @@ void bytes_add(struct bytes *bytes, const void *more, size_t count);
 struct bytes file_read(const char *path);
 
 /*
- * Writes a file, "-" being standard output. The bytes go into a file beside it, which is renamed once they are on the disk: whatever
- * happens, the path leads to the old bytes or to the new ones, whole. Ends the tool where that cannot be done.
+ * Writes a file, "-" being standard output. The bytes go into a file beside it, which is renamed once they are on the disk:
+ * whatever happens, the path leads to the old bytes or to the new ones, whole. Ends the tool where that cannot be done.
  */
 void file_write(const char *path, const struct bytes *bytes);
 

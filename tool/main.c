@@ -17,7 +17,9 @@ static const struct command commands[] = {
     { "check", 1, "check PLAN [--names FILE]", command_check },
     { "compile", 1, "compile TEXT -o IMAGE [--names FILE]", command_compile },
     { "print", 1, "print IMAGE [--names FILE] [-o TEXT]", command_print },
-    { "run", 1, "run PLAN [--names FILE] [--supply NAME=VALUE].. [--arrivals FILE] [--steps N] [--slice N] [--save FILE] [--trace FILE]",
+    { "run", 1,
+      "run PLAN [--names FILE] [--supply NAME=VALUE].. [--arrivals FILE] [--steps N] [--slice N] [--save FILE] "
+      "[--trace FILE]",
       command_run },
     { "resume", 1, "resume SAVED [--plan PLAN] and as run", command_resume },
     { "replay", 2, "replay PLAN|SAVED TRACE [--save FILE]", command_replay },

@@ -170,7 +170,8 @@ static const char *const limits[][3] = {
     { "this mode line has more than 4 arguments", "this relation has a mode line already",
       "there are 32 relations before this mode line" },
     { "this clause has more than 4 arguments at a call, 16 variables, or 8 literals in its guard or body",
-      "a call of this clause has another number of arguments than its mode line, or the clauses do not stand in the order of the mode lines",
+      "a call of this clause has another number of arguments than its mode line, or the clauses do not stand in the order of "
+      "the mode lines",
       "there are 64 clauses before this one, or 8 in its block" },
     { "this goal has more than 4 arguments at a call, 16 variables, or 8 literals",
       "a call of this goal has another number of arguments than its mode line", "" },

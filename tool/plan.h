@@ -19,7 +19,10 @@ struct plan {
 
 enum { WORDS_ROOM = 1024, NAME_ROOM = 128 };
 
-/* Reads a plan, image or text, with a list of names for an image (NULL for none), and answers the word of the call that tested it. */
+/*
+ * Reads a plan, image or text, with a list of names for an image (NULL for none), and answers the word of the call that
+ * tested it.
+ */
 uint64_t plan_read(struct plan *plan, const char *path, const char *names_path);
 
 /* The same, but ends the tool where the plan is refused. */

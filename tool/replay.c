@@ -10,7 +10,8 @@
 /* What a record of the trace says. */
 static void record_words(const struct session *session, const uint8_t *record, char *words)
 {
-    unsigned first = rissobarm_word_at(record + RISSOBARM_TRACE_PROCESS), second = rissobarm_word_at(record + RISSOBARM_TRACE_RULE);
+    unsigned first = rissobarm_word_at(record + RISSOBARM_TRACE_PROCESS);
+    unsigned second = rissobarm_word_at(record + RISSOBARM_TRACE_RULE);
     char variable[LINE_ROOM], value[NAME_ROOM];
 
     if (rissobarm_word_at(record + 2) == RISSOBARM_RECORD_STEP) {
@@ -29,7 +30,8 @@ static void record_words(const struct session *session, const uint8_t *record, c
 static void machine_words(const struct session *session, const uint8_t *record, char *words)
 {
     static struct rissobarm_plan copy;
-    unsigned first = rissobarm_word_at(record + RISSOBARM_TRACE_PROCESS), second = rissobarm_word_at(record + RISSOBARM_TRACE_RULE);
+    unsigned first = rissobarm_word_at(record + RISSOBARM_TRACE_PROCESS);
+    unsigned second = rissobarm_word_at(record + RISSOBARM_TRACE_RULE);
     uint64_t answer;
 
     copy = session->run;

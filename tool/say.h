@@ -1,4 +1,7 @@
-/* What the tool tells: words on standard output and standard error, JSON where it is asked for, and the status that it ends with. */
+/*
+ * What the tool tells: words on standard output and standard error, JSON where it is asked for, and the status that it ends
+ * with.
+ */
 #ifndef TOOL_SAY_H
 #define TOOL_SAY_H
 

@@ -29,8 +29,8 @@ uint64_t session_supply(struct session *session, unsigned variable, unsigned val
 /* ---- the file of a saved run ---- */
 
 /*
- * Writes the run with its plan into one file, so that the two cannot be parted: a line that says what it is, then parts, each a line
- * with its name and length and then so many bytes. The part `run` is what rissobarm_save gives.
+ * Writes the run with its plan into one file, so that the two cannot be parted: a line that says what it is, then parts,
+ * each a line with its name and length and then so many bytes. The part `run` is what rissobarm_save gives.
  */
 void session_save(const struct session *session, const char *path);
 
