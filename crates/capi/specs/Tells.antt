@@ -10,6 +10,7 @@ use Rattle.parlog.specs.Load.{loadOf}
 use Rattle.parlog.specs.Numbers.{loadNumbers, Numbers, runNumbers, startNumbers, stepNumbers, supplyNumbers, valueNumbers, watchNumbers, word}
 use Rattle.parlog.specs.Run.{watchOf}
 use Rattle.parlog.specs.Tables.{Lent, procsOf, rowSize}
+use Rattle.replay.specs.Replay.{replayCall, replayNumbers}
 use Rattle.resume.specs.Calls.{resumeCall, saveCall}
 use Rattle.values.specs.Values.{valuesCall, valuesNumbers}
 use Rattle.words.specs.Fits.{reached}
@@ -94,3 +95,9 @@ pub record SaveTells (lim : Limits) (s : List ℕ) (l : Lent) (row : List ℕ) (
 -- Saved 10, 11: of a resume from the saved run x, which is lent to read only
 abbrev pub ResumeTells : Limits → List ℕ → Lent → List ℕ → ℕ → List ℕ → List ℕ → List ℕ → Type 0
 ResumeTells lim s l x r h p v = Tells (resumeNumbers (resumeCall lim s l x .answer)) (resumeCall lim s l x .lent) r h p v
+
+-- ---- a trace played again
+
+-- Traces 6, 7: of a replay of a trace, which is lent to read only
+abbrev pub ReplayTells : Limits → List ℕ → Lent → List ℕ → ℕ → List ℕ → List ℕ → List ℕ → Type 0
+ReplayTells lim s l trace r h p v = Tells (replayNumbers (replayCall lim s l trace .answer)) (replayCall lim s l trace .lent) r h p v

@@ -1,6 +1,6 @@
 // What a C program calls: numbers and byte rows alone. Each answer is one word.
 use parlog::Loaded;
-ghost use Rattle.capi.specs.Tells.{LoadTells, ResumeTells, RunTells, SaveTells, StartTells, StepBoundTells, StepTells, SupplyBoundTells, SupplyTells, TurnBoundTells, TurnTells, ValuesTells, ValueTells, WatchTells};
+ghost use Rattle.capi.specs.Tells.{LoadTells, ReplayTells, ResumeTells, RunTells, SaveTells, StartTells, StepBoundTells, StepTells, SupplyBoundTells, SupplyTells, TurnBoundTells, TurnTells, ValuesTells, ValueTells, WatchTells};
 ghost use Rattle.parlog.specs.Limits.{small};
 ghost use Rattle.parlog.specs.Tables.{lent};
 
@@ -210,4 +210,21 @@ pub extern "C" fn rissobarm_resume(
 {
     let a = resume::resume(image, head, procs, vars, saved);
     words::resume_word(a)
+}
+
+// ---- a trace played again
+
+// Plays the records of a trace, as long as they agree.
+#[no_mangle]
+pub extern "C" fn rissobarm_replay(
+    image: &[u8],
+    head: &mut [u8],
+    procs: &mut [u8],
+    vars: &mut [u8],
+    trace: &[u8],
+) -> u64
+    ensures { λ r. ⌜ ReplayTells small (now (image .entry)) (lent (now (head .entry)) (now (procs .entry)) (now (vars .entry))) (now (trace .entry)) r (now (head .exit)) (now (procs .exit)) (now (vars .exit)) ⌝ }
+{
+    let a = replay::replay(image, head, procs, vars, trace);
+    replay::replay_word(a)
 }
