@@ -1,3 +1,3 @@
 pub mod Laws
 pub mod Once
-pub mod Exactly
+pub mod Computed
