@@ -11,6 +11,7 @@ pub mod Demand2
 pub mod Reordering
 pub mod Once
 pub mod Keeping
+pub mod Replays
 pub mod RunTurns
 pub mod Final
 pub mod Arrive
