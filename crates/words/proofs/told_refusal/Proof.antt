@@ -1,4 +1,3 @@
-use borrow.Author.Needs.{needs}
 use Rattle.words.proofs.told_refusal.Statement.{statement}
 use Rattle.words.proofs.told_refusal.Tie as tie
 
