@@ -24,4 +24,6 @@ pub mod Apart
 pub mod Newly
 pub mod Bound
 pub mod BoundSupply
+pub mod Traces
+pub mod Recorded
 pub mod Computed

@@ -6,3 +6,5 @@ pub mod Reach
 pub mod Bound
 pub mod BoundCases
 pub mod Replays
+pub mod Traces
+pub mod TraceCases
