@@ -47,7 +47,10 @@ static inline const char *rissobarm_refusal_text(unsigned refusal)
         "NOVAR: the goal has no such variable",
         "BOUND: its value is a constant already",
         "CONST: the value supplied is over 32,767",
-        "FOREIGN: the saved run is one of an image with another length"
+        "FOREIGN: the saved run is one of an image with another length",
+        "unknown", "unknown", "unknown",
+        "GAP: a record's stamp does not follow that of the record before",
+        "DISAGREES: what a record of a trace tells cannot be done, or is another rule"
     };
 
     return rissobarm_text_of(texts, sizeof texts / sizeof texts[0], refusal);
@@ -189,6 +192,26 @@ static inline uint64_t rissobarm_plan_run(struct rissobarm_plan *plan, uint32_t 
     return (answer & UINT32_MAX) | (uint64_t)made << 32;
 }
 
+/* Makes the move of one process and writes its record. */
+static inline uint64_t rissobarm_plan_step_traced(struct rissobarm_plan *plan, uint8_t *trace, size_t trace_len,
+                                                  uint32_t process, uint16_t stamp)
+{
+    return rissobarm_step_traced(RISSOBARM_PLAN_LENT(plan), trace, trace_len, process, stamp);
+}
+
+/* Makes turns as rissobarm_run does, as many as trace has room for at most, and writes the record of each. */
+static inline uint64_t rissobarm_plan_run_traced(struct rissobarm_plan *plan, uint8_t *trace, size_t trace_len,
+                                                 uint16_t limit, uint16_t stamp)
+{
+    return rissobarm_run_traced(RISSOBARM_PLAN_LENT(plan), trace, trace_len, limit, stamp);
+}
+
+/* Plays a trace again. */
+static inline uint64_t rissobarm_plan_replay(struct rissobarm_plan *plan, const uint8_t *trace, size_t trace_len)
+{
+    return rissobarm_replay(RISSOBARM_PLAN_LENT(plan), trace, trace_len);
+}
+
 /* Binds the value of a goal variable to a constant. */
 static inline uint64_t rissobarm_plan_supply(struct rissobarm_plan *plan, uint32_t variable, uint32_t value)
 {
@@ -200,6 +223,13 @@ static inline uint64_t rissobarm_plan_supply_bound(struct rissobarm_plan *plan, 
                                                    uint32_t variable, uint32_t value)
 {
     return rissobarm_supply_bound(RISSOBARM_PLAN_LENT(plan), bound, bound_len, variable, value);
+}
+
+/* Binds the value of a goal variable to a constant and writes the record of that. */
+static inline uint64_t rissobarm_plan_supply_traced(struct rissobarm_plan *plan, uint8_t *trace, size_t trace_len,
+                                                    uint32_t variable, uint32_t value, uint16_t stamp)
+{
+    return rissobarm_supply_traced(RISSOBARM_PLAN_LENT(plan), trace, trace_len, variable, value, stamp);
 }
 
 /* Gives the value of a goal variable. */

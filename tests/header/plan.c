@@ -114,7 +114,8 @@ static void try_saved(void)
     rissobarm_plan_start(&run, waits, sizeof waits);
     rissobarm_plan_run(&run, LARGE_LIMIT);
     size = rissobarm_saved(rissobarm_plan_save(&run, saved, sizeof saved));
-    hold("saved: its size", size == RISSOBARM_RUN_RECORD_SIZE + 6 * RISSOBARM_PROCESS_RECORD_SIZE + RISSOBARM_VARIABLE_RECORD_SIZE);
+    hold("saved: its size",
+         size == RISSOBARM_RUN_RECORD_SIZE + 6 * RISSOBARM_PROCESS_RECORD_SIZE + RISSOBARM_VARIABLE_RECORD_SIZE);
     hold("saved: no room", rissobarm_refusal(rissobarm_plan_save(&run, saved, size - 1)) == RISSOBARM_ROOM);
     memset(&other, 9, sizeof other);
     hold("saved: taken up", rissobarm_plan_resume(&other, waits, sizeof waits, saved, size) == RISSOBARM_ACCEPTED);
@@ -124,7 +125,36 @@ static void try_saved(void)
     hold("saved: the same end", rissobarm_plan_run(&run, LARGE_LIMIT) == rissobarm_plan_run(&other, LARGE_LIMIT));
     hold("saved: the same rows at the end", same_rows());
     hold("saved: foreign", rissobarm_plan_resume(&other, fills, sizeof fills, saved, size) == RISSOBARM_FOREIGN);
-    hold("saved: cut", rissobarm_refusal(rissobarm_plan_resume(&other, waits, sizeof waits, saved, size - 1)) == RISSOBARM_CUT);
+    hold("saved: cut",
+         rissobarm_refusal(rissobarm_plan_resume(&other, waits, sizeof waits, saved, size - 1)) == RISSOBARM_CUT);
+}
+
+/* Nine steps, a supply and nine more, traced over the top of the stamps and played again from the start. */
+static void try_traced(void)
+{
+    static uint8_t trace[20 * RISSOBARM_TRACE_RECORD_SIZE];
+    const size_t record = RISSOBARM_TRACE_RECORD_SIZE;
+    uint16_t stamp = 65530;
+    uint64_t step;
+
+    rissobarm_plan_start(&run, waits, sizeof waits);
+    hold("traced: no room", rissobarm_plan_step_traced(&run, trace, record - 1, 0, stamp) == RISSOBARM_ROOM);
+    step = rissobarm_plan_step_traced(&run, trace, record, 0, stamp);
+    hold("traced: a step", rissobarm_rule(step) == RISSOBARM_RULE_OR_PAR_START);
+    hold("traced: the row ends it",
+         ran(rissobarm_plan_run_traced(&run, trace + record, 2 * record + 9, 60000, (uint16_t)(stamp + 1)), RISSOBARM_END_BUDGET, 2));
+    hold("traced: waiting", ran(rissobarm_plan_run_traced(&run, trace + 3 * record, 17 * record, 60000, (uint16_t)(stamp + 3)),
+                                RISSOBARM_END_WAITING, 6));
+    hold("traced: a supply", rissobarm_plan_supply_traced(&run, trace + 9 * record, record, 0, 1, (uint16_t)(stamp + 9)) == 0);
+    hold("traced: success", ran(rissobarm_plan_run_traced(&run, trace + 10 * record, 10 * record, 60000, (uint16_t)(stamp + 10)),
+                                RISSOBARM_END_SUCCESS, 9));
+    hold("traced: its stamp", rissobarm_word_at(trace + 6 * record + RISSOBARM_TRACE_STAMP) == 0);
+    rissobarm_plan_start(&other, waits, sizeof waits);
+    hold("traced: played", rissobarm_played(rissobarm_plan_replay(&other, trace, 19 * record)) == 19 && same_rows());
+    hold("traced: not twice", rissobarm_plan_replay(&other, trace, 19 * record) == RISSOBARM_DISAGREES);
+    rissobarm_plan_start(&other, waits, sizeof waits);
+    trace[RISSOBARM_TRACE_STAMP]++;
+    hold("traced: a gap", rissobarm_plan_replay(&other, trace, 19 * record) == (RISSOBARM_GAP | (uint64_t)record << 32));
 }
 
 static void try_room(void)
@@ -147,6 +177,7 @@ static void try_refused(void)
     hold("value refused", rissobarm_plan_value(&run, 0) == answer);
     hold("turn with a list refused", rissobarm_plan_turn_bound(&run, other.vars, 0) == answer);
     hold("save refused", rissobarm_plan_save(&run, other.vars, 0) == answer);
+    hold("replay refused", rissobarm_plan_replay(&run, other.vars, 0) == answer);
     hold("values refused", rissobarm_plan_values(&run, other.vars, 0) == answer);
 }
 
@@ -202,6 +233,7 @@ int main(void)
     try_values();
     try_bound();
     try_saved();
+    try_traced();
     try_room();
     try_refused();
     try_long();
