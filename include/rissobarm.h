@@ -14,8 +14,8 @@
  * refusal 20 of a replay.
  *
  * Threads: the library has no data that it writes, so that a call depends on nothing but what it is lent. Any number of calls
- * may run at once, as long as no row that one of them writes is lent to another: runs of one image side by side, or values
- * and watches of one run. Nothing is locked; what else is done to one run is for the caller to take one after another.
+ * may run at once, as long as no row that one of them writes is lent to another: runs of one image side by side, or values,
+ * saves and watches of one run. Nothing is locked; what else is done to one run is for the caller to take one after another.
  *
  * Stack: a call takes at most RISSOBARM_STACK bytes, whatever it is lent; nothing in it calls itself.
  */
