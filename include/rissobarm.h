@@ -379,10 +379,9 @@ static inline uint32_t rissobarm_touched(uint64_t answer)
 
 /*
  * rissobarm_step, rissobarm_turn and rissobarm_supply with a list of the variables that were bound, in the order in which they
- * were: their count, then the number of each, all of two bytes. A move that binds none, which is every one but the success of
- * an input-match or an equate, writes the count 0; a supply writes the one variable that took the binding, which is the value of
- * the goal variable that was asked for. Words, tables and refusals are those of the plain call; then 11 when bound has no room
- * for the list.
+ * were: their count, then the number of each, all of two bytes. Only an input-match or an equate that succeeds can bind any; every
+ * other move has the count 0. A supply lists the one variable that took the binding, which is the value of the goal variable
+ * that was asked for. Words, tables and refusals are those of the plain call; then 11 when bound has no room for the list.
  */
 uint64_t rissobarm_step_bound(const uint8_t *image, size_t image_len, uint8_t *head, size_t head_len,
                               uint8_t *procs, size_t procs_len, uint8_t *vars, size_t vars_len,
