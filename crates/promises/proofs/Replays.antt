@@ -33,7 +33,7 @@ use Rattle.promises.proofs.Words.{large-of, refusal-of}
 use Rattle.promises.specs.Moves.{afterStep, Holds}
 use Rattle.promises.specs.Outcomes.{largeIn, refusalIn, ReplayMeets}
 use Rattle.promises.specs.Refusals.{for-image, for-tables, LetIn, RefusesBy, TurnedAway}
-use Rattle.promises.specs.Replays.{Agrees, AgreeTo, LeftOff, none-yet, one-disagrees, one-more, RefusesReplay, replay-away, replay-record, ReplayRefused, ReplaysAll, step-agrees, StopsAt, supply-agrees}
+use Rattle.promises.specs.Replays.{Agrees, AgreeTo, LeftOff, none-yet, one-disagrees, one-more, RefusesReplay, replay-away, replay-record, ReplayExact, ReplayRefused, ReplaysAll, step-agrees, StopsAt, supply-agrees}
 use Rattle.replay.specs.Replay.{disagrees, isPlayed, playFrom, Playing, playRecord, plays, playStep, playSupply, replayCall, replayNumbers}
 use Rattle.replay.specs.declared.Replayed.{Replayed}
 use Rattle.replay.specs.declared.Replayed.the-variants.{Replays, Unreplayed}
@@ -286,3 +286,13 @@ module _ (lim : Limits) (s : List ℕ) (l : Lent) (x : List ℕ) where
         let q = replay-plays i right a in
         let k = played-told w n (meets .contract .answer ∙ rw q) in
         (k .0, k .1, call-lent q)
+
+    -- THE LAW: a replay goes exactly as far as the records agree
+    pub replay-exact : ReplayExact lim s l x w l′
+    replay-exact =
+        record {
+          accepted = demand-2-replay;
+          all-agree = λ i right a. agree-replays i right a .0;
+          stopped = demand-1-replay .left;
+          one-not = λ i y. reasons .given (one-disagrees i y);
+        }

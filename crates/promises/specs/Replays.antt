@@ -79,3 +79,10 @@ pub record ReplaysAll (lim : Limits) (s : List ℕ) (l : Lent) (x : List ℕ) (w
   pub agree : AgreeTo lim (programOf s relations clauses) x (tablesIn l) records after
   pub told : largeIn w ≡ toldOffset records
   pub tables : Holds l after l′
+
+-- Traces 6, 7: accepted exactly where every record of a right trace agrees, and 20 exactly where one does not, each with its tables
+pub record ReplayExact (lim : Limits) (s : List ℕ) (l : Lent) (x : List ℕ) (w : ℕ) (l′ : Lent) : Type 0 where
+  pub accepted : refusalIn w ≡ 0 → ReplaysAll lim s l x w l′
+  pub all-agree : {r c n : ℕ} {u : Tables} → LetIn lim s l r c → RightTrace x n → AgreeTo lim (programOf s r c) x (tablesIn l) n u → refusalIn w ≡ 0
+  pub stopped : refusalIn w ≡ 20 → LeftOff lim s l x w l′
+  pub one-not : {r c n k : ℕ} {u : Tables} → LetIn lim s l r c → StopsAt lim (programOf s r c) x (tablesIn l) n k u → (refusalIn w ≡ 20) × (largeIn w ≡ toldOffset (k * traceSize))
