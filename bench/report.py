@@ -81,6 +81,13 @@ def run_table(found):
                       for key, lines in chosen(found, "run")])
 
 
+def traced_table(found):
+    """What a trace adds to a run, where it was measured."""
+    rows = [[key[1], number(key[3]), str(key[2]), spread(lines)] for key, lines in chosen(found, "traced run")]
+    if rows:
+        yield from table("A traced run of a whole plan over the plain one, both of the archive", ["Plan", "Bytes", "Rows at the end", "Ratio"], rows)
+
+
 def woken_table(found):
     """What a woken call takes in nanoseconds, where it was measured."""
     rows = [[key[1], *("{:,.0f}".format(middle(lines, side)) for side in ("archive", "plain", "quick")),
@@ -130,6 +137,7 @@ def tables(found):
     yield ""
     yield from load_tables(found)
     yield from run_table(found)
+    yield from traced_table(found)
     yield from woken_table(found)
     yield from grid_table(found, "step", "A step, by rows in use and image size")
     yield from grid_table(found, "step", "A step to that of the quick C, by rows in use and image size", "to_quick")
@@ -139,13 +147,18 @@ def tables(found):
     yield from report_table(found)
 
 
-TARGETS = {"load": 1.2, "run": 1.6, "step": 2.0, "report": 2.0, "call without a step": 2.0, "supply": 2.0}
+TARGETS = {"load": 1.2, "run": 1.6, "traced run": 1.2, "step": 2.0, "report": 2.0, "call without a step": 2.0, "supply": 2.0}
 WILD = ("wild goal", 1.5)  # the images of a load that have a target of their own
 
 
 def target_of(what, which):
     """The target of a thing measured, by its name."""
     return WILD[1] if what == "load" and which.startswith(WILD[0]) else TARGETS[what]
+
+
+def targets(found):
+    """The things that have a target and were measured."""
+    return [what for what in TARGETS if chosen(found, what)]
 
 
 def target_text(what):
@@ -161,11 +174,11 @@ def quick_range(cases):
 def summary(found):
     """For each thing measured the least and the greatest median, the case of the greatest, and how many miss the target."""
     rows = []
-    for what in TARGETS:
+    for what in targets(found):
         measured = chosen(found, what)
         cases = sorted((middle(lines), key) for key, lines in measured)
         ratio, (_, which, used, size) = cases[-1]
-        case = "%s, %s bytes" % ("%d rows" % used if used and what != "run" else which, number(size))
+        case = "%s, %s bytes" % ("%d rows" % used if used and not what.endswith("run") else which, number(size))
         missed = sum(ratio > target_of(what, key[1]) for ratio, key in cases)
         rows.append([what, target_text(what), "%.2f" % cases[0][0], "%.2f (%s)" % (ratio, case),
                      "%d of %d" % (missed, len(cases)), quick_range(measured)])
@@ -176,7 +189,7 @@ def over(found, what):
     """The cases over a target: plans and images by name, the others by image size, with the fewest and the most rows."""
     told = []
     cases = [(key, lines, middle(lines) > target_of(what, key[1])) for key, lines in chosen(found, what)]
-    if what in ("load", "run"):
+    if what in ("load", "run", "traced run"):
         return ["%s %.2f" % (key[1], middle(lines)) for key, lines, missed in cases if missed]
     for size in sorted({key[3] for key, _, _ in cases}):
         here = [(key[2], missed) for key, _, missed in cases if key[3] == size]
@@ -189,7 +202,7 @@ def over(found, what):
 def missed(found):
     """What is over its target."""
     yield from table("", ["What", "Target", "Over it"],
-                     [[what, target_text(what), "; ".join(over(found, what)) or "none"] for what in TARGETS])
+                     [[what, target_text(what), "; ".join(over(found, what)) or "none"] for what in targets(found)])
 
 
 def set_into(page, blocks):

@@ -1,4 +1,7 @@
-/* The archive's run and supply beside those in C, as ratios: whole plans, then calls by rows in use and by image size. */
+/*
+ * The archive's run and supply beside those in C, as ratios: whole plans, then calls by rows in use and by image size. And its
+ * traced run beside its plain one.
+ */
 #include "plans.h"
 #include "tables.h"
 #include "times.h"
@@ -8,6 +11,9 @@
 
 /* Steps of a call that is timed, and calls between two looks at the clock. */
 enum { STRIDE = 64, BLOCK = 16 };
+
+/* Records that a trace has room for: more than a plan makes steps. */
+enum { TRACED = 4000 };
 
 static struct image image;
 static struct arrivals arrivals;
@@ -47,6 +53,32 @@ static double plays(unsigned side, unsigned times)
     return spent / times;
 }
 
+/* The archive's run: with a trace in the place of the archive, without one in that of the plain C. */
+static uint64_t timed_trace(unsigned limit)
+{
+    static uint8_t trace[TRACED * RISSOBARM_TRACE_RECORD_SIZE];
+    double start = now();
+    uint64_t answer = player == ARCHIVE
+                          ? rissobarm_run_traced(IMAGE, TABLES(&ours), trace, sizeof trace, (uint16_t)limit, 0)
+                          : rissobarm_run(IMAGE, TABLES(&ours), (uint16_t)limit);
+
+    spent += now() - start;
+    return answer;
+}
+
+static double traced_plays(unsigned side, unsigned times)
+{
+    unsigned k;
+
+    player = side;
+    spent = 0;
+    for (k = 0; k < times; k++) {
+        sink = rissobarm_start(IMAGE, TABLES(&ours));
+        sink = play(&arrivals, timed_trace, supply);
+    }
+    return spent / times;
+}
+
 /* The plan at hand, under a name. */
 static void tell_plan(const char *name, int length)
 {
@@ -55,6 +87,8 @@ static void tell_plan(const char *name, int length)
 
     snprintf(shown, sizeof shown, "%.*s", length, name);
     tell("run", shown, processes(&ours), image.length, &here, &here);
+    here = in_turns(traced_plays, TWO_SIDES);
+    tell("traced run", shown, processes(&ours), image.length, &here, &here);
 }
 
 /* A plan is named by its image's file, as FOLDER/NAME.image. */

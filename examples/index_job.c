@@ -1,7 +1,7 @@
 /*
  * An index job: runs a plan whose records are fetched, normalised and placed, while their values still arrive.
  *
- *   index_job IMAGE RECORDS [SLICE [SAVED]] <ARRIVALS
+ *   index_job IMAGE RECORDS [SLICE [SAVED [TRACE]]] <ARRIVALS
  *
  * IMAGE is a file (build one with plan.c), RECORDS how many records its goal places, SLICE how many turns are made before
  * arrivals are looked for again (default 50). The goal's variables stand as index.plan says: for record r, from 1 on,
@@ -12,9 +12,12 @@
  * and comes in when that many steps are made (0 without the number), or earlier when the run waits: then nothing else
  * can happen. Lines come in as they stand, one read ahead.
  *
- * SAVED is a file for the run: where there is one, the job goes on from it, with the arrivals behind those that came before; it
- * is written anew behind each slice and each arrival. So a job that is killed, at any moment, loses nothing: started again with
- * the same words it comes to the same end with the same tables.
+ * SAVED is a file for the run, - for none: where there is one, the job goes on from it, with the arrivals behind those that came
+ * before; it is written anew behind each slice and each arrival. So a job that is killed, at any moment, loses nothing: started
+ * again with the same words it comes to the same end with the same tables.
+ *
+ * TRACE is a file for a record of each step and each arrival from where the run begins or is taken up. At the end it is played
+ * again from there and must give the same tables. Steps are then made by run calls, which do not tell who wakes whom.
  *
  * Ends with 0 where the goal succeeded, 1 failed, 2 still waits when no arrival is left, 3 has no room, 4 where a call was
  * refused that had to be accepted, 5 where the arguments or a file are no good. A refused arrival is told and left out.
@@ -31,6 +34,7 @@ enum { SUCCEEDED = 0, FAILED = 1, WAITS = 2, NO_ROOM = 3, REFUSED = 4, NO_GOOD =
 enum { FREE = 0, KEY = 1, PLACE = 2, FIELDS = 3 };
 enum { MOST_RECORDS = 5, LAST_RECORD = 9999, LINE_ROOM = 200, PATH_ROOM = 4096, SLICE = 50, SLICE_LIMIT = 1000000 };
 enum { TAKEN_SIZE = 4 }; /* bytes before the run in its file: how many arrivals came before */
+enum { TRACE_STEPS = 1000, TRACE_ROOM = TRACE_STEPS * RISSOBARM_TRACE_RECORD_SIZE };
 
 static const char *const field_names[FIELDS] = { "free", "key", "place" };
 
@@ -45,6 +49,9 @@ struct job {
     const char *saved;        /* the file of the run, or NULL */
     unsigned taken;           /* arrivals that came in */
     int unsaved;              /* whether the file could not be written */
+    FILE *trace;              /* or NULL */
+    unsigned traced;          /* records written; the next one has this stamp */
+    struct rissobarm_plan began; /* the run where the trace begins */
 };
 
 /* A value from outside; there is none when it is not pending. */
@@ -254,6 +261,67 @@ static int begin(struct job *job)
     return rissobarm_refusal(answer) == RISSOBARM_ACCEPTED;
 }
 
+/* ---- the trace ---- */
+
+/* Writes the records of what was done. */
+static void note(struct job *job, const uint8_t *records, unsigned count)
+{
+    if (fwrite(records, RISSOBARM_TRACE_RECORD_SIZE, count, job->trace) != count)
+        job->unsaved = 1;
+    job->traced += count;
+}
+
+/* A supply, with its record where there is a trace, else with the variable that took it. */
+static uint64_t supply(struct job *job, unsigned variable, unsigned value, uint8_t *bound, size_t bound_len)
+{
+    uint8_t record[RISSOBARM_TRACE_RECORD_SIZE];
+    uint64_t answer;
+
+    memset(bound, 0, bound_len);
+    if (job->trace == NULL)
+        return rissobarm_plan_supply_bound(&job->run, bound, bound_len, variable, value);
+    answer = rissobarm_plan_supply_traced(&job->run, record, sizeof record, variable, value, (uint16_t)job->traced);
+    if (rissobarm_refusal(answer) == RISSOBARM_ACCEPTED)
+        note(job, record, 1);
+    return answer;
+}
+
+/* A slice by run calls, each as long as there is room for its records. */
+static uint64_t run_traced(struct job *job)
+{
+    static uint8_t records[TRACE_ROOM];
+    unsigned left = job->slice;
+    uint64_t answer;
+
+    do {
+        answer = rissobarm_plan_run_traced(&job->run, records, sizeof records,
+                                           (uint16_t)(left < TRACE_STEPS ? left : (unsigned)TRACE_STEPS), (uint16_t)job->traced);
+        if (rissobarm_refusal(answer) != RISSOBARM_ACCEPTED)
+            return answer;
+        note(job, records, rissobarm_steps(answer));
+        left -= rissobarm_steps(answer);
+    } while (rissobarm_end(answer) == RISSOBARM_END_BUDGET && left > 0);
+    return answer;
+}
+
+/* Plays the trace again from where it began; whether all of it can be played and gives the same tables. */
+static int played_again(struct job *job)
+{
+    static uint8_t records[TRACE_ROOM];
+    struct rissobarm_plan *again = &job->began;
+    size_t length;
+    uint64_t answer = RISSOBARM_ACCEPTED;
+
+    rewind(job->trace);
+    while (rissobarm_refusal(answer) == RISSOBARM_ACCEPTED && (length = fread(records, 1, sizeof records, job->trace)) > 0)
+        answer = rissobarm_plan_replay(again, records, length);
+    if (rissobarm_refusal(answer) != RISSOBARM_ACCEPTED)
+        say_refusal("trace", answer);
+    return rissobarm_refusal(answer) == RISSOBARM_ACCEPTED && memcmp(again->head, job->run.head, sizeof again->head) == 0 &&
+           memcmp(again->procs, job->run.procs, sizeof again->procs) == 0 &&
+           memcmp(again->vars, job->run.vars, sizeof again->vars) == 0;
+}
+
 /* ---- arrivals ---- */
 
 /* The field named, or FIELDS. */
@@ -291,7 +359,7 @@ static void deliver(struct job *job, struct arrival *next)
 {
     uint8_t bound[RISSOBARM_BOUND_SIZE];
     unsigned variable = FIELDS * (next->record - 1) + next->field;
-    uint64_t answer = rissobarm_plan_supply_bound(&job->run, bound, sizeof bound, variable, next->value);
+    uint64_t answer = supply(job, variable, next->value, bound, sizeof bound);
 
     printf("step %u: %s of record %u arrives as %u\n", steps_made(job), field_names[next->field], next->record,
            next->value);
@@ -330,6 +398,8 @@ static uint64_t run_slice(struct job *job)
     uint8_t bound[RISSOBARM_BOUND_SIZE];
     unsigned made = 0;
 
+    if (job->trace != NULL)
+        return run_traced(job);
     while (made < job->slice &&
            rissobarm_refusal(rissobarm_plan_turn_bound(&job->run, bound, sizeof bound)) == RISSOBARM_ACCEPTED) {
         tell_woken(job, bound, record_of(job, rissobarm_word_at(job->run.head + RISSOBARM_HEAD_LAST)));
@@ -385,6 +455,7 @@ static int work(struct job *job)
 
     if (!begin(job))
         return REFUSED;
+    job->began = job->run;
     pass_over(job->taken, &next);
     if (steps_made(job) > 0) { /* taken up behind a slice */
         tell_places(job);
@@ -400,9 +471,24 @@ static int work(struct job *job)
         tell_places(job);
         how = after_slice(job, &next, rissobarm_end(answer));
     }
+    return how;
+}
+
+/* The end of the work: whether its files were written, and what the trace gives. */
+static int ended(struct job *job, int how)
+{
     if (job->unsaved)
-        fprintf(stderr, "index_job: %s cannot be written\n", job->saved);
-    return job->unsaved ? (int)NO_GOOD : how;
+        fprintf(stderr, "index_job: a file cannot be written\n");
+    if (job->unsaved)
+        return NO_GOOD;
+    if (job->trace == NULL || how == REFUSED)
+        return how;
+    if (!played_again(job)) {
+        printf("trace: %u records, played again they give other tables\n", job->traced);
+        return REFUSED;
+    }
+    printf("trace: %u records, played again they give the same tables\n", job->traced);
+    return how;
 }
 
 /* Reads the image, one byte past the limit at most: that is enough to have it refused as LONG. */
@@ -421,13 +507,18 @@ int main(int count, char **words)
     static struct job job;
     uint64_t answer;
 
-    if (count < 3 || count > 5 || !read_image(&job, words[1])) {
-        fprintf(stderr, "index_job IMAGE RECORDS [SLICE [SAVED]] <ARRIVALS\n");
+    if (count < 3 || count > 6 || !read_image(&job, words[1])) {
+        fprintf(stderr, "index_job IMAGE RECORDS [SLICE [SAVED [TRACE]]] <ARRIVALS\n");
         return NO_GOOD;
     }
     job.records = (unsigned)strtoul(words[2], NULL, 10);
     job.slice = count >= 4 ? (unsigned)strtoul(words[3], NULL, 10) : (unsigned)SLICE;
-    job.saved = count >= 5 ? words[4] : NULL;
+    job.saved = count >= 5 && strcmp(words[4], "-") != 0 ? words[4] : NULL;
+    job.trace = count >= 6 ? fopen(words[5], "w+b") : NULL;
+    if (count >= 6 && job.trace == NULL) {
+        fprintf(stderr, "index_job: %s cannot be written\n", words[5]);
+        return NO_GOOD;
+    }
     if (job.records < 1 || job.records > MOST_RECORDS || job.slice < 1 || job.slice > SLICE_LIMIT) {
         fprintf(stderr, "index_job: 1 to %d records, slices of 1 to %d steps\n", MOST_RECORDS, SLICE_LIMIT);
         return NO_GOOD;
@@ -438,5 +529,5 @@ int main(int count, char **words)
         return REFUSED;
     }
     printf("plan: %u relations, %u clauses\n", rissobarm_relations(answer), rissobarm_clauses(answer));
-    return work(&job);
+    return ended(&job, work(&job));
 }

@@ -79,3 +79,13 @@ class Plan:
         count = self.call('values', row=(row, ctypes.c_size_t(VALUES))) >> 32
         cells = [row.raw[4 * k:4 * k + 4] for k in range(count)]
         return [int.from_bytes(cell[1:], 'little') if cell[0] == 1 else None for cell in cells]
+
+    def run_traced(self, limit, stamp):
+        """Makes at most so many turns: how it ended, and a record of ten bytes for each, the first with this stamp."""
+        row = ctypes.create_string_buffer(10 * limit + 1)
+        word = self.call('run_traced', limit, stamp, row=(row, ctypes.c_size_t(10 * limit)))
+        return ENDS[word >> 8 & 255], row.raw[:10 * (word >> 32)]
+
+    def replay(self, trace):
+        """Plays a trace again, from the tables that it began with; how many records."""
+        return self.call('replay', row=(trace, ctypes.c_size_t(len(trace)))) >> 32

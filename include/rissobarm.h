@@ -10,11 +10,12 @@
  * A byte row is lent as a pointer and its length. The pointer is never null, not even for a length of 0, and the row
  * is readable (and writable where it is not const) over the whole length. Rows lent to one call do not overlap.
  * No call keeps a pointer, allocates memory or fails in any other way than by a refusal in its answer.
- * A call writes only rows that are not const here. A refused call leaves every lent byte as it was.
+ * A call writes only rows that are not const here. A refused call leaves every lent byte as it was; the one exception is
+ * refusal 20 of a replay.
  *
  * Threads: the library has no data that it writes, so that a call depends on nothing but what it is lent. Any number of calls
- * may run at once, as long as no row that one of them writes is lent to another: runs of one image side by side, or values
- * and watches of one run. Nothing is locked; what else is done to one run is for the caller to take one after another.
+ * may run at once, as long as no row that one of them writes is lent to another: runs of one image side by side, or values,
+ * saves and watches of one run. Nothing is locked; what else is done to one run is for the caller to take one after another.
  *
  * Stack: a call takes at most RISSOBARM_STACK bytes, whatever it is lent; nothing in it calls itself.
  */
@@ -78,7 +79,7 @@ enum {
     RISSOBARM_SAVED_SIZE = 22544                                          /* of a saved run */
 };
 
-/* ---- images and saved runs ---- */
+/* ---- images, saved runs and traces ---- */
 
 /* Kinds of the records of an image. */
 enum {
@@ -95,6 +96,18 @@ enum {
     RISSOBARM_RUN_RECORD_SIZE = RISSOBARM_RECORD_HEAD + RISSOBARM_HEAD_SIZE + 2,
     RISSOBARM_PROCESS_RECORD_SIZE = RISSOBARM_RECORD_HEAD + RISSOBARM_PROCESS_ROW,
     RISSOBARM_VARIABLE_RECORD_SIZE = RISSOBARM_RECORD_HEAD + RISSOBARM_VARIABLE_ROW
+};
+
+/* Kinds of the records of a trace, which have ten bytes, and where their fields stand, two bytes each. */
+enum {
+    RISSOBARM_RECORD_STEP = 32,   /* a process, its rule, a stamp */
+    RISSOBARM_RECORD_SUPPLY = 33, /* a goal variable, the value supplied, a stamp */
+    RISSOBARM_TRACE_PROCESS = 4,
+    RISSOBARM_TRACE_RULE = 6,
+    RISSOBARM_TRACE_VARIABLE = 4,
+    RISSOBARM_TRACE_VALUE = 6,
+    RISSOBARM_TRACE_STAMP = 8,
+    RISSOBARM_TRACE_RECORD_SIZE = 10
 };
 
 /* What literals and terms hold. */
@@ -209,7 +222,9 @@ enum {
     RISSOBARM_BOUND = 13,   /* the value of that variable is a constant already */
     RISSOBARM_CONST = 14,   /* the value supplied is above RISSOBARM_CONSTANT_LIMIT */
     RISSOBARM_FOREIGN = 15, /* the saved run is one of an image with another length */
-    RISSOBARM_REFUSAL_COUNT = 15
+    RISSOBARM_GAP = 19,     /* a record's stamp does not follow that of the record before */
+    RISSOBARM_DISAGREES = 20, /* what a record of a trace tells cannot be done, or is another rule */
+    RISSOBARM_REFUSAL_COUNT = 20 /* the highest; 16 to 18 are not given */
 };
 
 /* ---- rules: what a step did ---- */
@@ -364,10 +379,9 @@ static inline uint32_t rissobarm_touched(uint64_t answer)
 
 /*
  * rissobarm_step, rissobarm_turn and rissobarm_supply with a list of the variables that were bound, in the order in which they
- * were: their count, then the number of each, all of two bytes. A move that binds none, which is every one but the success of
- * an input-match or an equate, writes the count 0; a supply writes the one variable that took the binding, which is the value of
- * the goal variable that was asked for. Words, tables and refusals are those of the plain call; then 11 when bound has no room
- * for the list.
+ * were: their count, then the number of each, all of two bytes. Only an input-match or an equate that succeeds can bind any; every
+ * other move has the count 0. A supply lists the one variable that took the binding, which is the value of the goal variable
+ * that was asked for. Words, tables and refusals are those of the plain call; then 11 when bound has no room for the list.
  */
 uint64_t rissobarm_step_bound(const uint8_t *image, size_t image_len, uint8_t *head, size_t head_len,
                               uint8_t *procs, size_t procs_len, uint8_t *vars, size_t vars_len,
@@ -477,6 +491,48 @@ static inline uint32_t rissobarm_saved(uint64_t answer)
 uint64_t rissobarm_resume(const uint8_t *image, size_t image_len, uint8_t *head, size_t head_len,
                           uint8_t *procs, size_t procs_len, uint8_t *vars, size_t vars_len,
                           const uint8_t *saved, size_t saved_len);
+
+/* ---- traces ---- */
+
+/*
+ * rissobarm_step and rissobarm_supply with a record of what was done, RISSOBARM_TRACE_RECORD_SIZE bytes: the process and its
+ * rule, or the goal variable as it was asked for and the value, and the stamp. Words, tables and refusals are those of the plain
+ * call; then 11 when trace has no room for the record.
+ */
+uint64_t rissobarm_step_traced(const uint8_t *image, size_t image_len, uint8_t *head, size_t head_len,
+                               uint8_t *procs, size_t procs_len, uint8_t *vars, size_t vars_len,
+                               uint8_t *trace, size_t trace_len, uint32_t process, uint16_t stamp);
+
+uint64_t rissobarm_supply_traced(const uint8_t *image, size_t image_len, const uint8_t *head, size_t head_len,
+                                 const uint8_t *procs, size_t procs_len, uint8_t *vars, size_t vars_len,
+                                 uint8_t *trace, size_t trace_len, uint32_t variable, uint32_t value, uint16_t stamp);
+
+/*
+ * rissobarm_run with a record for each step, one behind the other; the first has the stamp, and each further one counts on by
+ * one, from 65,535 to 0. Trace bounds the steps as the limit does: where it has no room for one more record, the run ends by its
+ * budget. Words, tables and refusals are those of the plain call; 11 is not given.
+ */
+uint64_t rissobarm_run_traced(const uint8_t *image, size_t image_len, uint8_t *head, size_t head_len,
+                              uint8_t *procs, size_t procs_len, uint8_t *vars, size_t vars_len,
+                              uint8_t *trace, size_t trace_len, uint16_t limit, uint16_t stamp);
+
+/*
+ * Plays a trace again, on the tables that it began with: those of a start or, for one that began in mid-run, of the run saved
+ * then. Accepted: the records played in bits 32-63, and the tables are those that the recorded calls left. Refused: 1 to 8; then
+ * over the whole trace by record 2; 3, for a kind that is no trace's; 4, for a length that is not RISSOBARM_TRACE_RECORD_SIZE;
+ * then 19 when a stamp is not one more than the one before; all before a record is played. Then 20 at the first record whose step
+ * or supply is refused or has another rule: the tables are left as the records before it made them. 2, 3, 4, 19 and 20 hold the
+ * offset of the record in bits 32-63.
+ */
+uint64_t rissobarm_replay(const uint8_t *image, size_t image_len, uint8_t *head, size_t head_len,
+                          uint8_t *procs, size_t procs_len, uint8_t *vars, size_t vars_len,
+                          const uint8_t *trace, size_t trace_len);
+
+/* The records that an accepted replay played. */
+static inline uint32_t rissobarm_played(uint64_t answer)
+{
+    return (uint32_t)(answer >> 32);
+}
 
 /* ---- watch ---- */
 

@@ -47,7 +47,10 @@ static inline const char *rissobarm_refusal_text(unsigned refusal)
         "NOVAR: the goal has no such variable",
         "BOUND: its value is a constant already",
         "CONST: the value supplied is over 32,767",
-        "FOREIGN: the saved run is one of an image with another length"
+        "FOREIGN: the saved run is one of an image with another length",
+        "unknown", "unknown", "unknown",
+        "GAP: a record's stamp does not follow that of the record before",
+        "DISAGREES: what a record of a trace tells cannot be done, or is another rule"
     };
 
     return rissobarm_text_of(texts, sizeof texts / sizeof texts[0], refusal);
@@ -189,6 +192,43 @@ static inline uint64_t rissobarm_plan_run(struct rissobarm_plan *plan, uint32_t 
     return (answer & UINT32_MAX) | (uint64_t)made << 32;
 }
 
+/* Makes the move of one process and writes its record. */
+static inline uint64_t rissobarm_plan_step_traced(struct rissobarm_plan *plan, uint8_t *trace, size_t trace_len,
+                                                  uint32_t process, uint16_t stamp)
+{
+    return rissobarm_step_traced(RISSOBARM_PLAN_LENT(plan), trace, trace_len, process, stamp);
+}
+
+/* Makes turns as rissobarm_plan_run does, as many as trace has room for at most, and writes the record of each. */
+static inline uint64_t rissobarm_plan_run_traced(struct rissobarm_plan *plan, uint8_t *trace, size_t trace_len,
+                                                 uint32_t limit, uint16_t stamp)
+{
+    uint32_t made = 0;
+    uint64_t answer;
+
+    if (trace_len / RISSOBARM_TRACE_RECORD_SIZE < limit)
+        limit = (uint32_t)(trace_len / RISSOBARM_TRACE_RECORD_SIZE);
+    do {
+        uint32_t slice = limit - made;
+        size_t written = (size_t)made * RISSOBARM_TRACE_RECORD_SIZE;
+
+        if (slice > RISSOBARM_RUN_LIMIT)
+            slice = RISSOBARM_RUN_LIMIT;
+        answer = rissobarm_run_traced(RISSOBARM_PLAN_LENT(plan), trace + written, trace_len - written, (uint16_t)slice,
+                                      (uint16_t)(stamp + made));
+        if (rissobarm_refusal(answer) != RISSOBARM_ACCEPTED)
+            return answer;
+        made += rissobarm_steps(answer);
+    } while (rissobarm_end(answer) == RISSOBARM_END_BUDGET && made < limit);
+    return (answer & UINT32_MAX) | (uint64_t)made << 32;
+}
+
+/* Plays a trace again. */
+static inline uint64_t rissobarm_plan_replay(struct rissobarm_plan *plan, const uint8_t *trace, size_t trace_len)
+{
+    return rissobarm_replay(RISSOBARM_PLAN_LENT(plan), trace, trace_len);
+}
+
 /* Binds the value of a goal variable to a constant. */
 static inline uint64_t rissobarm_plan_supply(struct rissobarm_plan *plan, uint32_t variable, uint32_t value)
 {
@@ -200,6 +240,13 @@ static inline uint64_t rissobarm_plan_supply_bound(struct rissobarm_plan *plan, 
                                                    uint32_t variable, uint32_t value)
 {
     return rissobarm_supply_bound(RISSOBARM_PLAN_LENT(plan), bound, bound_len, variable, value);
+}
+
+/* Binds the value of a goal variable to a constant and writes the record of that. */
+static inline uint64_t rissobarm_plan_supply_traced(struct rissobarm_plan *plan, uint8_t *trace, size_t trace_len,
+                                                    uint32_t variable, uint32_t value, uint16_t stamp)
+{
+    return rissobarm_supply_traced(RISSOBARM_PLAN_LENT(plan), trace, trace_len, variable, value, stamp);
 }
 
 /* Gives the value of a goal variable. */

@@ -16,7 +16,7 @@ DOCUMENT = os.path.join(ROOT, '..', 'shared', '01-scope.md')
 TITLES = {'Image': 'The image', 'Refusals': 'The refusal numbers', 'Tables': "A run's tables", 'Tags': 'Tags and modes',
           'Turns': 'Turn order and supplies'}
 SENTENCE = re.compile(r'(?ms)^- \*\*(\w+) (\d+[a-z]?)\*\* (.*?\.)((?:\s+`[^`]+`,?)*)\s*?(?=\n\n|\n- |\Z)')
-DEFINING = ['parlog', 'values', 'unify', 'bound_row', 'bound', 'saved', 'resume', 'words']
+DEFINING = ['parlog', 'values', 'unify', 'bound_row', 'bound', 'saved', 'resume', 'words', 'trace', 'replay', 'traced', 'run_traced']
 WIDTH = 160
 
 

@@ -69,6 +69,8 @@ void bed_begin(struct bed *bed, const struct story *story)
     bed->further_length = UNTOLD;
     bed->calls = 0;
     bed->kept.length = 0;
+    bed->tape.length = 0;
+    bed->tape.stamp = 0;
     memcpy(bed->image.bytes, story->image.bytes, story->image.length);
     memset(&bed->ours, MEANINGLESS, sizeof bed->ours);
     for (k = 0; k < LENT_ROWS; k++)
@@ -93,10 +95,30 @@ const struct broken *bed_broken(struct bed *bed)
 
 /* ---- events that are no calls */
 
+/* Sets the stamp of a new tape, or the tables to where the tape begins. */
+static void wind(struct bed *bed, const struct event *event)
+{
+    if (event->kind == STAMPS) {
+        bed->tape.stamp = (uint16_t)event->a;
+        bed->tape.length = 0;
+    } else if (bed->tape.length > 0) {
+        bed->ours = bed->tape.from;
+        bed->straight = bed->tape.straight;
+        bed->changed = !bed->straight;
+        bed->scattered = false;
+        hand_over(bed);
+        fair_begin();
+    }
+}
+
 static bool change(struct bed *bed, const struct event *event)
 {
     if (event->kind == SIZES) {
         *(event->row == THE_FURTHER ? &bed->further_length : &bed->sizes[event->row]) = event->a;
+        return true;
+    }
+    if (event->kind == STAMPS || event->kind == REWINDS) {
+        wind(bed, event);
         return true;
     }
     bed->straight = false;
@@ -164,6 +186,14 @@ static bool reads_only(unsigned kind)
     return kind == LOADS || kind == VALUES || kind == WATCHES || kind == ALL_VALUES || kind == SAVES;
 }
 
+/* A refused call changes nothing, unless it is a replay that has come to a record that disagrees. */
+static bool may_change(const struct bed *bed)
+{
+    unsigned refusal = rissobarm_refusal(bed->answer);
+
+    return refusal == RISSOBARM_ACCEPTED || refusal == RISSOBARM_DISAGREES;
+}
+
 bool bed_play(struct bed *bed, const struct event *event)
 {
     struct entry entry;
@@ -178,7 +208,7 @@ bool bed_play(struct bed *bed, const struct event *event)
     full_sizes(bed);
     if (!same_answer(bed) || !same_guards(bed) || !further_right(bed, event))
         return false;
-    if (!same_bytes(bed, rissobarm_refusal(bed->answer) != RISSOBARM_ACCEPTED || reads_only(event->kind)))
+    if (!same_bytes(bed, !may_change(bed) || reads_only(event->kind)))
         return false;
     if (!entry_right(bed, event, &entry) || !properties_hold(bed, event) || !further_holds(bed, event))
         return false;

@@ -17,6 +17,17 @@ struct kept {
     bool straight, changed, scattered;
 };
 
+enum { TAPE_ROOM = ROW_ROOM - 2 * ROW_GUARD };
+
+/* The records of the traced calls that followed each other last, and the tables before the first and after the last. */
+struct tape {
+    uint8_t bytes[TAPE_ROOM];
+    size_t length;
+    struct rows from, to;
+    bool straight;  /* of the tables before */
+    uint16_t stamp; /* of the next record */
+};
+
 struct bed {
     struct row image;              /* the archive's */
     struct row lent[LENT_ROWS];    /* the archive's */
@@ -30,6 +41,7 @@ struct bed {
     struct rows before;            /* both sides' before the last call */
     size_t sizes[LENT_ROWS];       /* the lengths that the next call is lent */
     struct kept kept;
+    struct tape tape;
     const struct image *source;
     uint64_t loaded;               /* what a load answers */
     struct program program;        /* meant only when the image is accepted */

@@ -11,7 +11,7 @@ static bool go_table_call(struct journey *journey)
     struct random *random = journey->random;
     uint32_t count = process_count(&journey->bed->ours);
 
-    switch (random_below(random, 8)) {
+    switch (random_below(random, 9)) {
     case 0:
         return go_move(journey, STEPS, random_below(random, count + 1), 0);
     case 1:
@@ -26,6 +26,8 @@ static bool go_table_call(struct journey *journey)
         return go_save(journey);
     case 6:
         return go(journey, RESUMES, 0, 1);
+    case 7:
+        return go(journey, REPLAYS, 0, 0);
     default:
         return go(journey, VALUES, random_below(random, 4), 0);
     }

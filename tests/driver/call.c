@@ -65,10 +65,29 @@ static uint64_t list_archive(struct bed *bed, const struct event *event)
     return rissobarm_supply_bound(THEIRS(bed), THEIR_FURTHER(bed), event->a, event->b);
 }
 
+/* The calls with a record. */
+static uint64_t trace_reference(struct bed *bed, const struct event *event)
+{
+    if (event->kind == STEPS)
+        return reference_step_traced(OURS(bed), OUR_FURTHER(bed), event->a, bed->tape.stamp);
+    if (event->kind == RUNS)
+        return reference_run_traced(OURS(bed), OUR_FURTHER(bed), (uint16_t)event->a, bed->tape.stamp);
+    return reference_supply_traced(OURS(bed), OUR_FURTHER(bed), event->a, event->b, bed->tape.stamp);
+}
+
+static uint64_t trace_archive(struct bed *bed, const struct event *event)
+{
+    if (event->kind == STEPS)
+        return rissobarm_step_traced(THEIRS(bed), THEIR_FURTHER(bed), event->a, bed->tape.stamp);
+    if (event->kind == RUNS)
+        return rissobarm_run_traced(THEIRS(bed), THEIR_FURTHER(bed), (uint16_t)event->a, bed->tape.stamp);
+    return rissobarm_supply_traced(THEIRS(bed), THEIR_FURTHER(bed), event->a, event->b, bed->tape.stamp);
+}
+
 uint64_t call_reference(struct bed *bed, const struct event *event)
 {
-    if (event->form == LISTED)
-        return list_reference(bed, event);
+    if (event->form != PLAIN)
+        return event->form == LISTED ? list_reference(bed, event) : trace_reference(bed, event);
     switch (event->kind) {
     case LOADS:
         return reference_load(bed->source->bytes, bed->source->length);
@@ -90,6 +109,8 @@ uint64_t call_reference(struct bed *bed, const struct event *event)
         return reference_save(OURS(bed), OUR_FURTHER(bed));
     case RESUMES:
         return reference_resume(OURS(bed), OUR_FURTHER(bed));
+    case REPLAYS:
+        return reference_replay(OURS(bed), OUR_FURTHER(bed));
     default: /* WATCHES */
         return reference_watch(event->b == 0 ? bed->ours.procs : wide_rows(event), event->a);
     }
@@ -97,8 +118,8 @@ uint64_t call_reference(struct bed *bed, const struct event *event)
 
 uint64_t call_archive(struct bed *bed, const struct event *event)
 {
-    if (event->form == LISTED)
-        return list_archive(bed, event);
+    if (event->form != PLAIN)
+        return event->form == LISTED ? list_archive(bed, event) : trace_archive(bed, event);
     switch (event->kind) {
     case LOADS:
         return rissobarm_load(bed->image.bytes, bed->image.length);
@@ -120,6 +141,8 @@ uint64_t call_archive(struct bed *bed, const struct event *event)
         return rissobarm_save(THEIRS(bed), THEIR_FURTHER(bed));
     case RESUMES:
         return rissobarm_resume(THEIRS(bed), THEIR_FURTHER(bed));
+    case REPLAYS:
+        return rissobarm_replay(THEIRS(bed), THEIR_FURTHER(bed));
     default: /* WATCHES */
         return watch_archive(bed, event);
     }

@@ -50,6 +50,7 @@ static const char *const refusals[RISSOBARM_REFUSAL_COUNT + 1] = {
     [RISSOBARM_NAME] = "NAME", [RISSOBARM_MANY] = "MANY", [RISSOBARM_NOGOAL] = "NOGOAL", [RISSOBARM_STATE] = "STATE",
     [RISSOBARM_NODE] = "NODE", [RISSOBARM_STILL] = "STILL", [RISSOBARM_ROOM] = "ROOM", [RISSOBARM_NOVAR] = "NOVAR",
     [RISSOBARM_BOUND] = "BOUND", [RISSOBARM_CONST] = "CONST", [RISSOBARM_FOREIGN] = "FOREIGN",
+    [RISSOBARM_GAP] = "GAP", [RISSOBARM_DISAGREES] = "DISAGREES",
 };
 
 static const char *const ends[RISSOBARM_END_COUNT + 1] = {
@@ -82,6 +83,12 @@ static const char *const features[FEATURES] = {
     "saved runs taken up where they were saved",
     "saved runs taken up in other rows",
     "damaged saved runs that are still one",
+    "whole traces played again",
+    "of these, begun in mid-run",
+    "stamps that start again at 0",
+    "runs that ended with their trace's row",
+    "damaged traces played to their end",
+    "traces played in part",
 };
 
 /* A line of the table; false where nothing was seen. */
@@ -93,13 +100,15 @@ static bool tell(const char *what, unsigned number, const char *name, const char
     return enough;
 }
 
+/* Numbers without a name are not in use. */
 static bool tell_names(const char *what, const char *const *names, const uint64_t *seen, unsigned from, unsigned to)
 {
     bool enough = true;
     unsigned k;
 
     for (k = from; k < to; k++)
-        enough &= tell(what, k, names[k], "", seen[k], 1);
+        if (names[k] != NULL)
+            enough &= tell(what, k, names[k], "", seen[k], 1);
     return enough;
 }
 
@@ -169,15 +178,18 @@ static bool tell_lists(void)
     return enough;
 }
 
-/* What became of damaged saved runs: each of their refusals. */
-static bool tell_resumed(void)
+/* What became of damaged saved runs and traces: each of their refusals. */
+static bool tell_damaged(void)
 {
-    static const uint8_t expected[] = { RISSOBARM_CUT, RISSOBARM_KIND, RISSOBARM_BODY, RISSOBARM_FOREIGN, RISSOBARM_STATE };
+    static const uint8_t saved[] = { RISSOBARM_CUT, RISSOBARM_KIND, RISSOBARM_BODY, RISSOBARM_FOREIGN, RISSOBARM_STATE };
+    static const uint8_t traces[] = { RISSOBARM_CUT, RISSOBARM_KIND, RISSOBARM_BODY, RISSOBARM_GAP, RISSOBARM_DISAGREES };
     bool enough = true;
     unsigned k;
 
-    for (k = 0; k < sizeof expected; k++)
-        enough &= tell("damaged", expected[k], refusals[expected[k]], "", counts.resumed[expected[k]], 1);
+    for (k = 0; k < sizeof saved; k++)
+        enough &= tell("saved run", saved[k], refusals[saved[k]], "", counts.resumed[saved[k]], 1);
+    for (k = 0; k < sizeof traces; k++)
+        enough &= tell("trace", traces[k], refusals[traces[k]], "", counts.replayed[traces[k]], 1);
     return enough;
 }
 
@@ -186,7 +198,8 @@ static void tell_totals(void)
     unsigned form, k;
 
     printf("%" PRIu64 " cases, %" PRIu64 " images (%" PRIu64 " accepted)\n", counts.cases, counts.images, counts.accepted);
-    printf("%" PRIu64 " calls let in with tables that no run made, %" PRIu64 " damaged saved runs\n", counts.legal, counts.damaged);
+    printf("%" PRIu64 " calls let in with tables that no run made\n", counts.legal);
+    printf("%" PRIu64 " damaged saved runs, %" PRIu64 " damaged traces\n", counts.damaged, counts.traces);
     printf("%" PRIu64 " steps by number, %" PRIu64 " by turn, %" PRIu64 " in runs\ncalls:", counts.by_number,
            counts.steps - counts.by_number, counts.run_steps);
     for (form = 0; form < FORMS; form++)
@@ -206,7 +219,7 @@ bool counts_tell(uint64_t least_broken)
     enough &= tell_broken(least_broken);
     enough &= tell_shapes();
     enough &= tell_lists();
-    enough &= tell_resumed();
+    enough &= tell_damaged();
     tell_totals();
     return enough;
 }

@@ -33,6 +33,12 @@ enum feature {
     TAKEN_UP,
     TAKEN_UP_ELSEWHERE,
     DAMAGED_LET_IN,
+    TAPES_PLAYED,
+    TAPES_IN_MID_RUN,
+    STAMPS_AGAIN,
+    FULL_TAPE,
+    DAMAGED_PLAYED,
+    PLAYED_IN_PART,
     FEATURES
 };
 
@@ -48,6 +54,8 @@ struct counts {
     uint64_t run_steps;             /* moves made inside runs */
     uint64_t damaged;               /* saved runs that were damaged */
     uint64_t resumed[RISSOBARM_REFUSAL_COUNT + 1]; /* what became of them */
+    uint64_t traces;                /* traces that were damaged */
+    uint64_t replayed[RISSOBARM_REFUSAL_COUNT + 1]; /* what became of them */
     uint64_t refusals[RISSOBARM_REFUSAL_COUNT + 1];
     uint64_t rules[RISSOBARM_RULE_COUNT + 1];
     uint64_t ends[RISSOBARM_END_COUNT + 1];

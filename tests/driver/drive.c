@@ -154,20 +154,40 @@ bool go_save(struct journey *journey)
     return go_length(journey, need) && go(journey, SAVES, 0, 0);
 }
 
-/* Two of three with a list, its row about as long as some move needs it. */
+/* Most with a list, its row about as long as some move needs it; some with a record. */
 bool go_move(struct journey *journey, unsigned kind, uint32_t a, uint32_t b)
 {
-    if (random_once(journey->random, 3))
+    unsigned chance = random_below(journey->random, 8), form = chance < 2 && kind != TURNS ? TRACED : LISTED;
+    uint32_t need = 2 + 2 * random_below(journey->random, RISSOBARM_ARITY_LIMIT + 1);
+
+    if (chance >= 6)
         return go(journey, kind, a, b);
-    return go_length(journey, 2 + 2 * random_below(journey->random, RISSOBARM_ARITY_LIMIT + 1)) &&
-           go_form(journey, kind, LISTED, a, kind == SUPPLIES ? b : (uint32_t)random_once(journey->random, 4));
+    return go_length(journey, form == TRACED ? (uint32_t)RISSOBARM_TRACE_RECORD_SIZE : need) &&
+           go_form(journey, kind, form, a, kind == SUPPLIES ? b : (uint32_t)random_once(journey->random, 4));
 }
 
+/* With room enough, so that a tape grows. */
+bool go_traced(struct journey *journey)
+{
+    switch (random_below(journey->random, 4)) {
+    case 0:
+        return go_form(journey, SUPPLIES, TRACED, draw_variable(journey), draw_constant(journey));
+    case 1:
+        return go_form(journey, RUNS, TRACED, random_below(journey->random, 12), 0);
+    default:
+        return go_form(journey, STEPS, TRACED, draw_process(journey), 0);
+    }
+}
+
+/* One of four with records, as many as there are steps or as the row has room for. */
 static bool go_run(struct journey *journey)
 {
-    uint32_t limit = draw_limit(journey);
+    uint32_t limit = draw_limit(journey), beside = limit < 100 || random_once(journey->random, 8);
+    uint32_t records = random_below(journey->random, limit < 300 ? limit + 1 : 300);
 
-    return go(journey, RUNS, limit, limit < 100 || random_once(journey->random, 8));
+    if (!random_once(journey->random, 4))
+        return go(journey, RUNS, limit, beside);
+    return go_length(journey, records * RISSOBARM_TRACE_RECORD_SIZE) && go_form(journey, RUNS, TRACED, limit, beside);
 }
 
 static bool go_watch(struct journey *journey)
@@ -220,9 +240,11 @@ bool go_anywhere(struct journey *journey)
 /* What is asked only now and then. */
 static bool go_aside(struct journey *journey)
 {
-    switch (random_below(journey->random, 10)) {
+    switch (random_below(journey->random, 11)) {
     case 0:
         return go_size(journey) && go_anywhere(journey);
+    case 10:
+        return go(journey, REPLAYS, 0, 1);
     case 1:
         return go_anywhere(journey);
     case 8:

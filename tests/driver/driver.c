@@ -19,7 +19,7 @@ struct order {
     uint64_t images;  /* at least so many images */
     uint64_t broken;  /* each table rule broken alone at least so often */
     uint64_t listed;  /* at least so many calls with a list of the variables bound */
-    uint64_t damaged; /* at least so many damaged saved runs */
+    uint64_t damaged; /* at least so many damaged saved runs, and traces */
     unsigned minutes; /* with any of them, as long as this and nothing else */
     unsigned patience; /* the seconds that a case may take */
 };
@@ -46,8 +46,10 @@ static bool play_case(void *context)
     struct journey journey = { &bed, &story, random };
     unsigned sort = random_below(random, 64);
 
-    if (sort < 42)
+    if (sort < 40)
         return story_of_loads(&journey);
+    if (sort < 42)
+        return story_of_traces(&journey);
     if (sort < 44)
         return story_of_nights(&journey);
     if (sort < 55)
@@ -128,7 +130,7 @@ static bool seek(const struct order *order)
 
     for (number = 0; counts.images < 10 * order->images; number++) {
         if (counts.images >= order->images && counts.steps >= order->steps && counts.listed >= order->listed &&
-            counts.damaged >= order->damaged && counts_broken(order->broken))
+            counts.damaged >= order->damaged && counts.traces >= order->damaged && counts_broken(order->broken))
             return true;
         if (!right(order, number))
             return false;

@@ -3,8 +3,10 @@
 
 #include <stdio.h>
 
-static const char *const names[EVENT_KINDS] = { "load",  "start",  "step", "turn", "run",   "supply", "value",
-                                                "watch", "values", "save", "resume", "size", "poke", "legal", "scatter" };
+static const char *const names[EVENT_KINDS] = {
+    "load",   "start",  "step", "turn", "run",   "supply",  "value", "watch", "values", "save",
+    "replay", "resume", "size", "poke", "legal", "scatter", "stamp", "rewind"
+};
 static const char *const rows[] = { "head", "procs", "vars", "further" };
 
 const char *event_name(unsigned kind)
@@ -14,7 +16,7 @@ const char *event_name(unsigned kind)
 
 const char *form_name(unsigned form)
 {
-    static const char *const forms[FORMS] = { "", "-bound" };
+    static const char *const forms[FORMS] = { "", "-bound", "-traced" };
 
     return forms[form];
 }
@@ -38,9 +40,11 @@ void event_print(const struct event *event)
     case SCATTERS:
     case ALL_VALUES:
     case RESUMES:
+    case REPLAYS:
         printf("  %s%s %u %u\n", name, form, event->a, event->b);
         break;
     case VALUES:
+    case STAMPS:
         printf("  %s %u\n", name, event->a);
         break;
     default:

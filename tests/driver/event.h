@@ -20,19 +20,23 @@ enum event_kind {
     WATCHES,  /* a the length of the row: the process table or, with b, rows by chance from the seed b */
     ALL_VALUES, /* b whether each is asked for alone too */
     SAVES,
+    REPLAYS,  /* the tape, damaged by the seed a, whole for 0; b whether it is made beside it by single calls */
     RESUMES,  /* the run saved last or, with b, the tables at hand as records; damaged by the seed a, whole for 0 */
     CALLS,
     SIZES = CALLS, /* the next call is lent a row with the length a */
     POKES,    /* the byte at a of a row becomes b */
     LEGALS,   /* tables that keep the rules, from the seed a in the style b */
     SCATTERS, /* tables by chance, from the seed a in the style b */
+    STAMPS,   /* the next record has the stamp a, and begins a tape */
+    REWINDS,  /* the tables become those that the tape begins with */
     EVENT_KINDS
 };
 
-/* Forms of a step, a turn or a supply. */
+/* Forms of a step, a turn, a run or a supply. */
 enum event_form {
     PLAIN,
-    LISTED, /* with a list of the variables bound */
+    LISTED, /* with a list of the variables bound: not a run */
+    TRACED, /* with a record, or one for each step: not a turn */
     FORMS
 };
 

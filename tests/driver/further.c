@@ -5,15 +5,18 @@
 
 #include <string.h>
 
+enum { MOST_RECORDS = 3000 };
+
 bool further_lent(const struct event *event)
 {
-    return event->kind == ALL_VALUES || event->kind == SAVES || event->kind == RESUMES || event->form != PLAIN;
+    return event->kind == ALL_VALUES || event->kind == SAVES || event->kind == RESUMES || event->kind == REPLAYS ||
+           event->form != PLAIN;
 }
 
 /* Whether it is one that the call reads. */
 static bool further_read(const struct event *event)
 {
-    return event->kind == RESUMES;
+    return event->kind == RESUMES || event->kind == REPLAYS;
 }
 
 /* ---- before the call */
@@ -21,8 +24,12 @@ static bool further_read(const struct event *event)
 /* A length that is enough whatever the call writes. */
 static size_t enough(const struct event *event)
 {
+    size_t records = event->kind == RUNS ? event->a : 1;
+
     if (event->kind == SAVES)
         return RISSOBARM_SAVED_SIZE;
+    if (event->form == TRACED)
+        return records < MOST_RECORDS ? records * RISSOBARM_TRACE_RECORD_SIZE : MOST_RECORDS * RISSOBARM_TRACE_RECORD_SIZE;
     return event->form == LISTED ? RISSOBARM_BOUND_SIZE : RISSOBARM_VALUES_SIZE;
 }
 
@@ -46,7 +53,25 @@ static size_t fill_saved(struct bed *bed, const struct event *event)
         length = records_of(&bed->ours, (unsigned)bed->source->length, bed->beside);
     else
         memcpy(bed->beside, bed->kept.bytes, length);
-    return event->a == 0 ? length : damage_records(bed->beside, length, ROW_ROOM - 2 * ROW_GUARD, event->a, &kinds);
+    return event->a == 0 ? length : damage_records(bed->beside, length, TAPE_ROOM, event->a, &kinds);
+}
+
+/* A trace to be played, damaged or whole; every other damaged one is stamped anew, so that no gap hides what else is wrong. */
+static size_t fill_tape(struct bed *bed, const struct event *event)
+{
+    static const struct record_kinds kinds = {
+        2, { RISSOBARM_RECORD_STEP, RISSOBARM_RECORD_SUPPLY }, { RISSOBARM_TRACE_RECORD_SIZE, RISSOBARM_TRACE_RECORD_SIZE }
+    };
+    size_t length = bed->tape.length, at;
+
+    memcpy(bed->beside, bed->tape.bytes, length);
+    if (event->a == 0)
+        return length;
+    length = damage_records(bed->beside, length, TAPE_ROOM, event->a, &kinds);
+    for (at = RISSOBARM_TRACE_RECORD_SIZE; event->a % 2 == 0 && at + RISSOBARM_TRACE_RECORD_SIZE <= length;
+         at += RISSOBARM_TRACE_RECORD_SIZE)
+        put_word_at(bed->beside + at + RISSOBARM_TRACE_STAMP, word_at(bed->beside + at - 2) + 1);
+    return length;
 }
 
 /* Bytes that mean nothing, as many as were told, or enough. */
@@ -56,7 +81,7 @@ static size_t fill_by_chance(struct bed *bed, const struct event *event)
 
     for (k = 0; k < length; k++)
         bed->beside[k] = filling(bed, k);
-    bed->was_short = length < enough(event);
+    bed->was_short = length < enough(event) && event->kind != RUNS;
     return length;
 }
 
@@ -65,7 +90,9 @@ void further_place(struct bed *bed, const struct event *event)
     bed->calls++;
     bed->was_short = false;
     if (further_lent(event)) {
-        size_t length = further_read(event) ? fill_saved(bed, event) : fill_by_chance(bed, event);
+        size_t length = event->kind == RESUMES   ? fill_saved(bed, event)
+                        : event->kind == REPLAYS ? fill_tape(bed, event)
+                                                 : fill_by_chance(bed, event);
 
         row_place(&bed->further, length, bed->further.standing);
         memcpy(bed->further.bytes, bed->beside, length);
@@ -81,6 +108,8 @@ size_t further_written(const struct bed *bed, const struct event *event)
         return 0;
     if (event->form == LISTED)
         return 2 + 2 * (size_t)word_at(bed->beside);
+    if (event->form == TRACED)
+        return RISSOBARM_TRACE_RECORD_SIZE * (size_t)(event->kind == RUNS ? rissobarm_steps(bed->answer) : 1);
     if (event->kind == SAVES)
         return rissobarm_saved(bed->answer);
     return rissobarm_values_count(bed->answer) * (size_t)RISSOBARM_VARIABLE_ROW;

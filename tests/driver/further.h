@@ -26,6 +26,12 @@ bool further_right(struct bed *bed, const struct event *event);
 bool whole_let_in(struct bed *bed, const struct event *event);
 bool saved_holds(struct bed *bed, const struct event *event);
 
+/* Whether the records that a traced call wrote are those of what it did; puts them on the tape. */
+bool trace_holds(struct bed *bed, const struct event *event);
+
+/* Whether a replay has given the tables that it must. */
+bool replay_holds(struct bed *bed, const struct event *event);
+
 /* Whether what an accepted call wrote is what the tables before and after it tell. */
 bool further_holds(struct bed *bed, const struct event *event);
 

@@ -36,6 +36,9 @@ bool drive(struct journey *journey, unsigned temper, unsigned events);
 /* The values of all variables, into a row of any length. */
 bool go_values(struct journey *journey);
 
+/* A step, a run or a supply with its records. */
+bool go_traced(struct journey *journey);
+
 /* A save, into a row of any length. */
 bool go_save(struct journey *journey);
 
@@ -53,5 +56,6 @@ bool story_of_legal_tables(struct journey *journey);
 bool story_of_broken_rules(struct journey *journey);
 bool story_of_chance(struct journey *journey);
 bool story_of_nights(struct journey *journey);
+bool story_of_traces(struct journey *journey);
 
 #endif

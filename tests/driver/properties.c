@@ -76,7 +76,7 @@ static bool in_records(unsigned refusal)
 /* Whether a call that is let in can have this refusal. */
 static bool refusal_possible(const struct event *event, unsigned refusal)
 {
-    if (event->form != PLAIN && refusal == RISSOBARM_ROOM)
+    if (event->form != PLAIN && event->kind != RUNS && refusal == RISSOBARM_ROOM)
         return true;
     switch (event->kind) {
     case STEPS:
@@ -84,6 +84,9 @@ static bool refusal_possible(const struct event *event, unsigned refusal)
         return refusal == RISSOBARM_ACCEPTED || refusal == RISSOBARM_STILL || refusal == RISSOBARM_ROOM;
     case SUPPLIES:
         return refusal == RISSOBARM_ACCEPTED || refusal == RISSOBARM_BOUND;
+    case REPLAYS:
+        return refusal == RISSOBARM_ACCEPTED || refusal == RISSOBARM_GAP || refusal == RISSOBARM_DISAGREES ||
+               in_records(refusal);
     case RESUMES:
         return refusal == RISSOBARM_ACCEPTED || refusal == RISSOBARM_STATE || refusal == RISSOBARM_FOREIGN ||
                in_records(refusal);
@@ -95,6 +98,7 @@ static bool refusal_possible(const struct event *event, unsigned refusal)
 bool entry_right(struct bed *bed, const struct event *event, const struct entry *entry)
 {
     unsigned refusal = rissobarm_refusal(bed->answer), numbers;
+    uint32_t offset = rissobarm_offset(bed->answer);
 
     if (event->kind == LOADS)
         return bed->answer == bed->loaded || bed_fault(bed, "the load differs from what the other calls tested");
@@ -110,8 +114,11 @@ bool entry_right(struct bed *bed, const struct event *event, const struct entry 
         return bed->answer == numbers || bed_fault(bed, "refusal %u where the numbers come to %u", refusal, numbers);
     if (!refusal_possible(event, refusal))
         return bed_fault(bed, "refusal %u of a call that is let in", refusal);
+    if (event->kind == REPLAYS && refusal != RISSOBARM_ACCEPTED)
+        return (offset < bed->further.length && offset % RISSOBARM_TRACE_RECORD_SIZE == 0) ||
+               bed_fault(bed, "an offset where no record of the trace begins");
     if (event->kind == RESUMES && in_records(refusal))
-        return rissobarm_offset(bed->answer) <= bed->further.length || bed_fault(bed, "an offset behind the saved run");
+        return offset <= bed->further.length || bed_fault(bed, "an offset behind the saved run");
     return refusal == RISSOBARM_ACCEPTED || bed->answer == refusal || bed_fault(bed, "more than a number in a refusal");
 }
 
@@ -150,10 +157,18 @@ static bool stops_right(const struct bed *bed, struct rows *rows, unsigned end, 
     }
 }
 
+/* The limit of a run; a trace has one of its own. */
+static uint32_t limit_of(const struct bed *bed, const struct event *event)
+{
+    size_t records = bed->further.length / RISSOBARM_TRACE_RECORD_SIZE;
+
+    return event->form == TRACED && records < event->a ? (uint32_t)records : event->a;
+}
+
 static bool run_is_turns(struct bed *bed, const struct event *event)
 {
     static struct rows rows;
-    uint32_t steps = rissobarm_steps(bed->answer), k;
+    uint32_t steps = rissobarm_steps(bed->answer), limit = limit_of(bed, event), k;
 
     rows = bed->before;
     for (k = 0; k < steps; k++)
@@ -162,7 +177,7 @@ static bool run_is_turns(struct bed *bed, const struct event *event)
     for (k = 0; k < LENT_ROWS; k++)
         if (memcmp(row_bytes(&rows, k), row_bytes(&bed->ours, k), row_sizes[k]) != 0)
             return bed_fault(bed, "%u turns give other tables than the run", steps);
-    if (steps > event->a || !stops_right(bed, &rows, rissobarm_end(bed->answer), steps == event->a))
+    if (steps > limit || !stops_right(bed, &rows, rissobarm_end(bed->answer), steps == limit))
         return bed_fault(bed, "end %u of the run does not fit its turns", rissobarm_end(bed->answer));
     if (counting)
         counts.features[RUN_AS_TURNS]++;
@@ -174,7 +189,7 @@ static bool run_is_turns(struct bed *bed, const struct event *event)
 static bool changes_tables(const struct event *event)
 {
     return event->kind == STARTS || event->kind == STEPS || event->kind == TURNS || event->kind == RUNS ||
-           event->kind == SUPPLIES || event->kind == RESUMES;
+           event->kind == SUPPLIES || event->kind == RESUMES || event->kind == REPLAYS;
 }
 
 /* Whether the answer says that nothing can move. */
@@ -185,7 +200,7 @@ static bool says_still(const struct bed *bed, const struct event *event)
     return event->kind == RUNS && bed->answer % 65536 == RISSOBARM_END_WAITING << 8;
 }
 
-/* What is known of the tables is what was known when they were saved; of damaged ones nothing. Turns count on in the same tables. */
+/* What is known of the tables is what was known when they were saved, of damaged ones nothing; turns count on in the same ones. */
 static void taken_up(struct bed *bed, const struct event *event)
 {
     bool going_on = bed->straight && event->a == 0 && memcmp(&bed->before, &bed->ours, sizeof bed->ours) == 0;
@@ -204,7 +219,8 @@ static void taken_up(struct bed *bed, const struct event *event)
 
 bool properties_hold(struct bed *bed, const struct event *event)
 {
-    bool accepted = rissobarm_refusal(bed->answer) == RISSOBARM_ACCEPTED;
+    unsigned refusal = rissobarm_refusal(bed->answer);
+    bool accepted = refusal == RISSOBARM_ACCEPTED || refusal == RISSOBARM_DISAGREES;
 
     if (says_still(bed, event) && bed->straight && !stuck_holds(bed))
         return false;
@@ -219,6 +235,8 @@ bool properties_hold(struct bed *bed, const struct event *event)
     }
     if (event->kind == RESUMES)
         taken_up(bed, event);
+    if (event->kind == REPLAYS)
+        fair_begin();
     if (bed_broken(bed)->count > 0)
         return bed_fault(bed, "the tables left break a rule: %s %s", table_rule_name(bed->broken.first),
                          table_rule_tag(bed->broken.first));

@@ -12,6 +12,10 @@
 #define reference_values rissobarm_values
 #define reference_watch rissobarm_watch
 #define reference_save rissobarm_save
+#define reference_step_traced rissobarm_step_traced
+#define reference_supply_traced rissobarm_supply_traced
+#define reference_run_traced rissobarm_run_traced
+#define reference_replay rissobarm_replay
 #define reference_resume rissobarm_resume
 
 #define ref_load standin_load
@@ -37,4 +41,5 @@
 #define ref_step standin_step
 #define ref_next_in_turn standin_next_in_turn
 #define ref_supply standin_supply
+#define ref_end standin_end
 #define ref_move_answer standin_move_answer

@@ -44,6 +44,8 @@ static const struct named_field variable_fields[] = {
     { "number", RISSOBARM_CELL_NUMBER, 3 },
 };
 
+enum { FURTHER_SHOWN = 1024 };
+
 #define COUNT(array) (sizeof(array) / sizeof(array)[0])
 
 static void print_bytes(const uint8_t *bytes, size_t length)
@@ -121,10 +123,26 @@ static void report_before(const struct rows *rows)
     }
 }
 
+/* The further row of the last call as the archive has it, and the first byte in which the two sides differ. */
+static void report_further(const struct bed *bed)
+{
+    size_t length = bed->further.length, at = 0;
+
+    if (length == 0 || length > FURTHER_SHOWN)
+        return;
+    while (at < length && bed->further.bytes[at] == bed->beside[at])
+        at++;
+    printf("further row lent last, %zu bytes:\n  ", length);
+    print_bytes(bed->further.bytes, length);
+    if (at < length)
+        printf("  byte %zu: archive %02X, reference %02X\n", at, bed->further.bytes[at], bed->beside[at]);
+}
+
 void report_tables(struct bed *bed)
 {
     if (process_count(&bed->before) <= 64 && variable_count(&bed->before) <= 256)
         report_before(&bed->before);
     printf("answers: archive %016" PRIx64 ", reference %016" PRIx64 "\n", bed->answer, bed->wanted);
     report_differences(bed);
+    report_further(bed);
 }

@@ -98,6 +98,24 @@ static void seen_refusal(const struct bed *bed, const struct event *event, const
         counts.broken[entry->first]++;
 }
 
+/* Saved runs and traces that were damaged, and what became of them. */
+static void seen_damaged(const struct bed *bed, const struct event *event)
+{
+    unsigned refusal = rissobarm_refusal(bed->answer);
+
+    if (event->a == 0)
+        return;
+    if (event->kind == RESUMES) {
+        counts.damaged++;
+        counts.resumed[refusal]++;
+        return;
+    }
+    counts.traces += bed->tape.length > 0;
+    counts.replayed[refusal]++;
+    counts.features[DAMAGED_PLAYED] += refusal == RISSOBARM_ACCEPTED;
+    counts.features[PLAYED_IN_PART] += refusal == RISSOBARM_DISAGREES && rissobarm_offset(bed->answer) > 0;
+}
+
 static void seen_resume(const struct bed *bed, const struct event *event)
 {
     bool same = memcmp(&bed->before, &bed->ours, sizeof bed->ours) == 0;
@@ -117,6 +135,11 @@ static void seen_accepted(const struct bed *bed, const struct event *event)
     case RUNS:
         counts.ends[rissobarm_end(bed->answer)]++;
         counts.run_steps += rissobarm_steps(bed->answer);
+        counts.features[FULL_TAPE] += event->form == TRACED && bed->answer % 65536 == RISSOBARM_END_BUDGET << 8 &&
+                                      rissobarm_steps(bed->answer) < event->a;
+        break;
+    case REPLAYS:
+        counts.features[TAPES_IN_MID_RUN] += event->a == 0 && rissobarm_played(bed->answer) > 0 && step_count(&bed->before) > 0;
         break;
     case SUPPLIES:
         counts.features[SUPPLY_AT_END] += bed->ours.procs[RISSOBARM_ROW_MODE] == RISSOBARM_MODE_DORMANT;
@@ -134,10 +157,8 @@ void seen(const struct bed *bed, const struct event *event, const struct entry *
 {
     counts.calls[event->form][event->kind]++;
     counts.listed += event->form == LISTED;
-    if (event->kind == RESUMES && event->a != 0) {
-        counts.damaged++;
-        counts.resumed[rissobarm_refusal(bed->answer)]++;
-    }
+    if (event->kind == RESUMES || event->kind == REPLAYS)
+        seen_damaged(bed, event);
     counts.features[LONGEST_IMAGE] += event->kind == LOADS && bed->source->length == RISSOBARM_IMAGE_LIMIT;
     if (rissobarm_refusal(bed->answer) != RISSOBARM_ACCEPTED) {
         seen_refusal(bed, event, entry);

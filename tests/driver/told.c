@@ -84,8 +84,9 @@ static bool plain_agrees(struct bed *bed, const struct event *event)
     rows = bed->before;
     answer = call_plain(bed, event, &rows);
     if (rissobarm_refusal(answer) == RISSOBARM_ACCEPTED && bed->answer == RISSOBARM_ROOM) {
-        if (bed->further.length >= 2 + 2 * count_bound(&bed->before, &rows))
-            return bed_fault(bed, "refused, though there is room for the list");
+        if (bed->further.length >= (event->form == TRACED ? (size_t)RISSOBARM_TRACE_RECORD_SIZE
+                                                          : 2 + 2 * (size_t)count_bound(&bed->before, &rows)))
+            return bed_fault(bed, "refused, though there is room in the further row");
         if (counting)
             counts.features[SHORT_ROW]++;
         return true;
@@ -104,19 +105,26 @@ static bool made_beside(const struct event *event)
     return event->kind == SUPPLIES ? event->a % 2 == event->b % 2 : event->b != 0;
 }
 
-static bool bound_holds(struct bed *bed, const struct event *event)
+/* A list or a record tells what was done, and the plain call does the same. */
+static bool form_holds(struct bed *bed, const struct event *event)
 {
     bool accepted = rissobarm_refusal(bed->answer) == RISSOBARM_ACCEPTED;
 
-    if (accepted && !(list_holds(bed) && touched_first(bed, event)))
+    if (accepted && event->form == LISTED && !(list_holds(bed) && touched_first(bed, event)))
         return false;
-    return !made_beside(event) || rissobarm_refusal(bed->answer) == RISSOBARM_STATE || plain_agrees(bed, event);
+    if (accepted && event->form == TRACED && !trace_holds(bed, event))
+        return false;
+    if (event->kind == RUNS || !made_beside(event) || rissobarm_refusal(bed->answer) == RISSOBARM_STATE)
+        return true;
+    return plain_agrees(bed, event);
 }
 
 bool further_holds(struct bed *bed, const struct event *event)
 {
-    if (event->form == LISTED)
-        return bound_holds(bed, event);
+    if (event->form != PLAIN)
+        return form_holds(bed, event);
+    if (event->kind == REPLAYS)
+        return replay_holds(bed, event);
     if (event->kind == SAVES || event->kind == RESUMES)
         return rissobarm_refusal(bed->answer) != RISSOBARM_ACCEPTED ? whole_let_in(bed, event) : saved_holds(bed, event);
     if (event->kind != ALL_VALUES)

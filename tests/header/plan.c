@@ -114,7 +114,8 @@ static void try_saved(void)
     rissobarm_plan_start(&run, waits, sizeof waits);
     rissobarm_plan_run(&run, LARGE_LIMIT);
     size = rissobarm_saved(rissobarm_plan_save(&run, saved, sizeof saved));
-    hold("saved: its size", size == RISSOBARM_RUN_RECORD_SIZE + 6 * RISSOBARM_PROCESS_RECORD_SIZE + RISSOBARM_VARIABLE_RECORD_SIZE);
+    hold("saved: its size",
+         size == RISSOBARM_RUN_RECORD_SIZE + 6 * RISSOBARM_PROCESS_RECORD_SIZE + RISSOBARM_VARIABLE_RECORD_SIZE);
     hold("saved: no room", rissobarm_refusal(rissobarm_plan_save(&run, saved, size - 1)) == RISSOBARM_ROOM);
     memset(&other, 9, sizeof other);
     hold("saved: taken up", rissobarm_plan_resume(&other, waits, sizeof waits, saved, size) == RISSOBARM_ACCEPTED);
@@ -124,7 +125,36 @@ static void try_saved(void)
     hold("saved: the same end", rissobarm_plan_run(&run, LARGE_LIMIT) == rissobarm_plan_run(&other, LARGE_LIMIT));
     hold("saved: the same rows at the end", same_rows());
     hold("saved: foreign", rissobarm_plan_resume(&other, fills, sizeof fills, saved, size) == RISSOBARM_FOREIGN);
-    hold("saved: cut", rissobarm_refusal(rissobarm_plan_resume(&other, waits, sizeof waits, saved, size - 1)) == RISSOBARM_CUT);
+    hold("saved: cut",
+         rissobarm_refusal(rissobarm_plan_resume(&other, waits, sizeof waits, saved, size - 1)) == RISSOBARM_CUT);
+}
+
+/* Nine steps, a supply and nine more, traced over the top of the stamps and played again from the start. */
+static void try_traced(void)
+{
+    static uint8_t trace[20 * RISSOBARM_TRACE_RECORD_SIZE];
+    const size_t record = RISSOBARM_TRACE_RECORD_SIZE;
+    uint16_t stamp = 65530;
+    uint64_t step;
+
+    rissobarm_plan_start(&run, waits, sizeof waits);
+    hold("traced: no room", rissobarm_plan_step_traced(&run, trace, record - 1, 0, stamp) == RISSOBARM_ROOM);
+    step = rissobarm_plan_step_traced(&run, trace, record, 0, stamp);
+    hold("traced: a step", rissobarm_rule(step) == RISSOBARM_RULE_OR_PAR_START);
+    hold("traced: the row ends it",
+         ran(rissobarm_plan_run_traced(&run, trace + record, 2 * record + 9, 60000, (uint16_t)(stamp + 1)), RISSOBARM_END_BUDGET, 2));
+    hold("traced: waiting", ran(rissobarm_plan_run_traced(&run, trace + 3 * record, 17 * record, 60000, (uint16_t)(stamp + 3)),
+                                RISSOBARM_END_WAITING, 6));
+    hold("traced: a supply", rissobarm_plan_supply_traced(&run, trace + 9 * record, record, 0, 1, (uint16_t)(stamp + 9)) == 0);
+    hold("traced: success", ran(rissobarm_plan_run_traced(&run, trace + 10 * record, 10 * record, 60000, (uint16_t)(stamp + 10)),
+                                RISSOBARM_END_SUCCESS, 9));
+    hold("traced: its stamp", rissobarm_word_at(trace + 6 * record + RISSOBARM_TRACE_STAMP) == 0);
+    rissobarm_plan_start(&other, waits, sizeof waits);
+    hold("traced: played", rissobarm_played(rissobarm_plan_replay(&other, trace, 19 * record)) == 19 && same_rows());
+    hold("traced: not twice", rissobarm_plan_replay(&other, trace, 19 * record) == RISSOBARM_DISAGREES);
+    rissobarm_plan_start(&other, waits, sizeof waits);
+    trace[RISSOBARM_TRACE_STAMP]++;
+    hold("traced: a gap", rissobarm_plan_replay(&other, trace, 19 * record) == (RISSOBARM_GAP | (uint64_t)record << 32));
 }
 
 static void try_room(void)
@@ -147,6 +177,7 @@ static void try_refused(void)
     hold("value refused", rissobarm_plan_value(&run, 0) == answer);
     hold("turn with a list refused", rissobarm_plan_turn_bound(&run, other.vars, 0) == answer);
     hold("save refused", rissobarm_plan_save(&run, other.vars, 0) == answer);
+    hold("replay refused", rissobarm_plan_replay(&run, other.vars, 0) == answer);
     hold("values refused", rissobarm_plan_values(&run, other.vars, 0) == answer);
 }
 
@@ -176,6 +207,24 @@ static void try_limit(uint32_t limit, uint16_t first, uint16_t second)
     hold("long: the steps in the head", rissobarm_plan_steps(&run) == limit);
 }
 
+/* The whole long run with its trace, played again; and one that ends with its row. The rows at the end are those of other. */
+static void try_long_trace(uint32_t all)
+{
+    static uint8_t trace[2 * LARGE_LIMIT * RISSOBARM_TRACE_RECORD_SIZE];
+    const size_t record = RISSOBARM_TRACE_RECORD_SIZE;
+    const uint16_t stamp = 65000;
+
+    longrun_fill(&run);
+    hold("long: traced", ran(rissobarm_plan_run_traced(&run, trace, sizeof trace, UINT32_MAX, stamp), RISSOBARM_END_SUCCESS, all));
+    hold("long: traced, the same bytes", same_rows());
+    hold("long: the last stamp", rissobarm_word_at(trace + all * record - 2) == (uint16_t)(stamp + all - 1));
+    longrun_fill(&run);
+    hold("long: played again", rissobarm_played(rissobarm_plan_replay(&run, trace, all * record)) == all && same_rows());
+    longrun_fill(&run);
+    hold("long: no more than the row holds",
+         ran(rissobarm_plan_run_traced(&run, trace, LARGE_LIMIT * record + 9, UINT32_MAX, stamp), RISSOBARM_END_BUDGET, LARGE_LIMIT));
+}
+
 static void try_long(void)
 {
     uint32_t all = run_by_slices(&other);
@@ -189,11 +238,12 @@ static void try_long(void)
     longrun_fill(&run);
     hold("long: one step less", ran(rissobarm_plan_run(&run, all - 1), RISSOBARM_END_BUDGET, all - 1));
     hold("long: the last step", ran(rissobarm_plan_run(&run, 1), RISSOBARM_END_SUCCESS, 1));
+    try_long_trace(all);
     try_limit(0, 0, 0);
     try_limit(RISSOBARM_RUN_LIMIT, RISSOBARM_RUN_LIMIT, 0);
     try_limit(RISSOBARM_RUN_LIMIT + 1, RISSOBARM_RUN_LIMIT, 1);
     try_limit(LARGE_LIMIT, LARGE_LIMIT / 2, LARGE_LIMIT / 2);
-    printf("plan: a run of %u steps, over %d, cut at five limits\n", (unsigned)all, RISSOBARM_RUN_LIMIT);
+    printf("plan: a run of %u steps, over %d, cut at five limits, and traced\n", (unsigned)all, RISSOBARM_RUN_LIMIT);
 }
 
 int main(void)
@@ -202,6 +252,7 @@ int main(void)
     try_values();
     try_bound();
     try_saved();
+    try_traced();
     try_room();
     try_refused();
     try_long();

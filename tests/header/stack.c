@@ -12,12 +12,14 @@
 
 enum { STACK_ROOM = 262144, PAINT = 0xA5, IMAGES = 20, LARGE_RUN = 5000 };
 enum deed {
-    NOTHING, LOAD, START, STEP, TURN, RUN, SUPPLY, VALUE, WATCH, VALUES, STEP_BOUND, TURN_BOUND, SUPPLY_BOUND, SAVE, RESUME, DEEDS
+    NOTHING, LOAD, START, STEP, TURN, RUN, SUPPLY, VALUE, WATCH, VALUES, STEP_BOUND, TURN_BOUND, SUPPLY_BOUND, SAVE, RESUME,
+    STEP_TRACED, SUPPLY_TRACED, RUN_TRACED, REPLAY, DEEDS
 };
 
 static const char *const names[DEEDS] = { "nothing", "load",   "start", "step",  "turn",
                                           "run",     "supply", "value", "watch", "values",
-                                          "step with a list",  "turn with a list", "supply with a list", "save", "resume" };
+                                          "step with a list",  "turn with a list", "supply with a list", "save", "resume",
+                                          "step with a trace", "supply with a trace", "run with a trace",  "replay" };
 
 static uint8_t stack[STACK_ROOM];
 static ucontext_t here, there;
@@ -25,30 +27,39 @@ static struct rissobarm_plan plan;
 static struct image image;
 static enum deed next;
 static uint64_t answer;
-static uint8_t further[RISSOBARM_SAVED_SIZE];
+static uint8_t further[LARGE_RUN * RISSOBARM_TRACE_RECORD_SIZE];
 static size_t most[DEEDS];
+
+static uint32_t last_stepped(void)
+{
+    return rissobarm_word_at(plan.head + RISSOBARM_HEAD_LAST);
+}
+
+#define LENT RISSOBARM_PLAN_LENT(&plan)
+#define FURTHER further, sizeof further
 
 /* Makes the call that is next; the same frame for each, so that what nothing takes can be taken off. */
 static void make(void)
 {
     switch (next) {
     case LOAD: answer = rissobarm_load(plan.image, plan.image_len); break;
-    case START: answer = rissobarm_start(RISSOBARM_PLAN_LENT(&plan)); break;
-    case STEP: answer = rissobarm_step(RISSOBARM_PLAN_LENT(&plan), rissobarm_word_at(plan.head + RISSOBARM_HEAD_LAST)); break;
-    case TURN: answer = rissobarm_turn(RISSOBARM_PLAN_LENT(&plan)); break;
-    case RUN: answer = rissobarm_run(RISSOBARM_PLAN_LENT(&plan), LARGE_RUN); break;
-    case SUPPLY: answer = rissobarm_supply(RISSOBARM_PLAN_LENT(&plan), 0, 1); break;
-    case VALUE: answer = rissobarm_value(RISSOBARM_PLAN_LENT(&plan), 0); break;
-    case STEP_BOUND:
-        answer = rissobarm_step_bound(RISSOBARM_PLAN_LENT(&plan), further, sizeof further,
-                                      rissobarm_word_at(plan.head + RISSOBARM_HEAD_LAST));
-        break;
-    case TURN_BOUND: answer = rissobarm_turn_bound(RISSOBARM_PLAN_LENT(&plan), further, sizeof further); break;
-    case SUPPLY_BOUND: answer = rissobarm_supply_bound(RISSOBARM_PLAN_LENT(&plan), further, sizeof further, 0, 1); break;
-    case SAVE: answer = rissobarm_save(RISSOBARM_PLAN_LENT(&plan), further, sizeof further); break;
-    case RESUME: answer = rissobarm_resume(RISSOBARM_PLAN_LENT(&plan), further, rissobarm_saved(answer)); break;
-    case VALUES: answer = rissobarm_values(RISSOBARM_PLAN_LENT(&plan), further, sizeof further); break;
+    case START: answer = rissobarm_start(LENT); break;
+    case STEP: answer = rissobarm_step(LENT, last_stepped()); break;
+    case TURN: answer = rissobarm_turn(LENT); break;
+    case RUN: answer = rissobarm_run(LENT, LARGE_RUN); break;
+    case SUPPLY: answer = rissobarm_supply(LENT, 0, 1); break;
+    case VALUE: answer = rissobarm_value(LENT, 0); break;
     case WATCH: answer = rissobarm_watch(plan.procs, sizeof plan.procs); break;
+    case VALUES: answer = rissobarm_values(LENT, FURTHER); break;
+    case STEP_BOUND: answer = rissobarm_step_bound(LENT, FURTHER, last_stepped()); break;
+    case TURN_BOUND: answer = rissobarm_turn_bound(LENT, FURTHER); break;
+    case SUPPLY_BOUND: answer = rissobarm_supply_bound(LENT, FURTHER, 0, 1); break;
+    case SAVE: answer = rissobarm_save(LENT, FURTHER); break;
+    case RESUME: answer = rissobarm_resume(LENT, further, rissobarm_saved(answer)); break;
+    case STEP_TRACED: answer = rissobarm_step_traced(LENT, FURTHER, last_stepped(), 0); break;
+    case SUPPLY_TRACED: answer = rissobarm_supply_traced(LENT, FURTHER, 0, 1, 0); break;
+    case RUN_TRACED: answer = rissobarm_run_traced(LENT, FURTHER, LARGE_RUN, 0); break;
+    case REPLAY: answer = rissobarm_replay(LENT, further, RISSOBARM_TRACE_RECORD_SIZE * (size_t)rissobarm_steps(answer)); break;
     default: break;
     }
 }
@@ -83,6 +94,8 @@ static void measure_all(void)
     measure(STEP);
     measure(SAVE);
     measure(RESUME); /* of what was just saved */
+    measure(STEP_TRACED);
+    measure(SUPPLY_TRACED);
     measure(STEP_BOUND);
     measure(SUPPLY_BOUND);
     measure(SUPPLY);
@@ -101,6 +114,10 @@ static void measure_image(struct random *random)
     measure_all();
     measure(START);
     measure(RUN);
+    measure(START);
+    measure(RUN_TRACED);
+    rissobarm_plan_start(&plan, image.bytes, image.length);
+    measure(REPLAY); /* of the run before */
 }
 
 int main(void)

@@ -20,23 +20,38 @@ static struct rissobarm_plan shared;
 struct worker {
     pthread_t thread;
     struct rissobarm_plan run;
+    uint8_t saved[RISSOBARM_SAVED_SIZE];
+    uint8_t trace[TILL_SUCCESS * RISSOBARM_TRACE_RECORD_SIZE];
     unsigned wrong;
 };
 
-/* A run to its end with a supply in between, then two looks at the run that all share. */
+/* Looks at the run that all share, and takes up a copy of it, saved by each for itself, to its end. */
+static void share(struct worker *worker)
+{
+    uint8_t values[RISSOBARM_VALUES_SIZE];
+    uint64_t saved = rissobarm_plan_save(&shared, worker->saved, sizeof worker->saved), ran;
+
+    worker->wrong += !rissobarm_watch_found(rissobarm_plan_watch(&shared, 0));
+    worker->wrong += rissobarm_value_sort(rissobarm_plan_value(&shared, 0)) != RISSOBARM_SORT_VARIABLE;
+    worker->wrong += rissobarm_values_count(rissobarm_plan_values(&shared, values, sizeof values)) != 1;
+    worker->wrong += rissobarm_sort_at(values, 0) != RISSOBARM_SORT_VARIABLE;
+    worker->wrong += rissobarm_plan_resume(&worker->run, image, sizeof image, worker->saved, rissobarm_saved(saved)) != 0;
+    worker->wrong += rissobarm_plan_supply(&worker->run, 0, 1) != RISSOBARM_ACCEPTED;
+    ran = rissobarm_plan_run_traced(&worker->run, worker->trace, sizeof worker->trace, TILL_SUCCESS, 0);
+    worker->wrong += rissobarm_steps(ran) != TILL_SUCCESS - TILL_WAITING;
+}
+
+/* A run to its end with a supply in between, then the run that all share. */
 static void round_of(struct worker *worker)
 {
     struct rissobarm_plan *run = &worker->run;
-    uint64_t seen;
 
     worker->wrong += rissobarm_plan_start(run, image, sizeof image) != RISSOBARM_ACCEPTED;
     worker->wrong += rissobarm_steps(rissobarm_plan_run(run, TILL_SUCCESS)) != TILL_WAITING;
     worker->wrong += rissobarm_plan_supply(run, 0, 1) != RISSOBARM_ACCEPTED;
     worker->wrong += rissobarm_end(rissobarm_plan_run(run, TILL_SUCCESS)) != RISSOBARM_END_SUCCESS;
     worker->wrong += rissobarm_plan_steps(run) != TILL_SUCCESS;
-    worker->wrong += rissobarm_value_sort(rissobarm_plan_value(&shared, 0)) != RISSOBARM_SORT_VARIABLE;
-    seen = rissobarm_plan_watch(&shared, 0);
-    worker->wrong += !rissobarm_watch_found(seen);
+    share(worker);
 }
 
 static void *work(void *given)

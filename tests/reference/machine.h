@@ -44,8 +44,12 @@ enum refusal {
     REFUSED_NOVAR = 12,
     REFUSED_BOUND = 13,
     REFUSED_CONST = 14,
-    REFUSED_FOREIGN = 15
+    REFUSED_FOREIGN = 15,
+    REFUSED_GAP = 19,
+    REFUSED_DISAGREES = 20
 };
+
+enum end { END_NONE = 0, END_SUCCESS = 1, END_FAILURE = 2, END_WAITING = 3, END_ROOM = 4, END_BUDGET = 5 };
 
 enum tag { AND_PAR, AND_SEQ, OR_PAR, SEQ_SEARCH, OR_SEARCH, TRY_CLAUSE, INPUT_MATCH, GUARD_EVAL, EQUATE, TAG_COUNT };
 enum mode { DORMANT, READY, STARTING, WAITING, REPORTING, SUSPENDED, MODE_COUNT };
@@ -257,6 +261,7 @@ struct verdict ref_open(const uint8_t *image, size_t image_len, const struct len
                         struct tables *tables);
 struct move ref_step(const struct program *p, struct tables *t, unsigned number);
 bool ref_next_in_turn(const struct program *p, const struct tables *t, unsigned *number);
+unsigned ref_end(const struct program *p, const struct tables *t, bool used_up, unsigned *number);
 unsigned ref_supply(const struct program *p, struct tables *t, uint32_t variable, uint32_t value, uint32_t *bound);
 uint64_t ref_move_answer(struct move move);
 

@@ -74,6 +74,22 @@ uint64_t reference_resume(const uint8_t *image, size_t image_len, uint8_t *head,
                           uint8_t *procs, size_t procs_len, uint8_t *vars, size_t vars_len,
                           const uint8_t *saved, size_t saved_len);
 
+/* Step, supply and run with a record of kind 32 or 33 for each, of ten bytes; answers as theirs. */
+uint64_t reference_step_traced(const uint8_t *image, size_t image_len, uint8_t *head, size_t head_len,
+                               uint8_t *procs, size_t procs_len, uint8_t *vars, size_t vars_len,
+                               uint8_t *trace, size_t trace_len, uint32_t process, uint16_t stamp);
+uint64_t reference_supply_traced(const uint8_t *image, size_t image_len, uint8_t *head, size_t head_len,
+                                 uint8_t *procs, size_t procs_len, uint8_t *vars, size_t vars_len,
+                                 uint8_t *trace, size_t trace_len, uint32_t variable, uint32_t value, uint16_t stamp);
+uint64_t reference_run_traced(const uint8_t *image, size_t image_len, uint8_t *head, size_t head_len,
+                              uint8_t *procs, size_t procs_len, uint8_t *vars, size_t vars_len,
+                              uint8_t *trace, size_t trace_len, uint16_t limit, uint16_t stamp);
+
+/* Plays a trace again. Accepted: its records in bits 32-63. 2, 3, 4, 19 and 20 hold the offset of a record; 20 keeps what was played. */
+uint64_t reference_replay(const uint8_t *image, size_t image_len, uint8_t *head, size_t head_len,
+                          uint8_t *procs, size_t procs_len, uint8_t *vars, size_t vars_len,
+                          const uint8_t *trace, size_t trace_len);
+
 /* Refuses nothing: 1 in bits 8-15 when some row is suspended, the lowest such number in bits 32-63. */
 uint64_t reference_watch(const uint8_t *procs, size_t procs_len);
 

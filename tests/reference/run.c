@@ -2,8 +2,6 @@
 #include "machine.h"
 #include "reference.h"
 
-enum end { END_SUCCESS = 1, END_FAILURE = 2, END_WAITING = 3, END_ROOM = 4, END_BUDGET = 5 };
-
 /* Tests image and tables and decodes both; offset 0 goes with a refusal for the tables. */
 struct verdict ref_open(const uint8_t *image, size_t image_len, const struct lent *lent, struct program *program,
                         struct tables *tables)
@@ -95,20 +93,27 @@ uint64_t reference_turn(const uint8_t *image, size_t image_len, uint8_t *head, s
     return ref_move_answer(move);
 }
 
+/* The end that a run has come to before its next step; END_NONE where it goes on, and number is whose turn it is. */
+unsigned ref_end(const struct program *p, const struct tables *t, bool used_up, unsigned *number)
+{
+    const struct process *root = &t->processes[0];
+
+    if (root->mode == DORMANT)
+        return root->result == SUCCESS ? END_SUCCESS : END_FAILURE;
+    if (!ref_next_in_turn(p, t, number))
+        return END_WAITING;
+    return used_up ? END_BUDGET : END_NONE;
+}
+
 /* Turns until an end; made counts the moves. */
 static unsigned run_to_end(const struct program *p, struct tables *t, unsigned limit, unsigned *made)
 {
-    unsigned number;
+    unsigned number, end;
 
     for (*made = 0;; ++*made) {
-        const struct process *root = &t->processes[0];
-
-        if (root->mode == DORMANT)
-            return root->result == SUCCESS ? END_SUCCESS : END_FAILURE;
-        if (!ref_next_in_turn(p, t, &number))
-            return END_WAITING;
-        if (*made == limit)
-            return END_BUDGET;
+        end = ref_end(p, t, *made == limit, &number);
+        if (end != END_NONE)
+            return end;
         if (ref_step(p, t, number).refusal != ACCEPTED)
             return END_ROOM;
     }

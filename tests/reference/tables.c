@@ -79,7 +79,7 @@ bool ref_full_size(const struct lent *lent)
            lent->vars_len == REFERENCE_VARS_SIZE;
 }
 
-/* Takes tables of full size and decodes every row, used or not. */
+/* Takes tables of full size and decodes the rows in use, or all of them where the counts say more. */
 void ref_decode(const struct lent *lent, struct tables *tables)
 {
     unsigned k;
@@ -88,9 +88,9 @@ void ref_decode(const struct lent *lent, struct tables *tables)
     tables->variable_count = ref_get16(lent->head + 2);
     tables->last = ref_get16(lent->head + 4);
     tables->steps = ref_get16(lent->head + 6) + 65536u * ref_get16(lent->head + 8);
-    for (k = 0; k < PROCESS_LIMIT; k++)
+    for (k = 0; k < tables->process_count && k < PROCESS_LIMIT; k++)
         tables->processes[k] = decode_process(lent->procs + k * REFERENCE_PROCESS_ROW);
-    for (k = 0; k < VARIABLE_LIMIT; k++)
+    for (k = 0; k < tables->variable_count && k < VARIABLE_LIMIT; k++)
         tables->variables[k] = decode_variable(lent->vars + k * REFERENCE_VARIABLE_ROW);
 }
 

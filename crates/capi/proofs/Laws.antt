@@ -8,7 +8,7 @@ use lib.ListN.{length}
 use native.Mathlib.Omega.{arith}
 use Rattle.bound.specs.Calls.{RowCall, RowSays, stepBoundCall, stepTells, supplyBoundCall, supplyTells, tellBy, tellIn, turnBoundCall}
 use Rattle.bound_row.specs.Row.{boundBytes}
-use Rattle.capi.specs.Tells.{ResumeTells, RowTells, RunTells, SaveTells, StartTells, StepTells, SupplyTells, Tells, TurnTells, ValuesTells, ValueTells, WatchTells}
+use Rattle.capi.specs.Tells.{ReplayTells, ResumeTells, RowTells, RunTells, SaveTells, StartTells, StepTells, SupplyTells, Tells, TurnTells, ValuesTells, ValueTells, WatchTells}
 use Rattle.load.specs.Fields.{refusalOf}
 use Rattle.machine.specs.Starting.{StartSays}
 use Rattle.machine.specs.Supplying.{SupplySays}
@@ -29,6 +29,8 @@ use Rattle.parlog.specs.declared.Stepped.the-variants.{Moved, Unmoved}
 use Rattle.parlog.specs.declared.Supplied.{Supplied}
 use Rattle.parlog.specs.declared.Supplied.the-variants.{Given, Ungiven}
 use Rattle.parlog.specs.declared.Valued.{Valued}
+use Rattle.replay.specs.Replay.{replayNumbers, ReplaySays}
+use Rattle.replay.specs.declared.Replayed.{Replayed}
 use Rattle.resume.specs.Says.{ResumeSays, SaveSays}
 use Rattle.resume.specs.declared.Resumed.{Resumed}
 use Rattle.resume.specs.declared.Saved.{Saved}
@@ -163,3 +165,6 @@ module _ (lim : Limits) (s : List ℕ) (l : Lent) (row : List ℕ) {a : Saved} {
 
 pub resume-tells : (lim : Limits) (s : List ℕ) (l : Lent) (x : List ℕ) {a : Resumed} {h p v : List ℕ} → ResumeSays lim s l x a h p v → {w : ℕ} → w ≡ word (resumeNumbers a) → ResumeTells lim s l x w h p v
 resume-tells lim s l x t k = tells-of (t .answer) resumeNumbers (t .head) (t .procs) (t .vars) k
+
+pub replay-tells : (lim : Limits) (s : List ℕ) (l : Lent) (trace : List ℕ) {a : Replayed} {h p v : List ℕ} → ReplaySays lim s l trace a h p v → {w : ℕ} → w ≡ word (replayNumbers a) → ReplayTells lim s l trace w h p v
+replay-tells lim s l trace t k = tells-of (t .answer) replayNumbers (t .head) (t .procs) (t .vars) k

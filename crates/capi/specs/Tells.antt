@@ -10,7 +10,10 @@ use Rattle.parlog.specs.Load.{loadOf}
 use Rattle.parlog.specs.Numbers.{loadNumbers, Numbers, runNumbers, startNumbers, stepNumbers, supplyNumbers, valueNumbers, watchNumbers, word}
 use Rattle.parlog.specs.Run.{watchOf}
 use Rattle.parlog.specs.Tables.{Lent, procsOf, rowSize}
+use Rattle.replay.specs.Replay.{replayCall, replayNumbers}
 use Rattle.resume.specs.Calls.{resumeCall, saveCall}
+use Rattle.run_traced.specs.Traced.{runTracedCall}
+use Rattle.traced.specs.Traced.{stepTracedCall, supplyTracedCall}
 use Rattle.values.specs.Values.{valuesCall, valuesNumbers}
 use Rattle.words.specs.Fits.{reached}
 use Rattle.words.specs.Nights.{resumeNumbers, saveNumbers}
@@ -84,6 +87,23 @@ abbrev pub SupplyBoundTells : Limits → List ℕ → Lent → List ℕ → ℕ 
 SupplyBoundTells lim s l row x c r h p v w =
     RowTells (supplyNumbers (supplyBoundCall lim s l row x c .answer)) (supplyBoundCall lim s l row x c .lent) (supplyBoundCall lim s l row x c .row) r h p v w
 
+-- ---- the moves recorded, in a row more
+
+-- Traces 9, 10: of the step of process i
+abbrev pub StepTracedTells : Limits → List ℕ → Lent → List ℕ → ℕ → ℕ → ℕ → List ℕ → List ℕ → List ℕ → List ℕ → Type 0
+StepTracedTells lim s l row i stamp r h p v w =
+    RowTells (stepNumbers (stepTracedCall lim s l row i stamp .answer)) (stepTracedCall lim s l row i stamp .lent) (stepTracedCall lim s l row i stamp .row) r h p v w
+
+-- Traces 9, 10: of a supply of c for variable x of the goal
+abbrev pub SupplyTracedTells : Limits → List ℕ → Lent → List ℕ → ℕ → ℕ → ℕ → ℕ → List ℕ → List ℕ → List ℕ → List ℕ → Type 0
+SupplyTracedTells lim s l row x c stamp r h p v w =
+    RowTells (supplyNumbers (supplyTracedCall lim s l row x c stamp .answer)) (supplyTracedCall lim s l row x c stamp .lent) (supplyTracedCall lim s l row x c stamp .row) r h p v w
+
+-- Traces 11: of a run of at most so many moves
+abbrev pub RunTracedTells : Limits → List ℕ → Lent → List ℕ → ℕ → ℕ → ℕ → List ℕ → List ℕ → List ℕ → List ℕ → Type 0
+RunTracedTells lim s l row limit stamp r h p v w =
+    RowTells (runNumbers (runTracedCall lim s l row limit stamp .answer)) (runTracedCall lim s l row limit stamp .lent) (runTracedCall lim s l row limit stamp .row) r h p v w
+
 -- ---- a run saved, and gone on with
 
 -- Saved 4, 11: of a save: the word, and the row afterwards; the tables are lent to read only
@@ -94,3 +114,9 @@ pub record SaveTells (lim : Limits) (s : List ℕ) (l : Lent) (row : List ℕ) (
 -- Saved 10, 11: of a resume from the saved run x, which is lent to read only
 abbrev pub ResumeTells : Limits → List ℕ → Lent → List ℕ → ℕ → List ℕ → List ℕ → List ℕ → Type 0
 ResumeTells lim s l x r h p v = Tells (resumeNumbers (resumeCall lim s l x .answer)) (resumeCall lim s l x .lent) r h p v
+
+-- ---- a trace played again
+
+-- Traces 6, 7: of a replay of a trace, which is lent to read only
+abbrev pub ReplayTells : Limits → List ℕ → Lent → List ℕ → ℕ → List ℕ → List ℕ → List ℕ → Type 0
+ReplayTells lim s l trace r h p v = Tells (replayNumbers (replayCall lim s l trace .answer)) (replayCall lim s l trace .lent) r h p v

@@ -1,6 +1,6 @@
 // What a C program calls: numbers and byte rows alone. Each answer is one word.
 use parlog::Loaded;
-ghost use Rattle.capi.specs.Tells.{LoadTells, ResumeTells, RunTells, SaveTells, StartTells, StepBoundTells, StepTells, SupplyBoundTells, SupplyTells, TurnBoundTells, TurnTells, ValuesTells, ValueTells, WatchTells};
+ghost use Rattle.capi.specs.Tells.{LoadTells, ReplayTells, ResumeTells, RunTells, RunTracedTells, SaveTells, StartTells, StepBoundTells, StepTells, StepTracedTells, SupplyBoundTells, SupplyTells, SupplyTracedTells, TurnBoundTells, TurnTells, ValuesTells, ValueTells, WatchTells};
 ghost use Rattle.parlog.specs.Limits.{small};
 ghost use Rattle.parlog.specs.Tables.{lent};
 
@@ -180,6 +180,60 @@ pub extern "C" fn rissobarm_supply_bound(
     words::supply_word(a)
 }
 
+// ---- the moves recorded, in a row more
+
+// Makes the step of one process, and records it.
+#[no_mangle]
+pub extern "C" fn rissobarm_step_traced(
+    image: &[u8],
+    head: &mut [u8],
+    procs: &mut [u8],
+    vars: &mut [u8],
+    trace: &mut [u8],
+    process: u32,
+    stamp: u16,
+) -> u64
+    ensures { λ r. ⌜ StepTracedTells small (now (image .entry)) (lent (now (head .entry)) (now (procs .entry)) (now (vars .entry))) (now (trace .entry)) process stamp r (now (head .exit)) (now (procs .exit)) (now (vars .exit)) (now (trace .exit)) ⌝ }
+{
+    let a = traced::step_traced(image, head, procs, vars, trace, process, stamp);
+    words::step_word(a)
+}
+
+// Makes the supply, and records it.
+#[no_mangle]
+pub extern "C" fn rissobarm_supply_traced(
+    image: &[u8],
+    head: &[u8],
+    procs: &[u8],
+    vars: &mut [u8],
+    trace: &mut [u8],
+    variable: u32,
+    value: u32,
+    stamp: u16,
+) -> u64
+    ensures { λ r. ⌜ SupplyTracedTells small (now (image .entry)) (lent (now (head .entry)) (now (procs .entry)) (now (vars .entry))) (now (trace .entry)) variable value stamp r (now (head .entry)) (now (procs .entry)) (now (vars .exit)) (now (trace .exit)) ⌝ }
+{
+    let a = traced::supply_traced(image, head, procs, vars, trace, variable, value, stamp);
+    words::supply_word(a)
+}
+
+// Makes turns, and records each.
+#[no_mangle]
+pub extern "C" fn rissobarm_run_traced(
+    image: &[u8],
+    head: &mut [u8],
+    procs: &mut [u8],
+    vars: &mut [u8],
+    trace: &mut [u8],
+    limit: u16,
+    stamp: u16,
+) -> u64
+    ensures { λ r. ⌜ RunTracedTells small (now (image .entry)) (lent (now (head .entry)) (now (procs .entry)) (now (vars .entry))) (now (trace .entry)) limit stamp r (now (head .exit)) (now (procs .exit)) (now (vars .exit)) (now (trace .exit)) ⌝ }
+{
+    let a = run_traced::run_traced(image, head, procs, vars, trace, limit, stamp);
+    words::run_word(a)
+}
+
 // ---- a run saved, and gone on with
 
 // Writes a run to the front of a row, as a saved run.
@@ -210,4 +264,21 @@ pub extern "C" fn rissobarm_resume(
 {
     let a = resume::resume(image, head, procs, vars, saved);
     words::resume_word(a)
+}
+
+// ---- a trace played again
+
+// Plays the records of a trace, as long as they agree.
+#[no_mangle]
+pub extern "C" fn rissobarm_replay(
+    image: &[u8],
+    head: &mut [u8],
+    procs: &mut [u8],
+    vars: &mut [u8],
+    trace: &[u8],
+) -> u64
+    ensures { λ r. ⌜ ReplayTells small (now (image .entry)) (lent (now (head .entry)) (now (procs .entry)) (now (vars .entry))) (now (trace .entry)) r (now (head .exit)) (now (procs .exit)) (now (vars .exit)) ⌝ }
+{
+    let a = replay::replay(image, head, procs, vars, trace);
+    replay::replay_word(a)
 }

@@ -206,7 +206,7 @@ fn given(t: Term, constant: u32) -> Supplied
 }
 
 // What a supply answers, in tables that keep the rules; nothing is written yet.
-fn asked(
+pub fn asked(
     image: &[u8],
     rels: usize,
     clauses: usize,

@@ -16,7 +16,7 @@ use Rattle.parlog.specs.Tables.{cellSize, fresh, freshTables, headSize, Lent, l
 use Rattle.parlog.specs.declared.Binding.the-variants.{Free}
 use Rattle.promises.proofs.Demand2.{begun-at, demand-2-start, goal-few}
 use Rattle.promises.proofs.Entry.{let-ok, let-tables}
-use Rattle.promises.proofs.Keeping.{Goes, goes-run, goes-step, goes-supply, goes-twice, kept-start, later-by}
+use Rattle.promises.proofs.Keeping.{Goes, goes-none, goes-run, goes-step, goes-supply, goes-then, goes-twice, kept-start, later-by}
 use Rattle.promises.specs.Reach.{Came, from-start, Later}
 use Rattle.promises.specs.Refusals.{LetIn}
 use Rattle.refusals.proofs.Exactly.{accepted-right}
@@ -80,6 +80,8 @@ module _ (lim : Limits) (s : List ℕ) (r c : ℕ) where
   reached-goes a (goes-step p e) = by-number p a e
   reached-goes a (goes-run limit) = run-reached lim pr limit a
   reached-goes a (goes-supply v k e) = by-supply v k a e
+  reached-goes a goes-none = a
+  reached-goes a (goes-then g h) = reached-goes (reached-goes a g) h
 
   going : (m : Lent) → LetIn lim s m r c → Going m → (t : Tables) → Goes lim pr (tablesIn m) t → tablesIn (putTables m t) ≡ t → Going (putTables m t)
   going m i q t g e = record { same = goes-twice lim s m i t g; reached = rw e (reached-goes (q .reached) g) }

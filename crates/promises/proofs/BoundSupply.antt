@@ -169,7 +169,7 @@ module _ (lim : Limits) (s : List ℕ) (l : Lent) (row : List ℕ) (v k : ℕ) w
 -- ---- only one result
 
 module _ (lim : Limits) (s : List ℕ) (l : Lent) (row : List ℕ) {w w′ : ℕ} {l′ l″ : Lent} {row′ row″ : List ℕ} where
-  rows-same : {n : Numbers} {m : Lent} {q : List ℕ} → RowTells n m q w (l′ .head) (l′ .procs) (l′ .vars) row′ → RowTells n m q w′ (l″ .head) (l″ .procs) (l″ .vars) row″
+  pub rows-same : {n : Numbers} {m : Lent} {q : List ℕ} → RowTells n m q w (l′ .head) (l′ .procs) (l′ .vars) row′ → RowTells n m q w′ (l″ .head) (l″ .procs) (l″ .vars) row″
       → (w ≡ w′) × (l′ ≡ l″) × (row′ ≡ row″)
   rows-same a b = (a .answer ∙ sym (b .answer), same-lent l′ l″ (a .head ∙ sym (b .head)) (a .procs ∙ sym (b .procs)) (a .vars ∙ sym (b .vars)), a .row ∙ sym (b .row))
 

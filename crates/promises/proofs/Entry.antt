@@ -25,6 +25,9 @@ use Rattle.promises.specs.Refusals.{BadImage, for-image, for-tables, Let
 use Rattle.refusals.proofs.Exactly.{accepted-right, refused-exactly, refused-number}
 use Rattle.refusals.proofs.RuledExactly.{lent-exactly, ruled-exactly, sizes-exactly}
 use Rattle.refusals.proofs.Tests.{refuted, refutes}
+use Rattle.replay.specs.Replay.{replayCall, replayTested}
+use Rattle.replay.specs.declared.Replayed.the-variants.{Unreplayed}
+use Rattle.trace.specs.Trace.{traceTested}
 use Rattle.values.specs.Values.{gathered, valuesCall}
 use Rattle.values.specs.declared.Gathered.the-variants.{Ungathered}
 
@@ -123,6 +126,10 @@ module _ (lim : Limits) (s : List ℕ) (l : Lent) where
     unfolding valuesCall
     values-turned row = rw (enter-away lim s l a)
 
+    pub replay-turned : (x : List ℕ) → replayCall lim s l x ≡ record { answer = Unreplayed (refusal n o); lent = l }
+    unfolding replayCall
+    replay-turned x = rw (enter-away lim s l a)
+
   module _ {r c : ℕ} (i : LetIn lim s l r c) where
     pub step-let : (p : ℕ) → stepCall lim s l p ≡ stepAnswer (stepTables lim (programOf s r c) (tablesIn l) p) l
     unfolding stepCall
@@ -147,6 +154,10 @@ module _ (lim : Limits) (s : List ℕ) (l : Lent) where
     pub values-let : (row : List ℕ) → valuesCall lim s l row ≡ gathered (programOf s r c .goalVars) (tablesIn l .state .vars) row
     unfolding valuesCall
     values-let row = rw (enter-let lim s l i)
+
+    pub replay-let : (x : List ℕ) → replayCall lim s l x ≡ replayTested (traceTested x) lim (programOf s r c) x l
+    unfolding replayCall
+    replay-let x = rw (enter-let lim s l i)
 
     -- ---- what was let in has good tables, and so has what is written over it
 

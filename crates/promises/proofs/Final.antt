@@ -42,7 +42,7 @@ use Rattle.parlog.specs.declared.Process.{Process}
 use Rattle.parlog.specs.declared.Term.the-variants.{Const}
 use Rattle.promises.proofs.Demand2.{image-sane}
 use Rattle.promises.proofs.Entry.{let-ok}
-use Rattle.promises.proofs.Keeping.{Goes, goes-run, goes-step, goes-supply, later-by}
+use Rattle.promises.proofs.Keeping.{Goes, goes-none, goes-run, goes-step, goes-supply, goes-then, later-by, ok-goes}
 use Rattle.promises.proofs.Whose.{move-can, no-room, room-not}
 use Rattle.promises.specs.Reach.{Later}
 use Rattle.promises.specs.Refusals.{LacksRoom, LetIn, stateIn}
@@ -371,6 +371,8 @@ module _ (lim : Limits) (pr : Program) (p : ℕ) where
   fate-goes sane t t′ ok (goes-supply {x = x} v k e) f =
       let g = supply-grows pr t t′ (steady-kept lim pr t ok .0 .falls) v k x e in
       rw (g .0) (fate-supplied t x k ok f)
+  fate-goes sane t t′ ok goes-none f = f
+  fate-goes sane t t′ ok (goes-then {u = u} a b) f = fate-goes sane u t′ (ok-goes lim pr sane a ok) b (fate-goes sane t u ok a f)
 
 -- ---- THE LAW
 

@@ -10,7 +10,7 @@ use Rattle.parlog.specs.Program.{Program, programOf}
 use Rattle.parlog.specs.TableRules.{fullSize}
 use Rattle.parlog.specs.Tables.{cellSize, freshTables, Lent, procCount, putTables, rowSize, startedLent, Tables, tablesIn, varCount}
 use Rattle.promises.proofs.Arrive.{no-bytes-full, noBytes, zeros-twice}
-use Rattle.promises.proofs.Demand2.{begun-at}
+use Rattle.promises.proofs.Demand2.{begun-at, image-sane}
 use Rattle.promises.proofs.Entry.{let-ok, let-tables}
 use Rattle.promises.proofs.Keeping.{Goes, goes-more, goes-ok, kept-start, later-by}
 use Rattle.promises.proofs.Nights.{demand-2-save, night-copied, saved-front}
@@ -38,7 +38,7 @@ module _ (lim : Limits) (s : List ℕ) (r c : ℕ) where
 
   zeroed-goes : (m : Lent) → LetIn lim s m r c → Zeroed m → (t : Tables) → Goes lim pr (tablesIn m) t → tablesIn (putTables m t) ≡ t → Zeroed (putTables m t)
   zeroed-goes m i q t g e =
-      let more = goes-more lim pr (let-ok lim s m i) g in
+      let more = goes-more lim pr (image-sane lim s m i) (let-ok lim s m i) g in
       let full : fullSize lim (noBytes lim) ≡ true = no-bytes-full lim in
       let ok = goes-ok lim s m i t g in
       rw e (ap (λ (k : Lent). putTables k t) q ∙ put-over (noBytes lim) (tablesIn m) t (more .0) (more .1) (rows-fit lim pr (noBytes lim) t full ok) (cells-fit lim pr (noBytes lim) t full ok))

@@ -1,12 +1,14 @@
--- What every step, turn, run and supply leaves: the bytes as they were, or tables that its moves or its supply lead to, written over them.
+-- What every step, turn, run, supply and replay leaves: the bytes as they were, or tables that its moves or its supply lead to, written over them.
 -- So what was let in is let in afterwards, whatever the outcome.
-use mathlib.Core.Path.{_∙_, _≡_, refl}
-use mathlib.Core.Bool.{true}
+use mathlib.Core.Path.{_∙_, _≡_, ap, refl}
+use mathlib.Core.Bool.{Bool, cond, false, true}
 use mathlib.Core.List.{[], _∷_, List}
-use Prim.Native.Nat.{_≤_, ℕ}
+use Prim.Native.Nat.{_*_, _≤_, suc, zero, ℕ}
+use lib.Dec.{eqb}
 use lib.ListN.{length}
 use native.Mathlib.Omega.{arith}
 use Rattle.entry.proofs.Held.{cells-fit, put-over, rows-fit, same-lent}
+use Rattle.parlog.proofs.Bools.{never}
 use Rattle.parlog.proofs.Effects.{apply-count, apply-vars, changed-length}
 use Rattle.parlog.proofs.Kept.{run-keeps, step-keeps, supply-keeps}
 use Rattle.parlog.proofs.Repeated.{runs}
@@ -15,7 +17,9 @@ use Rattle.parlog.proofs.Steps.{steady-kept, step-made, turn-made}
 use Rattle.parlog.specs.Calls.{stepAnswer, supplyAnswer}
 use Rattle.parlog.specs.Demands.{no-more, once-more, Repeats}
 use Rattle.parlog.specs.Limits.{Limits, Usable}
+use Rattle.parlog.specs.Numbers.{ruleNumber}
 use Rattle.parlog.specs.Program.{Program, programOf}
+use Rattle.parlog.specs.Records.{kindAt}
 use Rattle.parlog.specs.Run.{given, made, runTables, stepped, Stepping, stepTables, supplied, Supplying, supplyTables, turnTables, ungiven, unmade}
 use Rattle.parlog.specs.Sane.{Sane}
 use Rattle.parlog.specs.TableRules.{tablesOk}
@@ -24,37 +28,79 @@ use Rattle.parlog.specs.Unify.{change}
 use Rattle.parlog.specs.declared.Move.{Move}
 use Rattle.parlog.specs.declared.Term.the-variants.{Const}
 use Rattle.promises.proofs.Demand2.{begun-at, image-sane, started-let}
-use Rattle.promises.proofs.Entry.{let-full, let-ok, put-holds, put-let, run-let, step-let, supply-let, turn-let}
+use Rattle.promises.proofs.Entry.{let-full, let-ok, put-holds, put-let, replay-let, run-let, step-let, supply-let, turn-let}
 use Rattle.promises.proofs.Fours.{Fours, fours-in, fours-repeats, fours-step, fours-supply}
 use Rattle.promises.proofs.Nights.{night-copied, read-back}
 use Rattle.promises.specs.Moves.{Holds}
-use Rattle.promises.specs.Outcomes.{refusalIn, RunMeets, StartMeets, StepMeets, SupplyMeets, TurnMeets}
-use Rattle.promises.specs.Reach.{Later, no-call, then-night, then-run, then-step, then-supply, then-turn}
+use Rattle.promises.specs.Outcomes.{refusalIn, ReplayMeets, RunMeets, StartMeets, StepMeets, SupplyMeets, TurnMeets}
+use Rattle.promises.specs.Reach.{Later, no-call, then-night, then-replay, then-run, then-step, then-supply, then-turn}
 use Rattle.promises.specs.Refusals.{LetIn}
 use Rattle.refusals.proofs.Exactly.{accepted-right}
 use Rattle.refusals.specs.Right.{RightImage}
+use Rattle.replay.specs.Replay.{disagrees, isPlayed, playFrom, Playing, playOn, playRecord, plays, playStep, playSupply, replayTested, tablesPlayed}
 use Rattle.resume.proofs.Copied.{copied}
+use Rattle.trace.specs.Trace.{stepKind, traceSize, traceTested, whatAt, whoAt}
+use Rattle.trace.specs.declared.Tested.{Tested}
+use Rattle.trace.specs.declared.Tested.the-variants.{Faulty, Records}
 
 -- ---- from tables to tables
 
--- what a call that was let in makes of tables: a step, the moves of a run, or a supply
-pub data Goes (lim : Limits) (pr : Program) (t : Tables) : Tables → Type 0 where
-  goes-step : {u : Tables} {m : Move} (p : ℕ) → stepTables lim pr t p ≡ made m u → Goes lim pr t u
-  goes-run : (limit : ℕ) → Goes lim pr t (runTables limit lim pr t .tables)
-  goes-supply : {u : Tables} {x : ℕ} (v k : ℕ) → supplyTables pr t v k ≡ given x u → Goes lim pr t u
+-- what a call that was let in makes of tables: a step, the moves of a run, a supply, or steps and supplies one after the other
+pub data Goes (lim : Limits) (pr : Program) : Tables → Tables → Type 0 where
+  goes-step : {t u : Tables} {m : Move} (p : ℕ) → stepTables lim pr t p ≡ made m u → Goes lim pr t u
+  goes-run : {t : Tables} (limit : ℕ) → Goes lim pr t (runTables limit lim pr t .tables)
+  goes-supply : {t u : Tables} {x : ℕ} (v k : ℕ) → supplyTables pr t v k ≡ given x u → Goes lim pr t u
+  goes-none : {t : Tables} → Goes lim pr t t
+  goes-then : {t u v : Tables} → Goes lim pr t u → Goes lim pr u v → Goes lim pr t v
+
+-- the records of a trace that are played are such
+module _ (lim : Limits) (pr : Program) (x : List ℕ) where
+  pub record-goes : (at : ℕ) (t : Tables) {u : Tables} → playRecord lim pr x at t ≡ plays u → Goes lim pr t u
+  unfolding playRecord
+  record-goes at t {u} z = by (eqb (kindAt x at) stepKind) z
+    where
+      agreed : (m : Move) (t′ : Tables) (b : Bool) → stepTables lim pr t (whoAt x at) ≡ made m t′ → cond b (plays t′) disagrees ≡ plays u → Goes lim pr t u
+      agreed m t′ true e q = let g : Goes lim pr t t′ = goes-step (whoAt x at) e in rw (ap (λ (p : Playing). tablesPlayed p t) q) at g
+      agreed m t′ false e q = never (ap isPlayed q)
+
+      step : (a : Stepping) → stepTables lim pr t (whoAt x at) ≡ a → playStep a (whatAt x at) ≡ plays u → Goes lim pr t u
+      step (unmade k) e q = never (ap isPlayed q)
+      step (made m t′) e q = agreed m t′ (eqb (ruleNumber m) (whatAt x at)) e q
+
+      supply : (a : Supplying) → supplyTables pr t (whoAt x at) (whatAt x at) ≡ a → playSupply a ≡ plays u → Goes lim pr t u
+      supply (ungiven k) e q = never (ap isPlayed q)
+      supply (given v t′) e q = let g : Goes lim pr t t′ = goes-supply (whoAt x at) (whatAt x at) e in rw (ap (λ (p : Playing). tablesPlayed p t) q) at g
+
+      by : (b : Bool) → cond b (playStep (stepTables lim pr t (whoAt x at)) (whatAt x at)) (playSupply (supplyTables pr t (whoAt x at) (whatAt x at))) ≡ plays u → Goes lim pr t u
+      by true q = step (stepTables lim pr t (whoAt x at)) refl q
+      by false q = supply (supplyTables pr t (whoAt x at) (whatAt x at)) refl q
+
+  play-goes : (n k : ℕ) (t : Tables) → Goes lim pr t (playFrom n lim pr x k t .tables)
+  unfolding playFrom
+  play-goes zero k t = goes-none
+  play-goes (suc n) k t = go (playRecord lim pr x (k * traceSize) t) refl (λ u. play-goes n (suc k) u)
+    where
+      go : (p : Playing) → playRecord lim pr x (k * traceSize) t ≡ p → ((u : Tables) → Goes lim pr u (playFrom n lim pr x (suc k) u .tables))
+          → Goes lim pr t (playOn p k t (λ u. playFrom n lim pr x (suc k) u) .tables)
+      go disagrees e rest = goes-none
+      go (plays u) e rest = goes-then (record-goes (k * traceSize) t e) (rest u)
 
 module _ (lim : Limits) (pr : Program) where
-  ok-goes : Sane pr → {t u : Tables} → Goes lim pr t u → tablesOk lim pr t ≡ true → tablesOk lim pr u ≡ true
+  pub ok-goes : Sane pr → {t u : Tables} → Goes lim pr t u → tablesOk lim pr t ≡ true → tablesOk lim pr u ≡ true
   ok-goes sane {t} {u} (goes-step {m = m} p e) ok = step-keeps lim pr sane t u p m ok e
   ok-goes sane {t} (goes-run limit) ok = run-keeps lim pr sane limit t ok
   ok-goes sane {t} {u} (goes-supply {x = x} v k e) ok = supply-keeps lim pr t u v k x ok e
+  ok-goes sane goes-none ok = ok
+  ok-goes sane (goes-then a b) ok = ok-goes sane b (ok-goes sane a ok)
 
-  fours-goes : {t u : Tables} → Goes lim pr t u → tablesOk lim pr t ≡ true → Fours (t .state) → Fours (u .state)
-  fours-goes {t} {u} (goes-step {m = m} p e) ok f = fours-step lim pr t f p m u e
-  fours-goes {t} (goes-run limit) ok f = fours-repeats lim pr f (runs lim pr limit t .moves)
-  fours-goes {t} {u} (goes-supply {x = x} v k e) ok f =
+  fours-goes : Sane pr → {t u : Tables} → Goes lim pr t u → tablesOk lim pr t ≡ true → Fours (t .state) → Fours (u .state)
+  fours-goes sane {t} {u} (goes-step {m = m} p e) ok f = fours-step lim pr t f p m u e
+  fours-goes sane {t} (goes-run limit) ok f = fours-repeats lim pr f (runs lim pr limit t .moves)
+  fours-goes sane {t} {u} (goes-supply {x = x} v k e) ok f =
       let g = supply-grows pr t u (steady-kept lim pr t ok .0 .falls) v k x e in
       fours-supply t u f x k (g .0)
+  fours-goes sane goes-none ok f = f
+  fours-goes sane (goes-then a b) ok f = fours-goes sane b (ok-goes sane a ok) (fours-goes sane a ok f)
 
 -- ---- from bytes to bytes
 
@@ -104,13 +150,22 @@ module _ (lim : Limits) (s : List ℕ) (l : Lent) {r c : ℕ} (i : LetIn lim s l
       let x : Supplying = supplyTables pr (tablesIn l) v k in
       rw (same-lent l′ (supplyAnswer x l .lent) (meets .contract .head ∙ rw q) (meets .contract .procs ∙ rw q) (meets .contract .vars ∙ rw q)) (supply-gone v k x refl)
 
+  pub left-replay : {x : List ℕ} {w : ℕ} {l′ : Lent} → ReplayMeets lim s l x w l′ → Left l′
+  left-replay {x} {l′ = l′} meets =
+      let q = replay-let lim s l i x in
+      rw (same-lent l′ (replayTested (traceTested x) lim pr x l .lent) (meets .contract .head ∙ rw q) (meets .contract .procs ∙ rw q) (meets .contract .vars ∙ rw q)) (go (traceTested x))
+    where
+      go : (t : Tested) → Left (replayTested t lim pr x l .lent)
+      go (Faulty f) = as-it-was
+      go (Records n) = is-written (playFrom n lim pr x 0 (tablesIn l) .tables) (play-goes lim pr x n 0 (tablesIn l))
+
   -- what is written is let in, read back, and the same when it is written again
   module _ (t : Tables) (g : Goes lim pr (tablesIn l) t) where
     good : tablesOk lim pr t ≡ true
     good = ok-goes lim pr (image-sane lim s l i) g (let-ok lim s l i)
 
     has : Fours (t .state)
-    has = fours-goes lim pr g (let-ok lim s l i) (fours-in l)
+    has = fours-goes lim pr (image-sane lim s l i) g (let-ok lim s l i) (fours-in l)
 
     pub goes-ok : tablesOk lim pr t ≡ true
     goes-ok = good
@@ -142,6 +197,9 @@ module _ (lim : Limits) (s : List ℕ) (l : Lent) {r c : ℕ} (i : LetIn lim s l
   pub kept-supply : (v k w : ℕ) (l′ : Lent) → SupplyMeets lim s l v k w l′ → LetIn lim s l′ r c
   kept-supply v k w l′ meets = left-let (left-supply meets)
 
+  pub kept-replay : (x : List ℕ) (w : ℕ) (l′ : Lent) → ReplayMeets lim s l x w l′ → LetIn lim s l′ r c
+  kept-replay x w l′ meets = left-let (left-replay meets)
+
 -- and a start writes tables that keep them
 pub kept-start : (lim : Limits) → Usable lim → (s : List ℕ) (l : Lent) (w : ℕ) (l′ : Lent) → StartMeets lim s l w l′ → refusalIn w ≡ 0 → {r c : ℕ} → RightImage s r c → LetIn lim s l′ r c
 kept-start lim usable s l w l′ meets z {r} {c} right = let e = accepted-right s .1 right in rw (begun-at lim usable s l w l′ meets z e .1) (started-let s e lim usable)
@@ -162,6 +220,7 @@ module _ (lim : Limits) (s : List ℕ) {r c : ℕ} (Q : Lent → Type 0)
   later-by i q (then-turn {m} k meets) = let (j, x) = later-by i q k in by-left j x (left-turn lim s m j meets)
   later-by i q (then-run {m} limit k meets) = let (j, x) = later-by i q k in by-left j x (left-run lim s m j meets)
   later-by i q (then-supply {m} v u k meets) = let (j, x) = later-by i q k in by-left j x (left-supply lim s m j meets)
+  later-by i q (then-replay {m} x k meets) = let (j, y) = later-by i q k in by-left j y (left-replay lim s m j meets)
   later-by i q (then-night {m} {m′} k e) =
       let (j, x) = later-by i q k in
       let b = read-back lim s m m′ e j in
@@ -184,10 +243,12 @@ module _ (lim : Limits) (pr : Program) where
       let b = repeats-more k in
       (omega (arith, a .0, b .0), omega (arith, a .1, b .1))
 
-  pub goes-more : {t u : Tables} → tablesOk lim pr t ≡ true → Goes lim pr t u → (length (t .state .procs) ≤ length (u .state .procs)) × (length (t .state .vars) ≤ length (u .state .vars))
-  goes-more {t} {u} ok (goes-step {m = m} p e) = step-more t u p m e
-  goes-more {t} ok (goes-run limit) = repeats-more (runs lim pr limit t .moves)
-  goes-more {t} {u} ok (goes-supply {x = x} v k e) =
+  pub goes-more : Sane pr → {t u : Tables} → tablesOk lim pr t ≡ true → Goes lim pr t u → (length (t .state .procs) ≤ length (u .state .procs)) × (length (t .state .vars) ≤ length (u .state .vars))
+  goes-more sane {t} {u} ok (goes-step {m = m} p e) = step-more t u p m e
+  goes-more sane {t} ok (goes-run limit) = repeats-more (runs lim pr limit t .moves)
+  goes-more sane ok goes-none = (omega arith, omega arith)
+  goes-more sane ok (goes-then a b) = let x = goes-more sane ok a in let y = goes-more sane (ok-goes lim pr sane a ok) b in (omega (arith, x .0, y .0), omega (arith, x .1, y .1))
+  goes-more sane {t} {u} ok (goes-supply {x = x} v k e) =
       let g = supply-grows pr t u (steady-kept lim pr t ok .0 .falls) v k x e in
       rw (g .0) (supplied-more t x k)
     where

@@ -11,6 +11,7 @@ pub mod Demand2
 pub mod Reordering
 pub mod Once
 pub mod Keeping
+pub mod Replays
 pub mod RunTurns
 pub mod Final
 pub mod Arrive
@@ -23,4 +24,6 @@ pub mod Apart
 pub mod Newly
 pub mod Bound
 pub mod BoundSupply
+pub mod Traces
+pub mod Recorded
 pub mod Computed

@@ -9,7 +9,7 @@ use Rattle.parlog.specs.declared.Found.{Found}
 use Rattle.parlog.specs.declared.Marker.{Marker}
 use Rattle.parlog.specs.declared.Process.{Process}
 use Rattle.parlog.specs.declared.Stepped.{Stepped}
-use Rattle.promises.specs.Outcomes.{LoadMeets, MarkerMeets, RecordsMeet, ResumeMeets, RunMeets, SaveMeets, StartMeets, StepMeets, SupplyMeets, TurnMeets, ValueMeets, ValuesMeets, WatchMeets}
+use Rattle.promises.specs.Outcomes.{LoadMeets, MarkerMeets, RecordsMeet, ReplayMeets, ResumeMeets, RunMeets, SaveMeets, StartMeets, StepMeets, SupplyMeets, TurnMeets, ValueMeets, ValuesMeets, WatchMeets}
 use Rattle.turn_forms.specs.Turned.{turnedFrom}
 use Rattle.turn_forms.specs.declared.Turned.{Turned}
 
@@ -51,6 +51,9 @@ module _ (lim : Limits) (s : List ℕ) (l : Lent) where
 
   pub once-resume : {x : List ℕ} {w w′ : ℕ} {l′ l″ : Lent} → ResumeMeets lim s l x w l′ → ResumeMeets lim s l x w′ l″ → (w ≡ w′) × (l′ ≡ l″)
   once-resume {l′ = l′} {l″} a b = (a .contract .answer ∙ sym (b .contract .answer), same-lent l′ l″ (a .contract .head ∙ sym (b .contract .head)) (a .contract .procs ∙ sym (b .contract .procs)) (a .contract .vars ∙ sym (b .contract .vars)))
+
+  pub once-replay : {x : List ℕ} {w w′ : ℕ} {l′ l″ : Lent} → ReplayMeets lim s l x w l′ → ReplayMeets lim s l x w′ l″ → (w ≡ w′) × (l′ ≡ l″)
+  once-replay {l′ = l′} {l″} a b = (a .contract .answer ∙ sym (b .contract .answer), same-lent l′ l″ (a .contract .head ∙ sym (b .contract .head)) (a .contract .procs ∙ sym (b .contract .procs)) (a .contract .vars ∙ sym (b .contract .vars)))
 
 -- ---- the two calls that no C program reaches: the turn with its marker lent, and the watch over records
 

@@ -41,7 +41,7 @@ module _ (n : Numbers) (r : n .refused ≤ 255) (a : n .a ≤ 255) (b : n .b ≤
 
 -- ---- every part has its room
 
-rule-small : (m : Move) → ruleNumber m ≤ 255
+pub rule-small : (m : Move) → ruleNumber m ≤ 255
 rule-small (Ready p) = omega arith
 rule-small (Wake p) = omega arith
 rule-small (Stop p) = omega arith

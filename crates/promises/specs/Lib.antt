@@ -5,3 +5,6 @@ pub mod Moves
 pub mod Reach
 pub mod Bound
 pub mod BoundCases
+pub mod Replays
+pub mod Traces
+pub mod TraceCases

@@ -2,7 +2,7 @@
 use mathlib.Core.Path.{_≡_}
 use mathlib.Core.List.{List}
 use Prim.Native.Nat.{_%_, _/_, ℕ}
-use Rattle.capi.specs.Tells.{LoadTells, ResumeTells, RunTells, SaveTells, StartTells, StepTells, SupplyTells, TurnTells, ValuesTells, ValueTells, WatchTells}
+use Rattle.capi.specs.Tells.{LoadTells, ReplayTells, ResumeTells, RunTells, SaveTells, StartTells, StepTells, SupplyTells, TurnTells, ValuesTells, ValueTells, WatchTells}
 use Rattle.parlog.specs.Limits.{Limits}
 use Rattle.parlog.specs.Run.{watchOf}
 use Rattle.parlog.specs.Tables.{Lent}
@@ -75,6 +75,10 @@ pub record SaveMeets (lim : Limits) (s : List ℕ) (l : Lent) (row : List ℕ) (
 -- of rissobarm_resume, lent the saved run x to read only
 pub record ResumeMeets (lim : Limits) (s : List ℕ) (l : Lent) (x : List ℕ) (w : ℕ) (l′ : Lent) : Type 0 where
   pub contract : ResumeTells lim s l x w (l′ .head) (l′ .procs) (l′ .vars)
+
+-- of rissobarm_replay, lent the trace x to read only
+pub record ReplayMeets (lim : Limits) (s : List ℕ) (l : Lent) (x : List ℕ) (w : ℕ) (l′ : Lent) : Type 0 where
+  pub contract : ReplayTells lim s l x w (l′ .head) (l′ .procs) (l′ .vars)
 
 -- ---- and the contract of the two calls that no C program reaches
 

@@ -9,7 +9,7 @@ use Rattle.parlog.specs.Notions.{HasMode}
 use Rattle.parlog.specs.Program.{Program, programOf}
 use Rattle.parlog.specs.Tables.{cellSize, freshTables, Lent, procCount, rowSize, startedLent, tablesIn, varCount}
 use Rattle.promises.specs.Moves.{Moves, no-turn, one-turn, Turns}
-use Rattle.promises.specs.Outcomes.{largeIn, refusalIn, ResumeMeets, RunMeets, SaveMeets, StartMeets, StepMeets, SupplyMeets, TurnMeets}
+use Rattle.promises.specs.Outcomes.{largeIn, refusalIn, ReplayMeets, ResumeMeets, RunMeets, SaveMeets, StartMeets, StepMeets, SupplyMeets, TurnMeets}
 use Rattle.promises.specs.Refusals.{LetIn, stateIn}
 use Rattle.refusals.specs.Right.{RightImage}
 use Rattle.refusals.specs.Ruled.{Sizes}
@@ -45,13 +45,14 @@ pub record ReadBack (lim : Limits) (s : List ℕ) (r c : ℕ) (l : Lent) (w : �
   pub vars : (j : ℕ) → varCount (l .head) * cellSize ≤ j → getD (l′ .vars) j 0 ≡ 0
   pub enters : LetIn lim s l′ r c
 
--- what any outcomes of steps by number, turns, runs and supplies, refused ones too, and nights leave of the bytes l
+-- what any outcomes of steps by number, turns, runs, supplies and replays, refused ones too, and nights leave of the bytes l
 pub data Later (lim : Limits) (s : List ℕ) (l : Lent) : Lent → Type 0 where
   no-call : Later lim s l l
   then-step : {m m′ : Lent} {w : ℕ} (p : ℕ) → Later lim s l m → StepMeets lim s m p w m′ → Later lim s l m′
   then-turn : {m m′ : Lent} {w : ℕ} → Later lim s l m → TurnMeets lim s m w m′ → Later lim s l m′
   then-run : {m m′ : Lent} {w : ℕ} (limit : ℕ) → Later lim s l m → RunMeets lim s m limit w m′ → Later lim s l m′
   then-supply : {m m′ : Lent} {w : ℕ} (v k : ℕ) → Later lim s l m → SupplyMeets lim s m v k w m′ → Later lim s l m′
+  then-replay : {m m′ : Lent} {w : ℕ} (x : List ℕ) → Later lim s l m → ReplayMeets lim s m x w m′ → Later lim s l m′
   then-night : {m m′ : Lent} → Later lim s l m → Night lim s m m′ → Later lim s l m′
 
 -- Tables 2: bytes that came: a start of the image s wrote some, and these are left of them

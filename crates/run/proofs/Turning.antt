@@ -141,11 +141,11 @@ module _ (l : Lent) {w : View} (d : LookSays l w) where
 
 -- ---- the loop of a run
 
-moved-is : (x : Stepping) (l : Lent) (t : Tables) {m : Move} → stepAnswer x l .answer ≡ Moved m → x ≡ made m (tablesAfter x t)
+pub moved-is : (x : Stepping) (l : Lent) (t : Tables) {m : Move} → stepAnswer x l .answer ≡ Moved m → x ≡ made m (tablesAfter x t)
 moved-is (unmade k) l t e = let z : _≡_ {A = ℕ} 0 1 = cc in absurd (omega arith)
 moved-is (made m t′) l t e = cc
 
-unmoved-is : (x : Stepping) (l : Lent) {f : Refusal} → stepAnswer x l .answer ≡ Unmoved f → (k : ℕ) × (x ≡ unmade k)
+pub unmoved-is : (x : Stepping) (l : Lent) {f : Refusal} → stepAnswer x l .answer ≡ Unmoved f → (k : ℕ) × (x ≡ unmade k)
 unmoved-is (unmade k) l e = (k, refl)
 unmoved-is (made m t′) l e = let z : _≡_ {A = ℕ} 0 1 = cc in absurd (omega arith)
 

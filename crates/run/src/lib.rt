@@ -84,7 +84,7 @@ fn end_by(result: u8) -> End
 }
 
 // The tests before a step: whether the goal's process sleeps, then whose turn it is.
-fn look(head: &[u8], procs: &[u8], vars: &[u8]) -> View
+pub fn look(head: &[u8], procs: &[u8], vars: &[u8]) -> View
     requires { ⌜ Turning small (now head) (now procs) (now vars) ⌝ }
     ensures { λ r. ⌜ LookSays (lent (now (head .entry)) (now (procs .entry)) (now (vars .entry))) r ⌝ }
 {

@@ -26,7 +26,7 @@ use Rattle.saved.specs.declared.Seen.{Seen}
 pub whole-exactly : (x : List ℕ) (at : ℕ) → cut x at ≡ false → WholeAt x at
 whole-exactly x at e = let w = whole x at e in record { begun = begun x at e; size = w .0; inside = w .1 }
 
-whole-uncut : (x : List ℕ) (at : ℕ) → WholeAt x at → cut x at ≡ false
+pub whole-uncut : (x : List ℕ) (at : ℕ) → WholeAt x at → cut x at ≡ false
 unfolding cut
 whole-uncut x at w =
     let a : ltb (length x) (at + 4) ≡ false = le-ltb (length x) (at + 4) (w .begun) in

@@ -118,12 +118,12 @@ enter-within lim s l = by (loadOf s) (load-fits s)
 -- ---- a step and a turn
 
 -- a step that was made touched a process that fits
-abbrev StepWithin : Stepping → Type 0
+abbrev pub StepWithin : Stepping → Type 0
 StepWithin (unmade k) = Unit {0}
 StepWithin (made m t) = MoveWithin 4294967295 m
 
 module _ (lim : Limits) (ok : Usable lim) (pr : Program) (t : Tables) (h : procsIn t ≤ lim .procs) where
-  step-within : (p : ℕ) → StepWithin (stepTables lim pr t p)
+  pub step-within : (p : ℕ) → StepWithin (stepTables lim pr t p)
   unfolding stepTables move
   step-within p = by (ltb p (procsIn t)) refl
     where

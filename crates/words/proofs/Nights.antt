@@ -9,7 +9,7 @@ use borrow.Author.Tests.{le-ltb, lt-ltb}
 use native.Mathlib.Omega.{arith}
 use Rattle.parlog.specs.Calls.{enter, entered, Entry, turned-away}
 use Rattle.parlog.specs.Limits.{Limits}
-use Rattle.parlog.specs.Load.{loadOf, refusal}
+use Rattle.parlog.specs.Load.{loadOf}
 use Rattle.parlog.specs.Numbers.{refusedAs, word}
 use Rattle.parlog.specs.Tables.{Lent}
 use Rattle.parlog.specs.declared.Loaded.the-variants.{Refused}
@@ -22,14 +22,17 @@ use Rattle.resume.specs.declared.Saved.the-variants.{Stored, Unsaved}
 use Rattle.saved.specs.Form.{savedBytes}
 use Rattle.words.proofs.Fitting.{enter-within, EntryWithin, load-fits}
 use Rattle.words.specs.Fits.{RefusalFits}
-use Rattle.words.specs.Nights.{resumeNumbers, SaveFits, toldRefusal}
+use Rattle.words.specs.Nights.{resumeNumbers, SaveFits, toldOffset, toldRefusal}
 
-module _ (r : Refusal) where
-  pub told-far : 4294967295 < r .offset → refusal (r .number) 4294967295 ≡ toldRefusal r
-  told-far h = rw (lt-ltb 4294967295 (r .offset) h)
+-- a number over 32 bits, and one that fits
+pub told-over : (n : ℕ) → 4294967295 < n → 4294967295 ≡ toldOffset n
+told-over n h = rw (lt-ltb 4294967295 n h)
 
-  pub told-near : r .offset ≤ 4294967295 → r ≡ toldRefusal r
-  told-near h = rw (le-ltb 4294967295 (r .offset) h)
+pub told-all : (n : ℕ) → n ≤ 4294967295 → n ≡ toldOffset n
+told-all n h = rw (le-ltb 4294967295 n h)
+
+pub told-near : (r : Refusal) → r .offset ≤ 4294967295 → r ≡ toldRefusal r
+told-near r h = rw (le-ltb 4294967295 (r .offset) h)
 
 -- the refusals of a save
 abbrev RefusedFits : Saved → Type 0

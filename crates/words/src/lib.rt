@@ -15,11 +15,11 @@ use resume::Saved;
 use values::Gathered;
 ghost use mathlib.Core.Path.{_≡_};
 ghost use Prim.Native.Nat.{_≤_};
-ghost use Rattle.parlog.specs.Numbers.{endNumber, refusedAs, runNumbers, startNumbers, stepNumbers, supplyNumbers, termNumbers, valueNumbers, variable, watchNumbers, word};
+ghost use Rattle.parlog.specs.Numbers.{endNumber, refusedAs, ruleNumber, runNumbers, startNumbers, stepNumbers, supplyNumbers, termNumbers, valueNumbers, variable, watchNumbers, word};
 ghost use Rattle.parlog.specs.declared.Stepped.the-variants.{Moved};
 ghost use Rattle.words.specs.Fits.{MoveWithin, reached, RefusalFits, RunFits, StartFits, StepFits, SupplyFits, ToldSays, ValueFits, ValuesFits};
 ghost use Rattle.values.specs.Values.{valuesNumbers};
-ghost use Rattle.words.specs.Nights.{resumeNumbers, SaveFits, saveNumbers, toldRefusal};
+ghost use Rattle.words.specs.Nights.{resumeNumbers, SaveFits, saveNumbers, toldOffset, toldRefusal};
 
 // The refusal of a call that is accepted.
 const ACCEPTED: usize = 0;
@@ -128,6 +128,15 @@ fn tell(m: Move) -> Told
     }
 }
 
+// The number of the rule that a move is.
+pub fn rule_number(m: Move) -> usize
+    requires { ⌜ MoveWithin 4294967295 m ⌝ }
+    ensures { λ r. ⌜ (r ≡ ruleNumber m) × (r ≤ 255) ⌝ }
+{
+    let t = tell(m);
+    t.0 as usize
+}
+
 // A move as one word.
 fn move_word(m: Move) -> u64
     requires { ⌜ MoveWithin 4294967295 m ⌝ }
@@ -232,17 +241,24 @@ pub fn watch_word(a: Found) -> u64
 
 // ---- a save and a resume
 
-// A refusal as it can be told: an offset over 32 bits becomes the largest number.
+// A number as it can be told: one over 32 bits becomes the largest.
+pub fn told_number(n: usize) -> usize
+    ensures { λ r. ⌜ (r ≡ toldOffset n) × (r ≤ 4294967295) ⌝ }
+{
+    if MOST_NUMBER < n {
+        return MOST_NUMBER;
+    }
+    n
+}
+
+// A refusal as it can be told, its offset so.
 pub fn told_refusal(r: Refusal) -> Refusal
     ensures { λ t. ⌜ (t ≡ toldRefusal r) × (t .offset ≤ 4294967295) ⌝ }
 {
-    if MOST_NUMBER < r.offset {
-        return Refusal {
-            number: r.number,
-            offset: MOST_NUMBER,
-        };
+    Refusal {
+        number: r.number,
+        offset: told_number(r.offset),
     }
-    r
 }
 
 // Of a save: how many bytes the saved run has.

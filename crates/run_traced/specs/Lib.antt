@@ -1,0 +1,2 @@
+-- What a run records.
+pub mod Traced

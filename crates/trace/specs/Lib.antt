@@ -1,0 +1,3 @@
+pub mod Trace
+pub mod Instances
+pub mod Formed

@@ -1,0 +1,2 @@
+-- What step and supply record.
+pub mod Traced
