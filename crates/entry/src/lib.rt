@@ -7,6 +7,7 @@ ghost use Rattle.parlog.specs.Limits.{small};
 ghost use Rattle.parlog.specs.Load.{refusal};
 ghost use Rattle.parlog.specs.Tables.{lent};
 ghost use lib.ListN.{length};
+ghost use Rattle.program_index.specs.Indexed.{indexSize};
 ghost use Rattle.entry.specs.Entered.{EnterSays, IndexedOf};
 
 // The limits of a run.
@@ -32,7 +33,7 @@ pub fn enter(
     vars: &[u8],
     ix: &mut [u16; program_index::SIZE],
 ) -> Loaded
-    requires { ⌜ length (now ix) ≡ 321 ⌝ }
+    requires { ⌜ length (now ix) ≡ indexSize ⌝ }
     ensures { λ r. ⌜ EnterSays small (now (image .entry)) (lent (now (head .entry)) (now (procs .entry)) (now (vars .entry))) r ⌝ }
     ensures { λ r. ⌜ IndexedOf r (now (image .entry)) (now (ix .exit)) ⌝ }
 {

@@ -1,31 +1,53 @@
-use Prim.Native.Nat.{_+_}
-use Rattle.index_fill.proofs.Columns.{named-at}
-use Rattle.program_clause.proofs.Fields.{all-vars}
-use Rattle.program_clause.proofs.Modes.{modes-some}
-use borrow.Author.Needs.{needs}
-use mathlib.Core.Path.{_∙_}
 use native.Mathlib.Omega.{arith}
+use borrow.Author.Needs.{needs}
 use Rattle.index_fill.proofs.vars_of.Statement.{statement}
 use Rattle.index_fill.proofs.vars_of.Tie as tie
+use Rattle.index_fill.proofs.vars_of.Reads as reads
+use Rattle.index_fill.proofs.vars_of.Lts as lts
+use Rattle.place.proofs.byte_at.Reads as byte-at-reads
+use Rattle.program_clause.proofs.outs_of.Reads as outs-of-reads
+
+-- src/lib.rt:35:31
+add-byte-at : tie.Need-add-byte-at
+add-byte-at c = search needs
+
+-- src/lib.rt:35:9
+byte-at-requires : tie.Need-byte-at-requires
+byte-at-requires c κs = search needs
+
+-- src/lib.rt:36:46
+add-outs-of : tie.Need-add-outs-of
+add-outs-of c = search needs
+
+-- src/lib.rt:36:9
+outs-of-requires : tie.Need-outs-of-requires
+outs-of-requires c κs = search needs
+
+-- src/lib.rt:38:31
+add-byte-at-2 : tie.Need-add-byte-at-2
+add-byte-at-2 c = search needs
+
+-- src/lib.rt:38:9
+byte-at-requires-2 : tie.Need-byte-at-requires-2
+byte-at-requires-2 c κs = search needs
+
+-- src/lib.rt:39:5
+add-result : tie.Need-add-result
+add-result c = search needs
+
+-- src/lib.rt:31:1
+returns : tie.Need-returns
+returns c = (rw ((c .byte-at2 .ensures .0), (c .before .outs-of .ensures .0), (c .before .before .byte-at .ensures .0)), omega (arith, (c .byte-at2 .ensures .1), (c .before .outs-of .ensures .2), (c .before .before .byte-at .ensures .1)))
 
 pub vars-of-spec : {M : Type 1} → statement M
 vars-of-spec =
     tie.close
     (tie.spec
-    (λ c. search needs)
-    (λ c. search needs)
-    (λ c. search needs)
-    (λ c κs. search needs)
-    (λ c. let h = (c .before .before .before .pre .0 .relations) in let g = (c .before .before .before .pre .0 .clauses) in let l = (c .before .before .before .pre .1) in let p = (c .before .before .before .pre .2) (c .before .before .before .args .rels + c .before .before .before .args .k) (omega arith) in omega (arith, p .1, c .wide-u16 .ensures))
-    (λ c κs. tt)
-    (λ c. let h = (c .before .before .before .before .pre .0 .relations) in let g = (c .before .before .before .before .pre .0 .clauses) in let l = (c .before .before .before .before .pre .1) in let p = (c .before .before .before .before .pre .2) (c .before .before .before .before .args .rels + c .before .before .before .before .args .k) (omega arith) in let q = named-at (c .before .before .before .before .args .s .now) _ (c .before .before .before .before .pre .0) _ l (c .before .wide-u16 .ensures ∙ p .0) (c .byte-at .ensures .0) in omega (arith, q))
-    (λ c. let h = (c .before .before .before .before .pre .0 .relations) in let g = (c .before .before .before .before .pre .0 .clauses) in let l = (c .before .before .before .before .pre .1) in let p = (c .before .before .before .before .pre .2) (c .before .before .before .before .args .rels + c .before .before .before .before .args .k) (omega arith) in let q = named-at (c .before .before .before .before .args .s .now) _ (c .before .before .before .before .pre .0) _ l (c .before .wide-u16 .ensures ∙ p .0) (c .byte-at .ensures .0) in omega (arith, q))
-    (λ c κs. search needs)
-    (λ c. let h = (c .before .before .before .before .before .before .pre .0 .relations) in let g = (c .before .before .before .before .before .before .pre .0 .clauses) in let l = (c .before .before .before .before .before .before .pre .1) in let p = (c .before .before .before .before .before .before .pre .2) (c .before .before .before .before .before .before .args .rels + c .before .before .before .before .before .before .args .k) (omega arith) in let q = named-at (c .before .before .before .before .before .before .args .s .now) _ (c .before .before .before .before .before .before .pre .0) _ l (c .before .before .before .wide-u16 .ensures ∙ p .0) (c .before .before .byte-at .ensures .0) in let m = (c .before .before .before .before .before .before .pre .2) (c .before .before .byte-at .result) (omega (arith, q)) in omega (arith, m .1, c .wide-u162 .ensures))
-    (λ c κs. tt)
-    (λ c. let h = (c .before .before .before .before .before .before .before .pre .0 .relations) in let g = (c .before .before .before .before .before .before .before .pre .0 .clauses) in let l = (c .before .before .before .before .before .before .before .pre .1) in let p = (c .before .before .before .before .before .before .before .pre .2) (c .before .before .before .before .before .before .before .args .rels + c .before .before .before .before .before .before .before .args .k) (omega arith) in let q = named-at (c .before .before .before .before .before .before .before .args .s .now) _ (c .before .before .before .before .before .before .before .pre .0) _ l (c .before .before .before .before .wide-u16 .ensures ∙ p .0) (c .before .before .before .byte-at .ensures .0) in let m = (c .before .before .before .before .before .before .before .pre .2) (c .before .before .before .byte-at .result) (omega (arith, q)) in omega (arith, m .1, c .before .wide-u162 .ensures))
-    (λ c κs. let h = (c .before .before .before .before .before .before .before .pre .0 .relations) in let g = (c .before .before .before .before .before .before .before .pre .0 .clauses) in let l = (c .before .before .before .before .before .before .before .pre .1) in let p = (c .before .before .before .before .before .before .before .pre .2) (c .before .before .before .before .before .before .before .args .rels + c .before .before .before .before .before .before .before .args .k) (omega arith) in let q = named-at (c .before .before .before .before .before .before .before .args .s .now) _ (c .before .before .before .before .before .before .before .pre .0) _ l (c .before .before .before .before .wide-u16 .ensures ∙ p .0) (c .before .before .before .byte-at .ensures .0) in let m = (c .before .before .before .before .before .before .before .pre .2) (c .before .before .before .byte-at .result) (omega (arith, q)) in (omega arith, omega (arith, m .1, c .before .wide-u162 .ensures)))
-    (λ c. let h = (c .before .before .before .before .before .before .before .before .pre .0 .relations) in let g = (c .before .before .before .before .before .before .before .before .pre .0 .clauses) in let l = (c .before .before .before .before .before .before .before .before .pre .1) in let p = (c .before .before .before .before .before .before .before .before .pre .2) (c .before .before .before .before .before .before .before .before .args .rels + c .before .before .before .before .before .before .before .before .args .k) (omega arith) in omega (arith, p .1, c .before .before .before .before .before .wide-u16 .ensures))
-    (λ c κs. tt)
-    (λ c. search needs)
-    (λ c. let h = (c .before .before .before .before .before .before .before .before .before .pre .0 .relations) in let g = (c .before .before .before .before .before .before .before .before .before .pre .0 .clauses) in let l = (c .before .before .before .before .before .before .before .before .before .pre .1) in let p = (c .before .before .before .before .before .before .before .before .before .pre .2) (c .before .before .before .before .before .before .before .before .before .args .rels + c .before .before .before .before .before .before .before .before .before .args .k) (omega arith) in let q = named-at (c .before .before .before .before .before .before .before .before .before .args .s .now) _ (c .before .before .before .before .before .before .before .before .before .pre .0) _ l (c .before .before .before .before .before .before .wide-u16 .ensures ∙ p .0) (c .before .before .before .before .before .byte-at .ensures .0) in let m = (c .before .before .before .before .before .before .before .before .before .pre .2) (c .before .before .before .before .before .byte-at .result) (omega (arith, q)) in (all-vars (c .before .before .before .before .before .before .before .before .before .args .s .now) _ _ _ l (c .before .before .before .before .before .before .wide-u16 .ensures ∙ p .0) (c .before .before .before .before .before .byte-at .ensures .0) _ _ (modes-some (c .before .before .before .before .before .before .before .before .before .args .s .now) _ _ q (c .before .before .before .wide-u162 .ensures ∙ m .0) (c .before .before .byte-at2 .ensures .0)) (c .before .outs-of .ensures .0) (c .byte-at3 .ensures .0), omega arith)))
+    add-byte-at
+    byte-at-requires
+    add-outs-of
+    outs-of-requires
+    add-byte-at-2
+    byte-at-requires-2
+    add-result
+    returns)
