@@ -10,6 +10,7 @@ use native.Mathlib.Omega.{arith}
 use Rattle.index_fill.specs.Filling.{Kept, Placed, putClause}
 use Rattle.parlog.proofs.Bools.{split}
 use Rattle.parlog.specs.Records.{recordAt}
+use Rattle.program_index.specs.Indexed.{behindFrom, blocksFrom, bodiesFrom, firstFrom, varsFrom}
 
 -- ---- what stays
 
@@ -49,11 +50,11 @@ places-more s k ys v h e few f j l = split (eqb j k)
     (λ b. let ne = eqb-false j k b in rw (getD-set-other ys k j v 0 ne) (f j (omega (arith, ne))))
 
 -- the words of a clause stand behind them
-pub places-beside : (s : List ℕ) (n : ℕ) (ix : List ℕ) (k q a b x f : ℕ) → n ≤ 97 → Placed s n ix → Placed s n (putClause ix k q a b x f)
+pub places-beside : (s : List ℕ) (n : ℕ) (ix : List ℕ) (k q a b x f : ℕ) → n ≤ varsFrom → Placed s n ix → Placed s n (putClause ix k q a b x f)
 places-beside s n ix k q a b x f h p j l =
-    let e = getD-set-other (set (set (set (set ix (97 + k) a) (161 + k) b) (225 + q) x) (257 + q) f) (289 + q) j (k + 1) 0 (λ z. omega arith)
-    ∙ getD-set-other (set (set (set ix (97 + k) a) (161 + k) b) (225 + q) x) (257 + q) j f 0 (λ z. omega arith)
-    ∙ getD-set-other (set (set ix (97 + k) a) (161 + k) b) (225 + q) j x 0 (λ z. omega arith)
-    ∙ getD-set-other (set ix (97 + k) a) (161 + k) j b 0 (λ z. omega arith)
-    ∙ getD-set-other ix (97 + k) j a 0 (λ z. omega arith) in
+    let e = getD-set-other (set (set (set (set ix (varsFrom + k) a) (bodiesFrom + k) b) (blocksFrom + q) x) (firstFrom + q) f) (behindFrom + q) j (k + 1) 0 (λ z. omega arith)
+    ∙ getD-set-other (set (set (set ix (varsFrom + k) a) (bodiesFrom + k) b) (blocksFrom + q) x) (firstFrom + q) j f 0 (λ z. omega arith)
+    ∙ getD-set-other (set (set ix (varsFrom + k) a) (bodiesFrom + k) b) (blocksFrom + q) j x 0 (λ z. omega arith)
+    ∙ getD-set-other (set ix (varsFrom + k) a) (bodiesFrom + k) j b 0 (λ z. omega arith)
+    ∙ getD-set-other ix (varsFrom + k) j a 0 (λ z. omega arith) in
     (e ∙ p j l .0, rw e (p j l .1))

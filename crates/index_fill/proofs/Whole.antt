@@ -15,22 +15,22 @@ use Rattle.parlog.specs.Scan.{tally}
 use Rattle.parlog.specs.declared.Progress.{Progress}
 use Rattle.place.proofs.Clauses.{clause-count}
 use Rattle.program_block.specs.Parts.{ownBefore}
-use Rattle.program_index.specs.Indexed.{Indexed}
+use Rattle.program_index.specs.Indexed.{behindFrom, blocksFrom, bodiesFrom, firstFrom, Indexed, indexSize, varsFrom}
 
 -- ---- no clause is passed
 
-pub filled-start : (s : List ℕ) (r c : ℕ) {ix : List ℕ} → ((k : ℕ) → k < 96 → getD ix (225 + k) 0 ≡ 0) → Filled s r c 0 ix
+pub filled-start : (s : List ℕ) (r c : ℕ) {ix : List ℕ} → ((k : ℕ) → k < 96 → getD ix (blocksFrom + k) 0 ≡ 0) → Filled s r c 0 ix
 unfolding tally
 filled-start s r c {ix} z = record {
   vars = λ j l. absurd (omega arith);
   bodies = λ j l. absurd (omega arith);
   blocks = λ j l. (z j (omega arith), omega (arith, z j (omega arith)));
-  first = λ j l. let e : getD ix (257 + j) 0 ≡ 0 = zero-at j 32 (omega arith) in ((λ i m. absurd (omega arith)), omega arith);
-  behind = λ j l. let e : getD ix (289 + j) 0 ≡ 0 = zero-at j 64 (omega arith) in ((λ i a m. absurd (omega arith)), omega arith);
+  first = λ j l. let e : getD ix (firstFrom + j) 0 ≡ 0 = zero-at j 32 (omega arith) in ((λ i m. absurd (omega arith)), omega arith);
+  behind = λ j l. let e : getD ix (behindFrom + j) 0 ≡ 0 = zero-at j 64 (omega arith) in ((λ i a m. absurd (omega arith)), omega arith);
 }
   where
-    zero-at : (j d : ℕ) → d + j < 96 → getD ix (225 + d + j) 0 ≡ 0
-    zero-at j d l = let e : 225 + d + j ≡ 225 + (d + j) = omega arith in rw e (z (d + j) l)
+    zero-at : (j d : ℕ) → d + j < 96 → getD ix (blocksFrom + d + j) 0 ≡ 0
+    zero-at j d l = let e : blocksFrom + d + j ≡ blocksFrom + (d + j) = omega arith in rw e (z (d + j) l)
 
 -- the relations do not matter then
 pub filled-relation : (s : List ℕ) (r q c k : ℕ) {ix : List ℕ} → k ≡ 0 → Filled s r c k ix → Filled s q c k ix
@@ -45,58 +45,58 @@ filled-relation s r q c k {ix} e f = rw e (record {
 
 -- ---- a word of the places
 
-pub filled-place : (s : List ℕ) (r c k i v : ℕ) {ix : List ℕ} → i < 97 → Filled s r c k ix → Filled s r c k (set ix i v)
+pub filled-place : (s : List ℕ) (r c k i v : ℕ) {ix : List ℕ} → i < varsFrom → Filled s r c k ix → Filled s r c k (set ix i v)
 filled-place s r c k i v {ix} h f = record {
-  vars = beside (Vars (programOf s r c)) 97 k i v ix (λ j l e. omega arith) (f .vars);
-  bodies = beside (Bodies s r) 161 k i v ix (λ j l e. omega arith) (f .bodies);
-  blocks = beside (Blocks (programOf s r c) k) 225 32 i v ix (λ j l e. omega arith) (f .blocks);
-  first = beside (First (programOf s r c) k) 257 32 i v ix (λ j l e. omega arith) (f .first);
-  behind = beside (Last (programOf s r c) k) 289 32 i v ix (λ j l e. omega arith) (f .behind);
+  vars = beside (Vars (programOf s r c)) varsFrom k i v ix (λ j l e. omega arith) (f .vars);
+  bodies = beside (Bodies s r) bodiesFrom k i v ix (λ j l e. omega arith) (f .bodies);
+  blocks = beside (Blocks (programOf s r c) k) blocksFrom 32 i v ix (λ j l e. omega arith) (f .blocks);
+  first = beside (First (programOf s r c) k) firstFrom 32 i v ix (λ j l e. omega arith) (f .first);
+  behind = beside (Last (programOf s r c) k) behindFrom 32 i v ix (λ j l e. omega arith) (f .behind);
 }
 
 -- ---- a clause
 
-module _ (s : List ℕ) (r c k : ℕ) (h : k < c) {at q : ℕ} (ea : at ≡ recordAt s (r + k)) (eq : q ≡ byteAt s (at + 4)) (few : k < 64) (hq : q < 32) {ix : List ℕ} (size : length ix ≡ 321) where
+module _ (s : List ℕ) (r c k : ℕ) (h : k < c) {at q : ℕ} (ea : at ≡ recordAt s (r + k)) (eq : q ≡ byteAt s (at + 4)) (few : k < 64) (hq : q < 32) {ix : List ℕ} (size : length ix ≡ indexSize) where
   pub filled-clause : Filled s r c k ix → {a b x f : ℕ} → Vars (programOf s r c) k a → Bodies s r k b → Blocks (programOf s r c) (k + 1) q x → First (programOf s r c) (k + 1) q f
       → Filled s r c (k + 1) (putClause ix k q a b x f)
   filled-clause old {a} {b} {x} {f} va bo bl fi =
       let p = programOf s r c in
-      let x1 = set ix (97 + k) a in
-      let x2 = set x1 (161 + k) b in
-      let x3 = set x2 (225 + q) x in
-      let x4 = set x3 (257 + q) f in
-      let n1 : length x1 ≡ 321 = length-set ix (97 + k) a ∙ size in
-      let n2 : length x2 ≡ 321 = length-set x1 (161 + k) b ∙ n1 in
-      let n3 : length x3 ≡ 321 = length-set x2 (225 + q) x ∙ n2 in
-      let n4 : length x4 ≡ 321 = length-set x3 (257 + q) f ∙ n3 in
+      let x1 = set ix (varsFrom + k) a in
+      let x2 = set x1 (bodiesFrom + k) b in
+      let x3 = set x2 (blocksFrom + q) x in
+      let x4 = set x3 (firstFrom + q) f in
+      let n1 : length x1 ≡ indexSize = length-set ix (varsFrom + k) a ∙ size in
+      let n2 : length x2 ≡ indexSize = length-set x1 (bodiesFrom + k) b ∙ n1 in
+      let n3 : length x3 ≡ indexSize = length-set x2 (blocksFrom + q) x ∙ n2 in
+      let n4 : length x4 ≡ indexSize = length-set x3 (firstFrom + q) f ∙ n3 in
       record {
-        vars = beside (Vars p) 97 (k + 1) (289 + q) (k + 1) x4 (λ j l e. omega arith)
-            (beside (Vars p) 97 (k + 1) (257 + q) f x3 (λ j l e. omega arith)
-            (beside (Vars p) 97 (k + 1) (225 + q) x x2 (λ j l e. omega arith)
-            (beside (Vars p) 97 (k + 1) (161 + k) b x1 (λ j l e. omega arith)
-            (column-more (Vars p) 97 k ix a (omega arith) (old .vars) va))));
-        bodies = beside (Bodies s r) 161 (k + 1) (289 + q) (k + 1) x4 (λ j l e. omega arith)
-            (beside (Bodies s r) 161 (k + 1) (257 + q) f x3 (λ j l e. omega arith)
-            (beside (Bodies s r) 161 (k + 1) (225 + q) x x2 (λ j l e. omega arith)
-            (column-more (Bodies s r) 161 k x1 b (omega arith)
-            (beside (Bodies s r) 161 k (97 + k) a ix (λ j l e. omega arith) (old .bodies)) bo)));
-        blocks = beside (Blocks p (k + 1)) 225 32 (289 + q) (k + 1) x4 (λ j l e. omega arith)
-            (beside (Blocks p (k + 1)) 225 32 (257 + q) f x3 (λ j l e. omega arith)
-            (one-changes (Blocks p k) (Blocks p (k + 1)) 225 32 q x2 x (omega arith)
-            (beside (Blocks p k) 225 32 (161 + k) b x1 (λ j l e. omega arith)
-            (beside (Blocks p k) 225 32 (97 + k) a ix (λ j l e. omega arith) (old .blocks)))
+        vars = beside (Vars p) varsFrom (k + 1) (behindFrom + q) (k + 1) x4 (λ j l e. omega arith)
+            (beside (Vars p) varsFrom (k + 1) (firstFrom + q) f x3 (λ j l e. omega arith)
+            (beside (Vars p) varsFrom (k + 1) (blocksFrom + q) x x2 (λ j l e. omega arith)
+            (beside (Vars p) varsFrom (k + 1) (bodiesFrom + k) b x1 (λ j l e. omega arith)
+            (column-more (Vars p) varsFrom k ix a (omega arith) (old .vars) va))));
+        bodies = beside (Bodies s r) bodiesFrom (k + 1) (behindFrom + q) (k + 1) x4 (λ j l e. omega arith)
+            (beside (Bodies s r) bodiesFrom (k + 1) (firstFrom + q) f x3 (λ j l e. omega arith)
+            (beside (Bodies s r) bodiesFrom (k + 1) (blocksFrom + q) x x2 (λ j l e. omega arith)
+            (column-more (Bodies s r) bodiesFrom k x1 b (omega arith)
+            (beside (Bodies s r) bodiesFrom k (varsFrom + k) a ix (λ j l e. omega arith) (old .bodies)) bo)));
+        blocks = beside (Blocks p (k + 1)) blocksFrom 32 (behindFrom + q) (k + 1) x4 (λ j l e. omega arith)
+            (beside (Blocks p (k + 1)) blocksFrom 32 (firstFrom + q) f x3 (λ j l e. omega arith)
+            (one-changes (Blocks p k) (Blocks p (k + 1)) blocksFrom 32 q x2 x (omega arith)
+            (beside (Blocks p k) blocksFrom 32 (bodiesFrom + k) b x1 (λ j l e. omega arith)
+            (beside (Blocks p k) blocksFrom 32 (varsFrom + k) a ix (λ j l e. omega arith) (old .blocks)))
             bl (blocks-other s r c k h ea eq)));
-        first = beside (First p (k + 1)) 257 32 (289 + q) (k + 1) x4 (λ j l e. omega arith)
-            (one-changes (First p k) (First p (k + 1)) 257 32 q x3 f (omega arith)
-            (beside (First p k) 257 32 (225 + q) x x2 (λ j l e. omega arith)
-            (beside (First p k) 257 32 (161 + k) b x1 (λ j l e. omega arith)
-            (beside (First p k) 257 32 (97 + k) a ix (λ j l e. omega arith) (old .first))))
+        first = beside (First p (k + 1)) firstFrom 32 (behindFrom + q) (k + 1) x4 (λ j l e. omega arith)
+            (one-changes (First p k) (First p (k + 1)) firstFrom 32 q x3 f (omega arith)
+            (beside (First p k) firstFrom 32 (blocksFrom + q) x x2 (λ j l e. omega arith)
+            (beside (First p k) firstFrom 32 (bodiesFrom + k) b x1 (λ j l e. omega arith)
+            (beside (First p k) firstFrom 32 (varsFrom + k) a ix (λ j l e. omega arith) (old .first))))
             fi (first-other s r c k h ea eq));
-        behind = one-changes (Last p k) (Last p (k + 1)) 289 32 q x4 (k + 1) (omega arith)
-            (beside (Last p k) 289 32 (257 + q) f x3 (λ j l e. omega arith)
-            (beside (Last p k) 289 32 (225 + q) x x2 (λ j l e. omega arith)
-            (beside (Last p k) 289 32 (161 + k) b x1 (λ j l e. omega arith)
-            (beside (Last p k) 289 32 (97 + k) a ix (λ j l e. omega arith) (old .behind)))))
+        behind = one-changes (Last p k) (Last p (k + 1)) behindFrom 32 q x4 (k + 1) (omega arith)
+            (beside (Last p k) behindFrom 32 (firstFrom + q) f x3 (λ j l e. omega arith)
+            (beside (Last p k) behindFrom 32 (blocksFrom + q) x x2 (λ j l e. omega arith)
+            (beside (Last p k) behindFrom 32 (bodiesFrom + k) b x1 (λ j l e. omega arith)
+            (beside (Last p k) behindFrom 32 (varsFrom + k) a ix (λ j l e. omega arith) (old .behind)))))
             (behind-own s r c k h ea eq) (behind-other s r c k h ea eq);
       }
 

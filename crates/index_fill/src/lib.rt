@@ -7,7 +7,7 @@ ghost use Prim.Native.Nat.{_+_, _≤_, _<_, ℕ};
 ghost use lib.Dec.{eqb};
 ghost use lib.ListN.{getD, length};
 ghost use Rattle.parlog.specs.Records.{byteAt};
-ghost use Rattle.program_index.specs.Indexed.{behindFrom, blocksFrom, firstFrom, indexSize};
+ghost use Rattle.program_index.specs.Indexed.{blocksFrom, indexSize};
 ghost use Rattle.index_fill.specs.Filling.{Fits, Kept, noteClause, noted, putClause, varsWord};
 
 // How many words the relations have.

@@ -22,16 +22,16 @@ use Rattle.parlog.specs.Records.{byteAt, kindAt, recordAt}
 use Rattle.parlog.specs.declared.Progress.{Progress}
 use Rattle.program_block.specs.Parts.{opensBy, ownBefore}
 use Rattle.program_clause.proofs.Fields.{relation-some}
-use Rattle.program_index.specs.Indexed.{Indexed}
+use Rattle.program_index.specs.Indexed.{behindFrom, blocksFrom, firstFrom, Indexed, indexSize}
 
 -- the words for what the records before have shown
 pub record Holds (s : List ℕ) (g : Progress) (ix : List ℕ) : Type 0 where
-  pub size : length ix ≡ 321
+  pub size : length ix ≡ indexSize
   pub places : Placed s (g .relations + g .clauses) ix
   pub goal : g .kind ≡ 3 → Placed s (g .relations + g .clauses + 1) ix
   pub filled : (c : ℕ) → g .clauses ≤ c → Filled s (g .relations) c (g .clauses) ix
 
-pub holds-start : (s : List ℕ) {ix : List ℕ} → length ix ≡ 321 → ((k : ℕ) → k < 96 → getD ix (225 + k) 0 ≡ 0) → Holds s nothingRead ix
+pub holds-start : (s : List ℕ) {ix : List ℕ} → length ix ≡ indexSize → ((k : ℕ) → k < 96 → getD ix (blocksFrom + k) 0 ≡ 0) → Holds s nothingRead ix
 holds-start s size z = record { size = size; places = λ k h. absurd (omega arith); goal = λ e. absurd (omega arith); filled = λ c h. filled-start s 0 c z }
 
 -- all is indexed when the goal was the last
@@ -106,7 +106,7 @@ module _ (s : List ℕ) (g t : Progress) (at : ℕ) (R : Reached s g at) (P : Pa
     abbrev with-place : List ℕ
     with-place = set ix (g .relations + g .clauses) at
 
-    size-so : length with-place ≡ 321
+    size-so : length with-place ≡ indexSize
     size-so = length-set ix (g .relations + g .clauses) at ∙ x .size
 
     placed-so : Placed s (g .relations + g .clauses + 1) with-place
@@ -167,8 +167,8 @@ module _ (s : List ℕ) (g t : Progress) (at : ℕ) (R : Reached s g at) (P : Pa
           let hr = R .relations in
           let eb : body ≡ bodyAt s at = rw (eq-eqb (kindAt s at) 2 k2) at told in
           let put = places-beside s (g .relations + g .clauses + 1) with-place (g .clauses) (byteAt s (at + 4)) (varsWord s at (getD with-place (byteAt s (at + 4)) 0)) body
-          (cond (opensBy (byteAt s (at + 4)) (follows g (byteAt s (at + 4))) (byteAt s (at + 6)) (byteAt s (at + 4))) (getD with-place (225 + byteAt s (at + 4)) 0 + 1) (getD with-place (225 + byteAt s (at + 4)) 0))
-          (cond (eqb (getD with-place (289 + byteAt s (at + 4)) 0) 0) (g .clauses) (getD with-place (257 + byteAt s (at + 4)) 0)) (omega (arith, R .clauses)) placed-so in
+          (cond (opensBy (byteAt s (at + 4)) (follows g (byteAt s (at + 4))) (byteAt s (at + 6)) (byteAt s (at + 4))) (getD with-place (blocksFrom + byteAt s (at + 4)) 0 + 1) (getD with-place (blocksFrom + byteAt s (at + 4)) 0))
+          (cond (eqb (getD with-place (behindFrom + byteAt s (at + 4)) 0) 0) (g .clauses) (getD with-place (firstFrom + byteAt s (at + 4)) 0)) (omega (arith, R .clauses)) placed-so in
           rw y2 (record {
             size = simp length-set (x .size);
             places = λ k h. put k (omega (arith, a .0, a .1));

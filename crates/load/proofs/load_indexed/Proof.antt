@@ -4,28 +4,11 @@ use Rattle.parlog.specs.Load.{loadOf, long}
 use borrow.Author.Needs.{needs}
 use Rattle.load.proofs.load_indexed.Statement.{statement}
 use Rattle.load.proofs.load_indexed.Tie as tie
-use Rattle.load.proofs.load_indexed.Reads as reads
-use Rattle.load.proofs.load_indexed.Lts as lts
-use Rattle.index_fill.proofs.clear.Reads as clear-reads
-use Rattle.load.proofs.records.Reads as records-reads
-use Rattle.load.proofs.refused.Reads as refused-reads
-
--- src/lib.rt:231:9
-refused-requires : tie.Need-refused-requires
-refused-requires c κs = search needs
 
 -- src/lib.rt:231:9
 returns : tie.Need-returns
 unfolding loadOf long
 returns c = (rw (lt-ltb _ _ (c .before .if1 .taken)) (c .refused .ensures), (rw (c .refused .ensures) (omega arith), rw (c .refused .ensures) tt))
-
--- src/lib.rt:233:5
-clear-requires : tie.Need-clear-requires
-clear-requires c κs = search needs
-
--- src/lib.rt:234:5
-records-requires : tie.Need-records-requires
-records-requires c κs = search needs
 
 -- src/lib.rt:224:1
 returns-2 : tie.Need-returns-2
@@ -34,4 +17,4 @@ returns-2 c = (rw (le-ltb _ _ (c .before .before .before .before .if1 .left)) (c
 
 pub load-indexed-spec : {M : Type 1} → statement M
 load-indexed-spec =
-    tie.close (tie.spec refused-requires returns clear-requires records-requires returns-2)
+    tie.close (tie.spec (λ c κs. search needs) returns (λ c κs. search needs) (λ c κs. search needs) returns-2)

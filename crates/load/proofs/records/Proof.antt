@@ -14,71 +14,12 @@ use Rattle.load.proofs.Indexing.{Holds, holds-end, holds-fits, holds-ne
 use Rattle.load.proofs.Accepted.{Reached, all-passed, reached, kept, nothing-reached}
 use Rattle.load.proofs.records.Statement.{statement}
 use Rattle.load.proofs.records.Tie as tie
-use Rattle.load.proofs.records.Reads as reads
-use Rattle.load.proofs.records.Lts as lts
-use Rattle.index_fill.proofs.note.Reads as note-reads
-use Rattle.load.proofs.refused.Reads as refused-reads
-use Rattle.load.proofs.test_record.Reads as test-record-reads
-use Rattle.place.proofs.byte_at.Reads as byte-at-reads
-use Rattle.records.proofs.end_at.Reads as end-at-reads
 
 abbrev Inv-loop : tie.InvT-loop
 Inv-loop s ix₀ n arities₀ at₀ g₀ ix arities at g = (records s (length s) at g ≡ records s (length s) 0 nothingRead) × Small g × Reached s g at × Arities s (g .relations) arities × (length arities ≡ 33) × Holds s g ix
 
 abbrev μ-loop : tie.MeasureT-loop
 μ-loop s ix₀ n arities₀ at₀ g₀ ix arities at g = length s - at
-
--- src/lib.rt:198:5
-loop-holds : tie.Need-loop-holds Inv-loop μ-loop
-loop-holds c = let s = (c .before .args .s .now) in (refl, record { relations = omega arith; clauses = omega arith; block = omega arith }, nothing-reached s, record { arity = λ k h. absurd (omega arith) }, refl, holds-start s (c .before .pre .1) (c .before .pre .2))
-
--- src/lib.rt:199:13
-end-at-requires : tie.Need-end-at-requires Inv-loop μ-loop
-end-at-requires c κs = let w = (c .before .loop .inv .2 .within) in omega arith
-
--- src/lib.rt:200:13
-test-record-requires : tie.Need-test-record-requires Inv-loop μ-loop
-test-record-requires c κs = let i = (c .before .before .before .loop .inv) in let w = i .2 .within in (i .3, (i .1, omega arith))
-
--- src/lib.rt:203:40
-add-byte-at : tie.Need-add-byte-at Inv-loop μ-loop
-add-byte-at c = let w = (c .before .before .before .before .loop .inv .2 .within) in omega arith
-
--- src/lib.rt:203:22
-byte-at-requires : tie.Need-byte-at-requires Inv-loop μ-loop
-byte-at-requires c κs = search needs
-
--- src/lib.rt:203:22
-cast-arities : tie.Need-cast-arities Inv-loop μ-loop
-cast-arities c = search needs
-
--- src/lib.rt:203:9
-array-write-arities : tie.Need-array-write-arities Inv-loop μ-loop
-array-write-arities c = let w = (c .before .before .before .before .before .loop .inv .1 .relations) in omega arith
-
--- src/lib.rt:204:29
-cast-ix : tie.Need-cast-ix Inv-loop μ-loop
-cast-ix c = let w = (c .before .before .before .before .before .loop .inv .2 .within) in omega arith
-
--- src/lib.rt:204:12
-add-ix : tie.Need-add-ix Inv-loop μ-loop
-add-ix c = let i = (c .before .before .before .before .before .before .loop .inv) in let a = i .1 .relations in let b = i .1 .clauses in omega arith
-
--- src/lib.rt:204:9
-mul-ix : tie.Need-mul-ix Inv-loop μ-loop
-mul-ix c = let i = (c .before .before .before .before .before .before .loop .inv) in let a = i .1 .relations in let b = i .1 .clauses in omega arith
-
--- src/lib.rt:204:9
-element-write-ix : tie.Need-element-write-ix Inv-loop μ-loop
-element-write-ix c = let i = (c .before .before .before .before .before .before .loop .inv) in let a = i .1 .relations in let b = i .1 .clauses in let z = i .5 .size in omega arith
-
--- src/lib.rt:206:30
-enum-known-v : tie.Need-enum-known-v Inv-loop μ-loop
-enum-known-v c = search needs
-
--- src/lib.rt:207:17
-refused-requires : tie.Need-refused-requires Inv-loop μ-loop
-refused-requires c κs = search needs
 
 -- src/lib.rt:207:17
 returns : tie.Need-returns Inv-loop μ-loop
@@ -89,10 +30,6 @@ returns c = let l = (c .before .before .before .before .before .before .before .
     let z = rw v at (c .before .before .before .before .before .before .test-record .ensures .1) in
     let e = stops s (l .g) (l .at) _ (c .before .before .before .before .before .before .before .before .before .loop-test .taken) (rw (c .before .before .before .before .before .before .test-record .ensures .0) at v) in
     (rw (c .refused .ensures) (rw e at (l .inv .0)), (rw (c .refused .ensures) (z .0, z .1, omega arith), rw (c .refused .ensures) tt))
-
--- src/lib.rt:209:27
-enum-known-v-2 : tie.Need-enum-known-v-2 Inv-loop μ-loop
-enum-known-v-2 c = search needs
 
 -- src/lib.rt:210:17
 note-requires : tie.Need-note-requires Inv-loop μ-loop
@@ -127,10 +64,6 @@ loop-again c = let l = (c .before .before .before .before .before .before .befor
       rw (c .note .ensures .0) (holds-next s (l .g) _ (l .at) (l .inv .2) p (c .before .before .before .before .before .before .before .before .before .before .before .before .before .pre .0) (l .inv .5) (c .before .before .before .before .before .before .before .test-record .ensures .3) (rw v at (c .before .before .before .before .before .before .before .test-record .ensures .2)) (c .note .ensures .1)),
     )
 
--- src/lib.rt:219:9
-refused-requires-2 : tie.Need-refused-requires-2 Inv-loop μ-loop
-refused-requires-2 c κs = search needs
-
 -- src/lib.rt:182:1
 returns-2 : tie.Need-returns-2 Inv-loop μ-loop
 returns-2 c = let l = (c .before .before .before .loop) in
@@ -147,24 +80,24 @@ records-spec =
     (tie.spec
     Inv-loop
     μ-loop
-    loop-holds
-    end-at-requires
-    test-record-requires
-    add-byte-at
-    byte-at-requires
-    cast-arities
-    array-write-arities
-    cast-ix
-    add-ix
-    mul-ix
-    element-write-ix
-    enum-known-v
-    refused-requires
+    (λ c. let s = (c .before .args .s .now) in (refl, record { relations = omega arith; clauses = omega arith; block = omega arith }, nothing-reached s, record { arity = λ k h. absurd (omega arith) }, refl, holds-start s (c .before .pre .1) (c .before .pre .2)))
+    (λ c κs. let w = (c .before .loop .inv .2 .within) in omega arith)
+    (λ c κs. let i = (c .before .before .before .loop .inv) in let w = i .2 .within in (i .3, (i .1, omega arith)))
+    (λ c. let w = (c .before .before .before .before .loop .inv .2 .within) in omega arith)
+    (λ c κs. search needs)
+    (λ c. search needs)
+    (λ c. let w = (c .before .before .before .before .before .loop .inv .1 .relations) in omega arith)
+    (λ c. let w = (c .before .before .before .before .before .loop .inv .2 .within) in omega arith)
+    (λ c. let i = (c .before .before .before .before .before .before .loop .inv) in let a = i .1 .relations in let b = i .1 .clauses in omega arith)
+    (λ c. let i = (c .before .before .before .before .before .before .loop .inv) in let a = i .1 .relations in let b = i .1 .clauses in omega arith)
+    (λ c. let i = (c .before .before .before .before .before .before .loop .inv) in let a = i .1 .relations in let b = i .1 .clauses in let z = i .5 .size in omega arith)
+    (λ c. search needs)
+    (λ c κs. search needs)
     returns
-    enum-known-v-2
+    (λ c. search needs)
     note-requires
     loop-less
     loop-again
-    refused-requires-2
+    (λ c κs. search needs)
     returns-2
     returns-3)

@@ -7,61 +7,21 @@ use Rattle.parlog.specs.Load.{verdict}
 use borrow.Author.Needs.{needs}
 use Rattle.load.proofs.test_record.Statement.{statement}
 use Rattle.load.proofs.test_record.Tie as tie
-use Rattle.load.proofs.test_record.Reads as reads
-use Rattle.load.proofs.test_record.Lts as lts
-use Rattle.load.proofs.broken.Reads as broken-reads
-use Rattle.load.proofs.kind_fault.Reads as kind-fault-reads
-use Rattle.load.proofs.test_fields.Reads as test-fields-reads
-use Rattle.load.proofs.too_many.Reads as too-many-reads
-use Rattle.records.proofs.cut.Reads as cut-reads
-use Rattle.records.proofs.kind_at.Reads as kind-at-reads
-
--- src/lib.rt:158:8
-cut-requires : tie.Need-cut-requires
-cut-requires c κs = search needs
-
--- src/lib.rt:159:9
-broken-requires : tie.Need-broken-requires
-broken-requires c κs = search needs
 
 -- src/lib.rt:159:9
 returns : tie.Need-returns
 unfolding verdict
 returns c = let a = (c .before .before .before .before .args) in broken-told 2 (placeOf (a .s .now) (a .at) (kindAt (a .s .now) (a .at))) (c .broken .ensures .0) (c .broken .ensures .1) (rw (← (c .before .before .cut .ensures), (c .before .if1 .taken))) (omega arith) (omega arith)
 
--- src/lib.rt:161:9
-kind-at-requires : tie.Need-kind-at-requires
-kind-at-requires c κs = search needs
-
--- src/lib.rt:162:8
-kind-fault-requires : tie.Need-kind-fault-requires
-kind-fault-requires c κs = search needs
-
--- src/lib.rt:163:9
-broken-requires-2 : tie.Need-broken-requires-2
-broken-requires-2 c κs = search needs
-
 -- src/lib.rt:163:9
 returns-2 : tie.Need-returns-2
 unfolding verdict
 returns-2 c = let a = (c .before .before .before .before .before .before .before .args) in broken-told 3 (placeOf (a .s .now) (a .at) (kindAt (a .s .now) (a .at))) (c .broken2 .ensures .0) (c .broken2 .ensures .1) (rw (← (c .before .before .before .before .before .cut .ensures), (c .before .before .before .before .if1 .left), ← (c .before .before .before .kind-at .ensures .0), ← (c .before .before .kind-fault .ensures), (c .before .if2 .taken))) (omega arith) (omega arith)
 
--- src/lib.rt:165:8
-too-many-requires : tie.Need-too-many-requires
-too-many-requires c κs = search needs
-
--- src/lib.rt:166:9
-broken-requires-3 : tie.Need-broken-requires-3
-broken-requires-3 c κs = search needs
-
 -- src/lib.rt:166:9
 returns-3 : tie.Need-returns-3
 unfolding verdict
 returns-3 c = let a = (c .before .before .before .before .before .before .before .before .before .args) in broken-told 6 (placeOf (a .s .now) (a .at) (kindAt (a .s .now) (a .at))) (c .broken3 .ensures .0) (c .broken3 .ensures .1) (rw (← (c .before .before .before .before .before .before .before .cut .ensures), (c .before .before .before .before .before .before .if1 .left), ← (c .before .before .before .before .before .kind-at .ensures .0), ← (c .before .before .before .before .kind-fault .ensures), (c .before .before .before .if2 .left), ← (c .before .before .too-many .ensures), (c .before .if3 .taken))) (omega arith) (omega arith)
-
--- src/lib.rt:168:5
-test-fields-requires : tie.Need-test-fields-requires
-test-fields-requires c κs = let b = c .before .before .before .before .before .before .before .before in let w = whole (b .args .s .now) (b .args .at) (rw (c .before .before .before .before .before .before .cut .ensures) at (c .before .before .before .before .before .if1 .left)) in (b .pre .0, (b .pre .1 .0, ((b .pre .1 .1, w .1), rw (c .before .too-many .ensures) at (c .if3 .left))))
 
 -- src/lib.rt:152:1
 returns-4 : tie.Need-returns-4
@@ -72,15 +32,15 @@ pub test-record-spec : {M : Type 1} → statement M
 test-record-spec =
     tie.close
     (tie.spec
-    cut-requires
-    broken-requires
+    (λ c κs. search needs)
+    (λ c κs. search needs)
     returns
-    kind-at-requires
-    kind-fault-requires
-    broken-requires-2
+    (λ c κs. search needs)
+    (λ c κs. search needs)
+    (λ c κs. search needs)
     returns-2
-    too-many-requires
-    broken-requires-3
+    (λ c κs. search needs)
+    (λ c κs. search needs)
     returns-3
-    test-fields-requires
+    (λ c κs. let b = c .before .before .before .before .before .before .before .before in let w = whole (b .args .s .now) (b .args .at) (rw (c .before .before .before .before .before .before .cut .ensures) at (c .before .before .before .before .before .if1 .left)) in (b .pre .0, (b .pre .1 .0, ((b .pre .1 .1, w .1), rw (c .before .too-many .ensures) at (c .if3 .left)))))
     returns-4)

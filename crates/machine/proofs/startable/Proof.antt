@@ -5,36 +5,11 @@ use Rattle.machine.proofs.Beginning.{startable-refused, startable-sized
 use borrow.Author.Needs.{needs}
 use Rattle.machine.proofs.startable.Statement.{statement}
 use Rattle.machine.proofs.startable.Tie as tie
-use Rattle.machine.proofs.startable.Reads as reads
-use Rattle.machine.proofs.startable.Lts as lts
-use Rattle.entry.proofs.refusal.Reads as refusal-reads
-use Rattle.load.proofs.load_indexed.Reads as load-indexed-reads
-use Rattle.table_rules.proofs.full_size.Reads as full-size-reads
-
--- src/lib.rt:86:9
-load-indexed-requires : tie.Need-load-indexed-requires
-load-indexed-requires c κs = search needs
-
--- src/lib.rt:87:26
-enum-known-l : tie.Need-enum-known-l
-enum-known-l c = search needs
-
--- src/lib.rt:88:9
-enum-told : tie.Need-enum-told
-enum-told c = search needs
 
 -- src/lib.rt:88:9
 returns : tie.Need-returns
 unfolding small
 returns c = (startable-refused _ _ _ (c .before .before .load-indexed .ensures .0) (c .enum-told .given .1), (c .before .before .load-indexed .ensures .1 .1))
-
--- src/lib.rt:90:9
-full-size-requires : tie.Need-full-size-requires
-full-size-requires c κs = search needs
-
--- src/lib.rt:91:32
-refusal-requires : tie.Need-refusal-requires
-refusal-requires c κs = search needs
 
 -- src/lib.rt:91:9
 returns-2 : tie.Need-returns-2
@@ -50,11 +25,11 @@ pub startable-spec : {M : Type 1} → statement M
 startable-spec =
     tie.close
     (tie.spec
-    load-indexed-requires
-    enum-known-l
-    enum-told
+    (λ c κs. search needs)
+    (λ c. search needs)
+    (λ c. search needs)
     returns
-    full-size-requires
-    refusal-requires
+    (λ c κs. search needs)
+    (λ c κs. search needs)
     returns-2
     returns-3)
