@@ -7,7 +7,7 @@ use lib.Dec.{ltb}
 use lib.ListN.{length}
 use borrow.Author.Tests.{ltb-true}
 use native.Mathlib.Omega.{arith}
-use Rattle.entry.specs.Entered.{EnterSays, IndexedOf, Inside}
+use Rattle.entry.specs.Entered.{EnterSays, Inside}
 use Rattle.load.specs.Bounds.{Bounded}
 use Rattle.parlog.proofs.Assume.{assume-counts, full-sizes}
 use Rattle.parlog.proofs.Bools.{and-true}
@@ -21,7 +21,7 @@ use Rattle.parlog.specs.Tables.{Lent, markerLast, procCount, tablesIn, varCount
 use Rattle.parlog.specs.declared.Loaded.{Loaded}
 use Rattle.parlog.specs.declared.Loaded.the-variants.{Accepted, Refused}
 use Rattle.parlog.specs.declared.Refusal.{Refusal}
-use Rattle.program_index.specs.Indexed.{Indexed}
+use Rattle.program_index.specs.Indexed.{Indexed, IndexedOf}
 use Rattle.rows.proofs.Tables.{procs-length}
 use Rattle.vars.proofs.Tables.{vars-length}
 

@@ -13,7 +13,6 @@ use Rattle.parlog.specs.TableRules.{cellKnown, lentOk}
 use Rattle.parlog.specs.Tables.{cellSize, headSize, Lent, markerLast, procCount, rowSize, tablesIn, varCount}
 use Rattle.parlog.specs.declared.Loaded.{Loaded}
 use Rattle.parlog.specs.declared.Loaded.the-variants.{Accepted, Refused}
-use Rattle.program_index.specs.Indexed.{Indexed}
 
 -- what a call that was let in may count on
 pub record Inside (lim : Limits) (s : List ℕ) (r c : ℕ) (l : Lent) : Type 0 where
@@ -42,11 +41,6 @@ entryOf (Accepted r c) s l = entered (programOf s r c) (tablesIn l)
 abbrev pub InsideOf : Loaded → Limits → List ℕ → Lent → Type 0
 InsideOf (Refused r) lim s l = Unit {0}
 InsideOf (Accepted r c) lim s l = Inside lim s r c l
-
--- the index of the program, where it was let in
-abbrev pub IndexedOf : Loaded → List ℕ → List ℕ → Type 0
-IndexedOf (Refused r) s ix = Unit {0}
-IndexedOf (Accepted r c) s ix = Indexed s r c ix
 
 -- Refusals 20, 21: the refusal of the image or of the tables, else the counts
 pub record EnterSays (lim : Limits) (s : List ℕ) (l : Lent) (e : Loaded) : Type 0 where

@@ -7,7 +7,8 @@ ghost use Rattle.parlog.specs.Limits.{small};
 ghost use Rattle.parlog.specs.Load.{refusal};
 ghost use Rattle.parlog.specs.Tables.{lent};
 ghost use lib.ListN.{length};
-ghost use Rattle.entry.specs.Entered.{EnterSays, IndexedOf};
+ghost use Rattle.program_index.specs.Indexed.{indexSize, IndexedOf};
+ghost use Rattle.entry.specs.Entered.{EnterSays};
 
 // The limits of a run.
 pub const PROCS: usize = codes::MOST_PROCS;
@@ -32,15 +33,14 @@ pub fn enter(
     vars: &[u8],
     ix: &mut [u16; program_index::SIZE],
 ) -> Loaded
-    requires { ⌜ length (now ix) ≡ 321 ⌝ }
+    requires { ⌜ length (now ix) ≡ indexSize ⌝ }
     ensures { λ r. ⌜ EnterSays small (now (image .entry)) (lent (now (head .entry)) (now (procs .entry)) (now (vars .entry))) r ⌝ }
     ensures { λ r. ⌜ IndexedOf r (now (image .entry)) (now (ix .exit)) ⌝ }
 {
-    let l = load::load(image);
+    let l = load::load_indexed(image, ix);
     let Loaded::Accepted(rels, clauses) = l else {
         return l;
     };
-    index_fill::fill(image, rels, clauses, ix);
     if !table_rules::lent_ok(image, rels, clauses, ix, head, procs, vars, PROCS, VARS) {
         return Loaded::Refused(refusal(codes::STATE));
     }

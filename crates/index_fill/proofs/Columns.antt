@@ -1,19 +1,16 @@
 -- Words of a row that are written one by one: what is filled, and what stays.
-use mathlib.Core.Path.{_∙_, _≡_, ap, refl, sym}
+use mathlib.Core.Path.{_∙_, _≡_, refl, sym}
 use mathlib.Core.List.{List}
-use Prim.Native.Nat.{_*_, _+_, _<_, _≤_, ℕ}
+use Prim.Native.Nat.{_+_, _<_, _≤_, ℕ}
 use lib.Dec.{eqb}
 use lib.ListN.{getD, length, length-set, set}
 use lib.Seq.{getD-set-other, getD-set-same}
 use borrow.Author.Tests.{eqb-false, eqb-true}
 use native.Mathlib.Omega.{arith}
-use native.Mathlib.Numerals.{add-one}
-use Rattle.index_fill.specs.Filling.{Kept, Placed, Short}
-use Rattle.parlog.proofs.Along.{along-snoc}
+use Rattle.index_fill.specs.Filling.{Kept, Placed, putClause}
 use Rattle.parlog.proofs.Bools.{split}
-use Rattle.parlog.specs.Image.{bodyAt, goalEnd}
-use Rattle.parlog.specs.Records.{byteAt, recordAt, recordEnd, wordAt}
-use Rattle.parlog.specs.Scan.{along}
+use Rattle.parlog.specs.Records.{recordAt}
+use Rattle.program_index.specs.Indexed.{behindFrom, blocksFrom, bodiesFrom, firstFrom, varsFrom}
 
 -- ---- what stays
 
@@ -27,8 +24,9 @@ kept-set {lo} {hi} {xs} {ys} k j v a b = record {
   size = length-set ys j v ∙ k .size;
 }
 
-pub placed-kept : (s : List ℕ) (n : ℕ) {lo hi : ℕ} {xs ys : List ℕ} → n < lo → Kept lo hi xs ys → Placed s n xs → Placed s n ys
-placed-kept s n h k p i l = let e = k .below i (omega arith) in let q = p i l in (e ∙ q .0, rw e (q .1))
+-- a column, and a word beside it
+pub beside : (P : ℕ → ℕ → Type 0) (base n i v : ℕ) (ys : List ℕ) → ((j : ℕ) → j < n → i ≡ base + j → ⊥) → ((j : ℕ) → j < n → P j (getD ys (base + j) 0)) → (j : ℕ) → j < n → P j (getD (set ys i v) (base + j) 0)
+beside P base n i v ys ne f j l = rw (getD-set-other ys i (base + j) v 0 (λ e. ne j l (sym e))) (f j l)
 
 -- ---- a column, one word more
 
@@ -46,26 +44,17 @@ one-changes P Q base r q ys v h f own other j l = split (eqb q j)
 
 -- ---- the places of the records
 
-pub place-start : (s : List ℕ) → 0 ≡ recordAt s 0
-unfolding along
-place-start s = refl
-
-pub place-next : (s : List ℕ) (k : ℕ) {from w : ℕ} → from ≡ recordAt s k → w ≡ wordAt s from → from + w ≡ recordAt s (k + 1)
-place-next s k {from} e ew = ap (λ (z : ℕ). from + z) ew ∙ ap (recordEnd s) e ∙ sym (ap (λ (z : ℕ). recordAt s z) (add-one k) ∙ along-snoc (recordEnd s) k 0)
-
-pub places-more : (s : List ℕ) (k : ℕ) (ys : List ℕ) (v : ℕ) → k < length ys → v ≡ recordAt s k → v ≤ 32768 → ((j : ℕ) → j < k → (getD ys j 0 ≡ recordAt s j) × (getD ys j 0 ≤ 32768))
-    → (j : ℕ) → j < k + 1 → (getD (set ys k v) j 0 ≡ recordAt s j) × (getD (set ys k v) j 0 ≤ 32768)
+pub places-more : (s : List ℕ) (k : ℕ) (ys : List ℕ) (v : ℕ) → k < length ys → v ≡ recordAt s k → v ≤ 32768 → Placed s k ys → Placed s (k + 1) (set ys k v)
 places-more s k ys v h e few f j l = split (eqb j k)
     (λ b. rw (eqb-true j k b, getD-set-same ys k v 0 h) (e, few))
     (λ b. let ne = eqb-false j k b in rw (getD-set-other ys k j v 0 ne) (f j (omega (arith, ne))))
 
--- ---- what stands in a clause's record
-
-pub named-in : (s : List ℕ) (r : ℕ) {c : ℕ} → Short s r c → (k : ℕ) → k < c → {q : ℕ} → q ≡ byteAt s (recordAt s (r + k) + 4) → q < r
-named-in s r few k h e = rw e (few .named k h)
-
-pub named-at : (s : List ℕ) (r : ℕ) {c : ℕ} → Short s r c → (k : ℕ) → k < c → {from : ℕ} → from ≡ recordAt s (r + k) → {q : ℕ} → q ≡ byteAt s (from + 4) → q < r
-named-at s r few k h ef eq = named-in s r few k h (eq ∙ ap (λ (z : ℕ). byteAt s (z + 4)) ef)
-
-pub body-is : (s : List ℕ) {from at m g : ℕ} → from ≡ at → m ≡ byteAt s (from + 5) → g ≡ goalEnd s (from + 8 + 2 * m) → g ≡ bodyAt s at
-body-is s {from} ef em eg = eg ∙ ap (λ (z : ℕ). goalEnd s (from + 8 + 2 * z)) em ∙ ap (bodyAt s) ef
+-- the words of a clause stand behind them
+pub places-beside : (s : List ℕ) (n : ℕ) (ix : List ℕ) (k q a b x f : ℕ) → n ≤ varsFrom → Placed s n ix → Placed s n (putClause ix k q a b x f)
+places-beside s n ix k q a b x f h p j l =
+    let e = getD-set-other (set (set (set (set ix (varsFrom + k) a) (bodiesFrom + k) b) (blocksFrom + q) x) (firstFrom + q) f) (behindFrom + q) j (k + 1) 0 (λ z. omega arith)
+    ∙ getD-set-other (set (set (set ix (varsFrom + k) a) (bodiesFrom + k) b) (blocksFrom + q) x) (firstFrom + q) j f 0 (λ z. omega arith)
+    ∙ getD-set-other (set (set ix (varsFrom + k) a) (bodiesFrom + k) b) (blocksFrom + q) j x 0 (λ z. omega arith)
+    ∙ getD-set-other (set ix (varsFrom + k) a) (bodiesFrom + k) j b 0 (λ z. omega arith)
+    ∙ getD-set-other ix (varsFrom + k) j a 0 (λ z. omega arith) in
+    (e ∙ p j l .0, rw e (p j l .1))

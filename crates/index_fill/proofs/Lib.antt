@@ -1,5 +1,5 @@
 -- The laws of the filling.
+pub mod Words
 pub mod Columns
 pub mod Relations
-pub mod Sound
 pub mod Whole

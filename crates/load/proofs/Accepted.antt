@@ -109,7 +109,7 @@ all-passed s g t at w e =
     let e7 = p6 .1 in
     record { kind = p2 .0; few = p3 .0; body = not-false _ (p4 .0); names = not-false _ (p5 .0); room = p6 .0; inside = whole s at w .1; next = cc }
 
-kinds : (g : Progress) (k : ℕ) → kindFault g k ≡ false → (1 ≤ k) × (k ≤ 3) × (g .kind ≤ k) × (g .kind < 3)
+pub kinds : (g : Progress) (k : ℕ) → kindFault g k ≡ false → (1 ≤ k) × (k ≤ 3) × (g .kind ≤ k) × (g .kind < 3)
 unfolding kindFault
 kinds g k e =
     let a = or-false (ltb k 1) (ltb 3 k || (ltb k (g .kind) || eqb (g .kind) 3)) e in
@@ -125,7 +125,7 @@ kinds g k e =
 snoc : (s : List ℕ) (m at : ℕ) → at ≡ recordAt s m → recordEnd s at ≡ recordAt s (m + 1)
 snoc s m at e = let a : m + 1 ≡ suc m = omega arith in rw (a, along-snoc, ← e)
 
-zero-of : (n : ℕ) → (0 < n → ⊥) → n ≡ 0
+pub zero-of : (n : ℕ) → (0 < n → ⊥) → n ≡ 0
 zero-of zero f = refl
 zero-of (suc n) f = absurd (f (omega arith))
 

@@ -5,3 +5,5 @@ pub mod Accepted
 pub mod Sanity
 pub mod Sizes
 pub mod Heads
+pub mod Told
+pub mod Indexing

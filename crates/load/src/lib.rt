@@ -6,13 +6,16 @@ use parlog::Verdict;
 use parlog::codes;
 ghost use mathlib.Core.Path.{_≡_};
 ghost use mathlib.Core.Bool.{false};
-ghost use Prim.Native.Nat.{_+_, _≤_};
-ghost use lib.ListN.{length};
-ghost use Rattle.parlog.specs.Records.{recordEnd};
+ghost use Prim.Native.Nat.{_+_, _<_, _≤_, ℕ};
+ghost use lib.ListN.{getD, length};
+ghost use Rattle.parlog.specs.Records.{kindAt, recordEnd};
 ghost use Rattle.parlog.specs.Load.{kindFault, tooMany, blockWith, blockFull, progressed, records, nothingRead, refusal, loadOf};
 ghost use Rattle.parlog.specs.declared.Loaded.the-variants.{Refused};
+ghost use Rattle.parlog.specs.declared.Verdict.the-variants.{Refuses};
+ghost use Rattle.load_body.specs.Reading.{placeOf};
 ghost use Rattle.load_names.specs.Reading.{Arities};
-ghost use Rattle.load.specs.Bounds.{Small, Next, Bounded};
+ghost use Rattle.program_index.specs.Indexed.{blocksFrom, indexSize, IndexedOf};
+ghost use Rattle.load.specs.Bounds.{BodyTold, Bounded, Next, Small};
 ghost use Rattle.load.specs.Fields.{fieldsVerdict, recordVerdict, refusalOf};
 
 // 3, KIND.
@@ -95,44 +98,72 @@ fn progressed(s: &[u8], g: Progress, at: usize, kind: usize) -> Progress
     }
 }
 
+// The verdict of a record, and of a clause that goes where its body begins.
+struct Tested {
+    verdict: Verdict,
+    body: usize,
+}
+
 // The tests of a record's fields, 4, 5, and the ninth-clause part of 6.
-fn test_fields(s: &[u8], t: &[u8; codes::ARITIES], g: Progress, at: usize, kind: usize) -> Verdict
+fn test_fields(s: &[u8], t: &[u8; codes::ARITIES], g: Progress, at: usize, kind: usize) -> Tested
     requires { ⌜ Arities (now s) (g .relations) (now t) ⌝ }
     requires { ⌜ Small g ⌝ }
     requires { ⌜ (at ≤ 32768) × (recordEnd (now s) at ≤ length (now s)) ⌝ }
     requires { ⌜ tooMany g kind ≡ false ⌝ }
-    ensures { λ r. ⌜ r ≡ fieldsVerdict (now (s .entry)) g at kind ⌝ }
-    ensures { λ r. ⌜ Next r ⌝ }
+    ensures { λ r. ⌜ (r .verdict ≡ fieldsVerdict (now (s .entry)) g at kind) × Next (r .verdict) × BodyTold (r .verdict) (r .body) (placeOf (now (s .entry)) at kind) × (r .body ≤ 65535) ⌝ }
 {
-    if !load_body::body_right(s, at, kind) {
-        return Verdict::Refuses(codes::BODY);
+    let body = load_body::body_of(s, at, kind);
+    if body == 0 {
+        return Tested {
+            verdict: Verdict::Refuses(codes::BODY),
+            body,
+        };
     }
     if !load_names::names_right(s, t, g, at, kind) {
-        return Verdict::Refuses(codes::NAME);
+        return Tested {
+            verdict: Verdict::Refuses(codes::NAME),
+            body,
+        };
     }
     if block_full(s, g, at, kind) {
-        return Verdict::Refuses(codes::MANY);
+        return Tested {
+            verdict: Verdict::Refuses(codes::MANY),
+            body,
+        };
     }
-    Verdict::Goes(progressed(s, g, at, kind))
+    let next = progressed(s, g, at, kind);
+    Tested {
+        verdict: Verdict::Goes(next),
+        body,
+    }
+}
+
+// A record refused before its fields are looked at.
+fn broken(number: u8) -> Tested
+    ensures { λ r. ⌜ (r .verdict ≡ Refuses number) × (r .body ≡ 0) ⌝ }
+{
+    Tested {
+        verdict: Verdict::Refuses(number),
+        body: 0,
+    }
 }
 
 // The tests of a record, 2, 3, 6, then those of its fields.
-fn test_record(s: &[u8], t: &[u8; codes::ARITIES], g: Progress, at: usize) -> Verdict
+fn test_record(s: &[u8], t: &[u8; codes::ARITIES], g: Progress, at: usize) -> Tested
     requires { ⌜ Arities (now s) (g .relations) (now t) ⌝ }
     requires { ⌜ Small g ⌝ }
     requires { ⌜ at ≤ 32768 ⌝ }
-    ensures { λ r. ⌜ r ≡ recordVerdict (now (s .entry)) g at ⌝ }
-    ensures { λ r. ⌜ Next r ⌝ }
+    ensures { λ r. ⌜ (r .verdict ≡ recordVerdict (now (s .entry)) g at) × Next (r .verdict) × BodyTold (r .verdict) (r .body) (placeOf (now (s .entry)) at (kindAt (now (s .entry)) at)) × (r .body ≤ 65535) ⌝ }
 {
     if records::cut(s, at) {
-        return Verdict::Refuses(codes::CUT);
+        return broken(codes::CUT);
     }
     let kind = records::kind_at(s, at);
     if kind_fault(g, kind) {
-        return Verdict::Refuses(codes::KIND);
+        return broken(codes::KIND);
     }
     if too_many(g, kind) {
-        return Verdict::Refuses(codes::MANY);
+        return broken(codes::MANY);
     }
     test_fields(s, t, g, at, kind)
 }
@@ -147,11 +178,12 @@ fn refused(number: u8, offset: usize) -> Loaded
     })
 }
 
-// Records in file order.
-fn records(s: &[u8]) -> Loaded
-    requires { ⌜ length (now s) ≤ 32768 ⌝ }
+// Records in file order, each noted in the index once it has passed its tests.
+fn records(s: &[u8], ix: &mut [u16; program_index::SIZE]) -> Loaded
+    requires { ⌜ (length (now s) ≤ 32768) × (length (now ix) ≡ indexSize) × ((k : ℕ) → k < 96 → getD (now ix) (blocksFrom + k) 0 ≡ 0) ⌝ }
     ensures { λ r. ⌜ r ≡ records (now (s .entry)) (length (now (s .entry))) 0 nothingRead ⌝ }
     ensures { λ r. ⌜ Bounded (length (now (s .entry))) r ⌝ }
+    ensures { λ r. ⌜ IndexedOf r (now (s .entry)) (now (ix .exit)) ⌝ }
 {
     let n = s.len();
     let mut arities = [0; codes::ARITIES];
@@ -165,14 +197,17 @@ fn records(s: &[u8]) -> Loaded
     };
     while at < n {
         let end = records::end_at(s, at);
-        let v = test_record(s, &arities, g, at);
+        let t = test_record(s, &arities, g, at);
+        let v = t.verdict;
         let k = g.relations;
         arities[k] = place::byte_at(s, at + codes::RELATION_ARITY) as u8;
+        ix[k + g.clauses] = at as u16;
         match v {
             Verdict::Refuses(number) => {
                 return refused(number, at);
             }
             Verdict::Goes(next) => {
+                index_fill::note(s, g, at, next.kind, t.body, ix);
                 g = next;
             }
         }
@@ -185,15 +220,27 @@ fn records(s: &[u8]) -> Loaded
     }
 }
 
-// The answer to an image: its counts, or the first refusal.
-pub fn load(image: &[u8]) -> Loaded
+// The answer to an image: its counts, with the index of its program, or the first refusal.
+pub fn load_indexed(image: &[u8], ix: &mut [u16; program_index::SIZE]) -> Loaded
+    requires { ⌜ length (now ix) ≡ indexSize ⌝ }
     ensures { λ r. ⌜ r ≡ loadOf (now (image .entry)) ⌝ }
     ensures { λ r. ⌜ Bounded (length (now (image .entry))) r ⌝ }
+    ensures { λ r. ⌜ IndexedOf r (now (image .entry)) (now (ix .exit)) ⌝ }
 {
     if codes::MOST_BYTES < image.len() {
         return refused(codes::LONG, 0);
     }
-    records(image)
+    index_fill::clear(ix);
+    records(image, ix)
+}
+
+// The same for who needs no index: it is the same pass.
+pub fn load(image: &[u8]) -> Loaded
+    ensures { λ r. ⌜ r ≡ loadOf (now (image .entry)) ⌝ }
+    ensures { λ r. ⌜ Bounded (length (now (image .entry))) r ⌝ }
+{
+    let mut ix = [0u16; program_index::SIZE];
+    load_indexed(image, &mut ix)
 }
 
 // The refusal that an answer holds.

@@ -1,17 +1,19 @@
 -- One turn of a goal that is read to its end, and what the end says of the tests.
-use mathlib.Core.Path.{_≡_, refl}
+use mathlib.Core.Path.{_∙_, _≡_, refl, sym}
 use mathlib.Core.Bool.{_&&_, Bool, cond, false, true}
 use mathlib.Core.List.{List}
-use Prim.Native.Nat.{_+_, _-_, _<_, _≤_, suc, zero, ℕ}
+use Prim.Native.Nat.{_*_, _+_, _-_, _<_, _≤_, suc, zero, ℕ}
 use lib.Dec.{eqb, leb, ltb}
 use borrow.Author.Tests.{le-leb, lt-leb}
 use native.Mathlib.Omega.{arith}
 use Rattle.load_body.specs.Reading.{stagesRow}
 use Rattle.parlog.proofs.Along.{less-one}
-use Rattle.parlog.specs.Body.{goalRange, literalCount, literalsRange, stageRange, stagesRange}
-use Rattle.parlog.specs.Image.{goalEnd, literalsEnd, stageEnd, stagesEnd}
-use Rattle.parlog.specs.Records.{byteAt}
+use Rattle.parlog.proofs.Bools.{and-true}
+use Rattle.parlog.specs.Body.{clauseBody, goalRange, literalCount, literalsRange, stageRange, stagesRange}
+use Rattle.parlog.specs.Image.{bodyAt, goalEnd, guardAt, literalsEnd, stageEnd, stagesEnd}
+use Rattle.parlog.specs.Records.{byteAt, recordEnd, wordAt}
 use Rattle.parlog.specs.Scan.{along, each, total}
+use Rattle.place.proofs.Grows.{goal-after}
 use Rattle.place.proofs.Rows.{row-some}
 
 -- ---- a stage has at least 1 literal
@@ -82,3 +84,27 @@ module _ (x : ℕ → Bool) (f : ℕ → ℕ) (up : (y : ℕ) → 0 < f y) where
       go : (y : Bool) → x g ≡ y → (ltb 0 b && (ltb 0 e && eqb e to)) ≡ (y && (x (f g) && eqb (f (f g)) to))
       go true h = let l : b ≡ f g = rw h at p in rw (row-some (x g) (f g) b (up g) p, h, ← l) (one-end b e to q)
       go false h = rw (row-some (x g) (f g) b (up g) p, h)
+
+-- ---- a clause's fields
+
+module _ (s : List ℕ) (at : ℕ) {a b : ℕ} (ea : a ≡ byteAt s (at + 5)) (eb : b ≡ cond (goalRange s (at + 8 + 2 * a)) (goalEnd s (at + 8 + 2 * a)) 0) where
+  pub clause-test : {m v w e : ℕ} → m ≡ byteAt s (at + 6) → v ≡ byteAt s (at + 7) → w ≡ wordAt s at → e ≡ cond (goalRange s b) (goalEnd s b) 0 → {x1 x2 x3 x4 x5 : Bool}
+      → x1 ≡ (ltb 0 e && eqb e (at + w)) → x2 ≡ (ltb 0 b && x1) → x3 ≡ (leb v 16 && x2) → x4 ≡ (leb m 1 && x3) → x5 ≡ (leb a 4 && x4) → x5 ≡ clauseBody s at
+  unfolding clauseBody
+  clause-test {w = w} {e = e} em ev ew ee e1 e2 e3 e4 e5 = rw (e5, e4, e3, e2, e1, two-end (goalRange s) (goalEnd s) (goal-after s) (at + 8 + 2 * a) b e (at + w) eb ee, ew, ev, em, ea)
+
+  -- a clause that passes has its body where its guard ends
+  pub body-found : {x : Bool} → x ≡ clauseBody s at → x ≡ true → b ≡ cond (clauseBody s at) (bodyAt s at) 0
+  unfolding clauseBody
+  body-found {x} ex h =
+      let the-end = eqb (goalEnd s (bodyAt s at)) (recordEnd s at) in
+      let goals = goalRange s (guardAt s at) && (goalRange s (bodyAt s at) && the-end) in
+      let t : (leb (byteAt s (at + 5)) 4 && (leb (byteAt s (at + 6)) 1 && (leb (byteAt s (at + 7)) 16 && goals))) ≡ true = sym ex ∙ h in
+      let p = and-true (leb (byteAt s (at + 5)) 4) (leb (byteAt s (at + 6)) 1 && (leb (byteAt s (at + 7)) 16 && goals)) t in
+      let q = and-true (leb (byteAt s (at + 6)) 1) (leb (byteAt s (at + 7)) 16 && goals) (p .1) in
+      let r = and-true (leb (byteAt s (at + 7)) 16) goals (q .1) in
+      let g = and-true (goalRange s (guardAt s at)) (goalRange s (bodyAt s at) && the-end) (r .1) in
+      rw t (eb ∙ rw (ea, g .0))
+
+  pub body-refused : {x : Bool} → x ≡ clauseBody s at → x ≡ false → 0 ≡ cond (clauseBody s at) (bodyAt s at) 0
+  body-refused ex h = let t : clauseBody s at ≡ false = sym ex ∙ h in rw t

@@ -3,9 +3,9 @@ use parlog::codes;
 ghost use mathlib.Core.Path.{_≡_};
 ghost use mathlib.Core.Bool.{cond};
 ghost use Prim.Native.Nat.{_+_, _*_, _≤_};
-ghost use Rattle.parlog.specs.Image.{byteAt, literalsEnd, stageEnd, goalEnd};
+ghost use Rattle.parlog.specs.Image.{bodyAt, byteAt, literalsEnd, stageEnd, goalEnd};
 ghost use Rattle.parlog.specs.Body.{modesRange, literalsRange, stageRange, goalRange, relationBody, clauseBody, askBody, bodyRight};
-ghost use Rattle.load_body.specs.Reading.{stagesRow};
+ghost use Rattle.load_body.specs.Reading.{placeOf, stagesRow};
 
 // BODY, kind 1: each of n modes is 0 or 1.
 fn modes_range(s: &[u8], n: usize, from: usize) -> bool
@@ -102,10 +102,10 @@ fn relation_body(s: &[u8], at: usize) -> bool
     basics::and(a <= codes::MOST_ARITY, fields)
 }
 
-// BODY, kind 2: arity, mark, variables, guard, body, and the record's end.
-fn clause_body(s: &[u8], at: usize) -> bool
+// BODY, kind 2: arity, mark, variables, guard, body, and the record's end: where its body begins, else 0.
+fn clause_body(s: &[u8], at: usize) -> usize
     requires { ⌜ at ≤ 32768 ⌝ }
-    ensures { λ r. ⌜ r ≡ clauseBody (now (s .entry)) at ⌝ }
+    ensures { λ r. ⌜ (r ≡ cond (clauseBody (now (s .entry)) at) (bodyAt (now (s .entry)) at) 0) × (r ≤ at + 1167) ⌝ }
 {
     let a = place::byte_at(s, at + codes::CLAUSE_ARITY);
     let m = place::byte_at(s, at + codes::CLAUSE_MARK);
@@ -117,7 +117,11 @@ fn clause_body(s: &[u8], at: usize) -> bool
     let goals = basics::and(0 < b, ends);
     let counts = basics::and(v <= codes::MOST_VARIABLES, goals);
     let marks = basics::and(m <= codes::MOST_MARK, counts);
-    basics::and(a <= codes::MOST_ARITY, marks)
+    if basics::and(a <= codes::MOST_ARITY, marks) {
+        b
+    } else {
+        0
+    }
 }
 
 // BODY, kind 3: variables, goal, and the record's end.
@@ -132,16 +136,23 @@ fn ask_body(s: &[u8], at: usize) -> bool
     basics::and(v <= codes::MOST_VARIABLES, ends)
 }
 
-// 4, BODY.
-pub fn body_right(s: &[u8], at: usize, kind: usize) -> bool
+// 1 where a test is passed.
+fn one_if(b: bool) -> usize
+    ensures { λ r. ⌜ (r ≡ cond b 1 0) × (r ≤ 1) ⌝ }
+{
+    if b { 1 } else { 0 }
+}
+
+// 4, BODY: where a clause's body begins, 1 of another record; 0 where it is refused.
+pub fn body_of(s: &[u8], at: usize, kind: usize) -> usize
     requires { ⌜ at ≤ 32768 ⌝ }
-    ensures { λ r. ⌜ r ≡ bodyRight (now (s .entry)) at kind ⌝ }
+    ensures { λ r. ⌜ (r ≡ cond (bodyRight (now (s .entry)) at kind) (placeOf (now (s .entry)) at kind) 0) × (r ≤ at + 1167) ⌝ }
 {
     if kind == codes::RELATION_KIND {
-        return relation_body(s, at);
+        return one_if(relation_body(s, at));
     }
     if kind == codes::CLAUSE_KIND {
         return clause_body(s, at);
     }
-    ask_body(s, at)
+    one_if(ask_body(s, at))
 }

@@ -53,9 +53,6 @@ module _ (lim : Limits) (s : List ℕ) (l : Lent) {a : Loaded} (is : a ≡ loadO
 pub sized-of : (lim : Limits) (s : List ℕ) (l : Lent) {a : Loaded} {r c : ℕ} → StartableSays lim s l a → a ≡ Accepted r c → SizedOf (Accepted r c) lim l
 sized-of lim s l h e = rw e at (h .sized)
 
-pub loaded-of : (lim : Limits) (s : List ℕ) (l : Lent) {a : Loaded} {r c : ℕ} → StartableSays lim s l a → a ≡ Accepted r c → loadOf s ≡ Accepted r c
-loaded-of lim s l h e = rw e at (h .loaded)
-
 -- ---- the goal's process
 
 pub process-new : (pr : Program) {tag : ℕ} → tag ≡ tagCode (tagOfGoal (goalBy (kindOf 0) pr 0))

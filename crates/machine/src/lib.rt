@@ -23,7 +23,7 @@ ghost use Rattle.parlog.specs.Unify.{value};
 ghost use Rattle.parlog.specs.declared.Binding.the-variants.{Bound};
 ghost use Rattle.parlog.specs.declared.Supplied.the-variants.{Ungiven};
 ghost use Rattle.parlog.specs.declared.Term.the-variants.{Var};
-ghost use Rattle.program_index.specs.Indexed.{Indexed};
+ghost use Rattle.program_index.specs.Indexed.{Indexed, IndexedOf, indexSize};
 ghost use Rattle.machine.specs.Starting.{BeginSays, StartSays, StartableSays};
 ghost use Rattle.machine.specs.Supplying.{DecidedSays, SupplySays, askedOf, givenBy, isConst};
 
@@ -71,11 +71,19 @@ pub fn value(image: &[u8], head: &[u8], procs: &[u8], vars: &[u8], variable: u32
 
 // ---- the start
 
-// The image first, then the sizes: the counts of the program, or the refusal.
-fn startable(image: &[u8], head: &[u8], procs: &[u8], vars: &[u8]) -> Loaded
+// The image first, then the sizes: the counts of the program with its index, or the refusal.
+fn startable(
+    image: &[u8],
+    head: &[u8],
+    procs: &[u8],
+    vars: &[u8],
+    ix: &mut [u16; program_index::SIZE],
+) -> Loaded
+    requires { ⌜ length (now ix) ≡ indexSize ⌝ }
     ensures { λ r. ⌜ StartableSays small (now (image .entry)) (lent (now (head .entry)) (now (procs .entry)) (now (vars .entry))) r ⌝ }
+    ensures { λ r. ⌜ IndexedOf r (now (image .entry)) (now (ix .exit)) ⌝ }
 {
-    let l = load::load(image);
+    let l = load::load_indexed(image, ix);
     let Loaded::Accepted(rels, clauses) = l else {
         return l;
     };
@@ -157,13 +165,12 @@ fn begin(
 pub fn start(image: &[u8], head: &mut [u8], procs: &mut [u8], vars: &mut [u8]) -> Started
     ensures { λ r. ⌜ StartSays small (now (image .entry)) (lent (now (head .entry)) (now (procs .entry)) (now (vars .entry))) r (now (head .exit)) (now (procs .exit)) (now (vars .exit)) ⌝ }
 {
-    let a = startable(image, head, procs, vars);
+    let mut ix = [0u16; program_index::SIZE];
+    let a = startable(image, head, procs, vars, &mut ix);
     let Loaded::Accepted(rels, clauses) = a else {
         let r = load::refusal(a);
         return Started::Unstarted(r);
     };
-    let mut ix = [0u16; program_index::SIZE];
-    index_fill::fill(image, rels, clauses, &mut ix);
     begin(image, rels, clauses, &ix, head, procs, vars);
     Started::Begun
 }

@@ -137,13 +137,12 @@ fn tested(
 fn decided(image: &[u8], head: &[u8], procs: &[u8], vars: &[u8], row: &[u8]) -> Reading
     ensures { λ r. ⌜ DecidedSays small (now (image .entry)) (lent (now (head .entry)) (now (procs .entry)) (now (vars .entry))) (now (row .entry)) r ⌝ }
 {
-    let l = load::load(image);
+    let mut ix = [0u16; program_index::SIZE];
+    let l = load::load_indexed(image, &mut ix);
     let Loaded::Accepted(rels, clauses) = l else {
         let r = load::refusal(l);
         return Reading::Broken(r);
     };
-    let mut ix = [0u16; program_index::SIZE];
-    index_fill::fill(image, rels, clauses, &mut ix);
     tested(image, rels, clauses, &ix, head, procs, vars, row)
 }
 

@@ -47,7 +47,7 @@ fn play(
     ensures { λ r. ⌜ Fronted (now (out .entry)) 16384 12534 (runnerText small (now (image .entry))) (now (out .exit)) r ⌝ }
 {
     let mut ix = [0u16; program_index::SIZE];
-    index_fill::fill(image, rels, clauses, &mut ix);
+    load::load_indexed(image, &mut ix);
     let goal = program_clause::goal_vars(image, rels, clauses, &ix);
     let begun = machine::start(image, head, procs, vars);
     let ran = run::run(image, head, procs, vars, LIMIT);

@@ -1,5 +1,4 @@
-use mathlib.Core.Path.{_∙_, sym}
-use Rattle.entry.proofs.Entering.{enter-entered, enter-refused, enter-turned, indexed-none}
+use Rattle.entry.proofs.Entering.{enter-entered, enter-refused, enter-turned, indexed-of}
 use borrow.Author.Tests.{not-false, not-true}
 use native.Mathlib.Omega.{arith}
 use Rattle.parlog.specs.Limits.{small}
@@ -15,9 +14,15 @@ enter-spec =
     (λ c κs. search needs)
     (λ c. search needs)
     (λ c. search needs)
-    (λ c. (enter-refused _ _ _ (c .before .before .load .ensures .0) (c .enum-told .given .1), indexed-none _ _ (c .enum-told .given .1)))
-    (λ c κs. (sym (c .before .before .before .before .load .ensures .0) ∙ c .before .before .l .given .1, c .before .before .before .before .before .before .before .before .before .pre))
-    (λ c κs. let h = rw (c .before .before .before .before .l .given .1) at (c .before .before .before .before .before .before .load .ensures .1) in (h .0, h .1, omega arith, omega arith, c .before .fill .ensures))
+    (λ c. (enter-refused _ _ _ (c .before .before .load-indexed .ensures .0) (c .enum-told .given .1), c .before .before .load-indexed .ensures .1 .1))
+    (λ c κs. let e = c .before .before .l .given .1 in
+    let l = c .before .before .before .before .load-indexed .ensures in
+    let h = rw e at (l .1 .0) in (h .0, h .1, omega arith, omega arith, indexed-of _ _ (l .1 .1) e))
     (λ c κs. search needs)
-    (λ c. (enter-turned _ _ _ (c .before .before .before .before .before .before .before .before .before .load .ensures .0) (c .before .before .before .before .before .before .before .l .given .1) (c .before .before .lent-ok .ensures) (not-true _ (c .before .if1 .taken)) (c .refusal .ensures), tt))
-    (λ c. (enter-entered _ _ _ (c .before .before .before .before .before .before .before .before .load .ensures .0) (c .before .before .before .before .before .before .l .given .1) (c .before .lent-ok .ensures) (not-false _ (c .if1 .left)) (c .before .before .before .before .before .before .before .before .load .ensures .1), c .before .before .before .fill .ensures)))
+    (λ c. let c1 = c .before .before in
+    let c2 = c1 .before .before .before in
+    (enter-turned _ _ _ (c2 .before .before .load-indexed .ensures .0) (c2 .l .given .1) (c1 .lent-ok .ensures) (not-true _ (c .before .if1 .taken)) (c .refusal .ensures), tt))
+    (λ c. let c1 = c .before in
+    let c2 = c1 .before .before .before in
+    let l = c2 .before .before .load-indexed .ensures in
+    (enter-entered _ _ _ (l .0) (c2 .l .given .1) (c1 .lent-ok .ensures) (not-false _ (c .if1 .left)) (l .1 .0), indexed-of _ _ (l .1 .1) (c2 .l .given .1))))
