@@ -7,6 +7,7 @@ use borrow.Author.Tests.{leb-false, leb-true, ltb-true}
 use native.Mathlib.Omega.{arith}
 use Rattle.index_fill.specs.Filling.{Short}
 use Rattle.load.proofs.Accepted.{accepted}
+use Rattle.load.proofs.Heads.{accepted-heads}
 use Rattle.load.proofs.Inside.{clause-fields}
 use Rattle.parlog.proofs.Along.{along-snoc}
 use Rattle.parlog.proofs.Bools.{and-true, split}
@@ -37,4 +38,5 @@ accepted-short s r c e =
           let g = goal-grows s (bodyAt s (recordAt s (r + k))) in
           omega arith;
       named = λ k h. let at = recordAt s (r + k) in ltb-true (byteAt s (at + 4)) r (and-true (ltb (byteAt s (at + 4)) r) (eqb (byteAt s (at + 5)) (arityOf s (byteAt s (at + 4)))) (ok .clause k h .head) .0);
+      heads = accepted-heads s r c e;
     }

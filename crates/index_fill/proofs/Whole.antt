@@ -54,4 +54,5 @@ module _ (s : List ℕ) (r c : ℕ) (few : Short s r c) {x1 x2 x3 x4 x5 x6 x7 : 
         first-few = λ q h. let e = f q h .1 in omega (arith, k7 .below (257 + q) (omega arith));
         behind = λ q h. l q h .0;
         behind-few = λ q h. l q h .1;
+        heads = few .heads;
       }

@@ -4,15 +4,17 @@ use mathlib.Core.List.{List}
 use Prim.Native.Nat.{_+_, _<_, _≤_, suc, zero, ℕ}
 use lib.ListN.{getD, length}
 use Rattle.parlog.specs.Image.{bodyAt, byteAt, equality, recordAt}
-use Rattle.parlog.specs.Program.{clauseAt, Program}
+use Rattle.parlog.specs.Program.{clauseAt, Program, programOf}
+use Rattle.program_index.specs.Indexed.{Headed}
 
--- what is known of an accepted image: places are small, and a clause is of a relation
+-- what is known of an accepted image: places are small, and a clause is of a relation and has a term for each of its arguments
 pub record Short (s : List ℕ) (r c : ℕ) : Type 0 where
   pub relations : r ≤ 32
   pub clauses : c ≤ 64
   pub places : (k : ℕ) → k ≤ r + c → recordAt s k ≤ 32768
   pub bodies : (k : ℕ) → k < c → bodyAt s (recordAt s (r + k)) ≤ 32768
   pub named : (k : ℕ) → k < c → byteAt s (recordAt s (r + k) + 4) < r
+  pub heads : Headed (programOf s r c)
 
 -- the first n + 1 records stand in the row
 abbrev pub Placed : List ℕ → ℕ → List ℕ → Type 0

@@ -4,9 +4,9 @@ use mathlib.Core.Bool.{false}
 use mathlib.Core.List.{List}
 use Prim.Native.Nat.{_+_, _<_, _≤_, ℕ}
 use lib.Dec.{eqb}
-use lib.ListN.{getD}
+use lib.ListN.{getD, length}
 use Rattle.parlog.specs.Image.{bodyAt, recordAt}
-use Rattle.parlog.specs.Program.{blockCount, clauseAt, Program, programOf, varsOf}
+use Rattle.parlog.specs.Program.{blockCount, clauseAt, modesAt, Program, programOf, varsOf}
 
 -- no clause before clause n is of relation q
 abbrev pub Early : Program → ℕ → ℕ → Type 0
@@ -15,6 +15,10 @@ Early pr q n = (k : ℕ) → k < n → eqb (clauseAt pr k .rel) q ≡ false
 -- none of c clauses from clause n on is
 abbrev pub Behind : Program → ℕ → ℕ → ℕ → Type 0
 Behind pr q c n = (k : ℕ) → n ≤ k → k < c → eqb (clauseAt pr k .rel) q ≡ false
+
+-- each clause has a term in its head for every argument of its relation
+abbrev pub Headed : Program → Type 0
+Headed pr = (k : ℕ) → length (modesAt pr (clauseAt pr k .rel)) ≤ length (clauseAt pr k .head)
 
 -- a place for each record; of each clause its new variables and the place of its body; of each relation its blocks and the range of its clauses
 pub record Indexed (s : List ℕ) (r c : ℕ) (ix : List ℕ) : Type 0 where
@@ -30,3 +34,4 @@ pub record Indexed (s : List ℕ) (r c : ℕ) (ix : List ℕ) : Type 0 where
   pub first-few : (q : ℕ) → q < r → getD ix (257 + q) 0 ≤ c
   pub behind : (q : ℕ) → q < r → Behind (programOf s r c) q c (getD ix (289 + q) 0)
   pub behind-few : (q : ℕ) → q < r → getD ix (289 + q) 0 ≤ c
+  pub heads : Headed (programOf s r c)
