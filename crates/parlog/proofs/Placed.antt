@@ -55,7 +55,7 @@ output-counted (m ∷ ms) (suc i) h = go (isInput m) (output-counted ms i h)
     go false l = omega arith
 
 module _ (pr : Program) (c : Clause) where
-  pub split-is : isSplit pr c ≡ true → Split pr c
+  split-is : isSplit pr c ≡ true → Split pr c
   unfolding isSplit
   split-is e =
       let a = and-true (ltb 0 (outCount (modesAt pr (c .rel)))) (ltb 1 (length (c .body))) e in
@@ -67,7 +67,7 @@ module _ (pr : Program) (c : Clause) where
   split-test s =
       rw (lt-ltb 0 (outCount (modesAt pr (c .rel))) (output-counted (modesAt pr (c .rel)) (s .argument) (s .output)), lt-ltb 1 (length (c .body)) (s .several))
 
-  pub not-split : isSplit pr c ≡ false → Split pr c → ⊥
+  not-split : isSplit pr c ≡ false → Split pr c → ⊥
   not-split e s = never (sym e ∙ split-test s)
 
   unsplit : (Split pr c → ⊥) → isSplit pr c ≡ false
@@ -161,7 +161,7 @@ called-only pr s p c = rw (literal-only pr (spotOf s p) (c .literal)) (c .relati
 
 -- ---- new processes
 
-module _ (pr : Program) (p : ℕ) (z : Spot) where
+module _ (pr : Program) (z : Spot) where
   at-split-by : (k : Kind) → z .kind ≡ kindCode k → splitBy k pr (z .clause) ≡ true → AtSplit pr z
   unfolding splitBy
   at-split-by the-goal q e = never e
@@ -169,14 +169,15 @@ module _ (pr : Program) (p : ℕ) (z : Spot) where
   at-split-by the-body q e = record { kind = q; clause = split-is pr (clauseAt pr (z .clause)) e }
   at-split-by as-written q e = never e
 
-  at-split : z .kind < 4 → splitAt pr z ≡ true → AtSplit pr z
+  pub at-split : z .kind < 4 → splitAt pr z ≡ true → AtSplit pr z
   unfolding splitAt
   at-split h e = at-split-by (kindOf (z .kind)) (sym (kind-code (z .kind) h)) e
 
-  at-split-test : AtSplit pr z → splitAt pr z ≡ true
+  pub at-split-test : AtSplit pr z → splitAt pr z ≡ true
   unfolding splitAt splitBy kindOf
   at-split-test a = rw (a .kind) (split-test pr (clauseAt pr (z .clause)) (a .clause))
 
+module _ (pr : Program) (p : ℕ) (z : Spot) where
   abbrev ones : List Process
   ones = build (member pr p z) (length (stageAt pr z))
 
@@ -191,8 +192,8 @@ module _ (pr : Program) (p : ℕ) (z : Spot) where
 
   members-by : z .kind < 4 → (b : Bool) → splitAt pr z ≡ b → Members pr p z (stageAt pr z) (ones ++ bodyBeside b p z)
   unfolding bodyBeside
-  members-by h false e = rw (append-nil ones) (literals-alone (λ a. never (sym e ∙ at-split-test a)) literals-are)
-  members-by h true e = and-the-body (at-split h e) literals-are
+  members-by h false e = rw (append-nil ones) (literals-alone (λ a. never (sym e ∙ at-split-test pr z a)) literals-are)
+  members-by h true e = and-the-body (at-split pr z h e) literals-are
 
   pub members-are : z .kind < 4 → Members pr p z (stageAt pr z) (members pr p z)
   unfolding members
@@ -201,9 +202,9 @@ module _ (pr : Program) (p : ℕ) (z : Spot) where
   pub members-only : z .kind < 4 → {new : List Process} → Members pr p z (stageAt pr z) new → new ≡ members pr p z
   unfolding members bodyBeside
   members-only h (literals-alone n a) =
-      let q : splitAt pr z ≡ false = split (splitAt pr z) (λ e. absurd (n (at-split h e))) (λ e. e) in
+      let q : splitAt pr z ≡ false = split (splitAt pr z) (λ e. absurd (n (at-split pr z h e))) (λ e. e) in
       rw (q, append-nil ones) (literals-only a)
-  members-only h (and-the-body s a) = rw (at-split-test s, literals-only a)
+  members-only h (and-the-body s a) = rw (at-split-test pr z s, literals-only a)
 
 pub first-is : (s : State) (p : ℕ) (new : List Process) → FirstMade s p new (firstMade s p new)
 first-is s p [] = itself

@@ -120,7 +120,7 @@ foundIn pr n z = clauseIn pr n (z .found) (z .first)
 unfoldable pub tryIn : Program → ℕ → Spot → Bool
 tryIn pr n z = foundIn pr n z && eqb (clauseAt pr (z .found) .rel) (literalAt pr z .rel)
 
--- Tables 3f: what the rules of a tag read
+-- Tables 3f, 3g: what the rules of a tag read; no and-seq is at the equations of a split clause
 unfoldable pub placesOk : Tag → Program → ℕ → Spot → Bool
 placesOk and-par pr n z = goalIn pr n z && stageIn pr z
 placesOk and-seq pr n z = goalIn pr n z && (leb (z .stage) (length (goalAt pr z)) && not (splitAt pr z))

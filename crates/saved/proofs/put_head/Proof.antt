@@ -11,4 +11,4 @@ unfolding headRecord
 returns c = lays-then (c .before .before .before .before .before .before .put-record .ensures) (c .before .before .put2 .ensures)
 
 pub put-head-spec : {M : Type 1} → statement M
-put-head-spec = tie.close (tie.spec (λ c κs. search needs) (λ c κs. let b = record-place (c .before .before .before .before .before .before .before .args .out .now) (c .before .before .before .before .before .before .before .args .head .now) 0 0 10 16 16 (c .before .before .before .put-record .ensures) in omega arith) (λ c. search needs) returns)
+put-head-spec = tie.close (tie.spec (λ c κs. search needs) (λ c κs. let b = record-place (c .before .before .before .before .before .before .before .args .out .now) (c .before .before .before .before .before .before .before .args .head .now) 0 0 10 18 16 (c .before .before .before .put-record .ensures) in omega arith) (λ c. search needs) returns)
