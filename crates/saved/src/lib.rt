@@ -228,14 +228,13 @@ fn form_fault(s: &[u8], at: usize, kind: usize) -> u8
     ensures { λ r. ⌜ r ≡ formFault (now (s .entry)) at ⌝ }
 {
     let size = word(s, at);
-    let head = kind == HEAD_KIND;
-    if basics::and(head, size == FORMER_LENGTH) {
+    if basics::and(kind == HEAD_KIND, size == FORMER_LENGTH) {
         return OLDRULE;
     }
     if size != length_of(kind) {
         return codes::BODY;
     }
-    if !head {
+    if kind != HEAD_KIND {
         return 0;
     }
     let rule = word(s, at + RULE_AT);
