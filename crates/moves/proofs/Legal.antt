@@ -28,8 +28,8 @@ use Rattle.parlog.specs.TableRules.{stateOk}
 use Rattle.parlog.specs.Tables.{State}
 use Rattle.parlog.specs.declared.Process.{Process}
 use Rattle.parlog.specs.declared.Spot.{Spot}
+use Rattle.program_index.specs.Indexed.{Headed}
 use Rattle.rules_match.proofs.There.{equate-there, match-there}
-use Rattle.rules_match.specs.Starts.{Headed}
 
 -- how much of a program there is at a place
 pub record Sized (pr : Program) : Type 0 where

@@ -129,7 +129,7 @@ pub record TrialUsed (pr : Program) (n : ℕ) (z : Spot) : Type 0 where
 -- Tables 3f, 3g: what the rules of a tag read; no and-seq is at the equations of a split clause
 abbrev pub Places : Tag → Program → ℕ → Spot → Type 0
 Places and-par pr n z = GoalUsed pr n z × StageNamed pr z 0
-Places and-seq pr n z = GoalUsed pr n z × StageNamed pr z 1 × (AtSplit pr z → ⊥)
+Places and-seq pr n z = GoalUsed pr n z × (StageNamed pr z 1 × (AtSplit pr z → ⊥))
 Places or-par pr n z = CallUsed pr n z
 Places seq-search pr n z = CallUsed pr n z
 Places or-search pr n z = BlockUsed pr n z
