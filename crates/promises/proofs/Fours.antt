@@ -70,8 +70,8 @@ unfolding member
 four-member pr p z j = four-new _ ready p (literalSpot z j)
 
 four-append : (ys zs : List Process) → FourRows ys → FourRows zs → FourRows (ys ++ zs)
-four-append ys zs four-none b = b
-four-append ys zs (four-first {y} {xs} f a) b = four-first f (four-append xs zs a b)
+four-append [] zs a b = b
+four-append (y ∷ ys) zs (four-first f a) b = four-first f (four-append ys zs a b)
 
 four-beside : (b : Bool) (p : ℕ) (z : Spot) → FourRows (bodyBeside b p z)
 unfolding bodyBeside
