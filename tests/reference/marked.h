@@ -50,5 +50,6 @@ void say_run(const char *name, bool good);
 /* The worked examples of the change requests. */
 void bound_cases(void);
 void saved_cases(void);
+void split_cases(void);
 
 #endif
