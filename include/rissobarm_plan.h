@@ -47,7 +47,9 @@ static inline const char *rissobarm_refusal_text(unsigned refusal)
         "NOVAR: the goal has no such variable",
         "BOUND: its value is a constant already",
         "CONST: the value supplied is over 32,767",
-        "FOREIGN: the saved run is one of an image with another length"
+        "FOREIGN: the saved run is one of an image with another length",
+        "unknown", "unknown",
+        "OLDRULE: the saved run is one of another rule"
     };
 
     return rissobarm_text_of(texts, sizeof texts / sizeof texts[0], refusal);

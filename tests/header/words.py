@@ -33,6 +33,8 @@ def expected():
         'mode': counted(re.search(r'(?m)^\| mode \| (.*?) \|', layout).group(1)),
         'end': counted(re.search(r'bits 8-15 the end \((.*?)\)', readme).group(1)),
     }
+    told = dict(sorts['refusal'])
+    sorts['refusal'] = [(n, told.get(n, 'unknown')) for n in range(max(told) + 1)]  # numbers that no row has are not given
     version = re.search(r'(?m)^#define RISSOBARM_VERSION "(.*)"$', page('include', 'rissobarm.h')).group(1)
     lines = ['version %s' % version, 'version numbers %s' % version]
     for sort, texts in sorts.items():
