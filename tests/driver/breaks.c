@@ -250,11 +250,12 @@ static bool and_seq_beside(struct breaking *b)
 
     if (!row_with_tag(b, RISSOBARM_TAG_AND_SEQ, &process))
         return false;
-    for (tries = 0; tries < 8; tries++)
+    for (tries = 0; tries < 8; tries++) {
         if (!draw_clause(&b->draw, ANY_RELATION, &found))
             return false;
-        else if (b->draw.program->clauses[found.clause].split)
+        if (b->draw.program->clauses[found.clause].split)
             break;
+    }
     waiting = process_row(&b->rows, process)[RISSOBARM_ROW_MODE] == RISSOBARM_MODE_WAITING;
     poke_byte(b, THE_PROCS, field(process, RISSOBARM_ROW_KIND), RISSOBARM_GOAL_BODY);
     poke_byte(b, THE_PROCS, field(process, RISSOBARM_ROW_CLAUSE), found.clause);
@@ -354,9 +355,9 @@ static bool (*const plain[PLAIN_RULES])(struct breaking *) = {
     [KNOWN_RESULT] = unknown_result,      [KNOWN_KIND] = unknown_kind,          [REPORTER_RESULT] = reports_nothing,
     [ROOT_RESULT] = root_without_result,  [ROOT_TAG] = root_tag,                [ROOT_PARENT] = root_parent,
     [ROOT_GOAL] = root_goal,              [LOWER_PARENT] = parent_not_lower,    [MADE_TAG] = parent_of_other_tag,
-    [STAGE_LEFT] = no_stage_left,         [EQUATIONS_ALONE] = and_seq_beside, [KNOWN_SORT] = unknown_sort,          [UNBOUND_NUMBER] = number_of_unbound,
-    [CONSTANT_FITS] = constant_too_high,  [LOWER_VARIABLE] = variable_not_lower, [NOTES_FIT] = many_notes,
-    [NOTES_BELOW] = note_not_below,       [MARKER_BELOW] = marker_out,
+    [STAGE_LEFT] = no_stage_left,         [EQUATIONS_ALONE] = and_seq_beside,   [KNOWN_SORT] = unknown_sort,
+    [UNBOUND_NUMBER] = number_of_unbound, [CONSTANT_FITS] = constant_too_high,  [LOWER_VARIABLE] = variable_not_lower,
+    [NOTES_FIT] = many_notes,             [NOTES_BELOW] = note_not_below,       [MARKER_BELOW] = marker_out,
 };
 
 bool row_with_tag(struct breaking *b, unsigned tag, unsigned *process)

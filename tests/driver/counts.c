@@ -185,7 +185,8 @@ static bool tell_lists(void)
 /* What became of damaged saved runs: each of their refusals. */
 static bool tell_resumed(void)
 {
-    static const uint8_t expected[] = { RISSOBARM_CUT, RISSOBARM_KIND, RISSOBARM_BODY, RISSOBARM_OLDRULE, RISSOBARM_FOREIGN, RISSOBARM_STATE };
+    static const uint8_t expected[] = { RISSOBARM_CUT,     RISSOBARM_KIND,    RISSOBARM_BODY,
+                                        RISSOBARM_OLDRULE, RISSOBARM_FOREIGN, RISSOBARM_STATE };
     bool enough = true;
     unsigned k;
 

@@ -305,7 +305,7 @@ static void put_staged(struct image *image, struct random *random, unsigned rela
     record_end(image);
 }
 
-/* outer calls inner in its guard; inner has outputs and stages, which call done, mostly a fact, and told, which is split or a fact. */
+/* outer calls inner in its guard; inner has outputs and stages, which call done, mostly a fact, and told, which has stages too. */
 void plan_of_splits(struct image *image, struct random *random)
 {
     unsigned arity = 1 + random_below(random, RISSOBARM_ARITY_LIMIT), all = (1u << arity) - 1, told = random_below(random, 2);

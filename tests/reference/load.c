@@ -164,7 +164,7 @@ static void number_outputs(const struct relation *relation, struct clause *claus
     }
 }
 
-/* Puts one equation per output argument before the first stage's literals; a body of several stages makes room for them. */
+/* Puts one equation per output argument before the first stage's literals; beside several stages they are one by themselves. */
 static void commit_body(const struct relation *relation, struct clause *clause)
 {
     struct goal *body = &clause->body;

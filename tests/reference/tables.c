@@ -249,7 +249,7 @@ static bool call_exists(const struct program *p, const struct tables *t, const s
     return literal_exists(p, t, place) && ref_literal_at(p, place)->relation != EQUALITY;
 }
 
-/* Equations beside a body are for and-par and equate alone; they are no calls, so that here is what may not go through them. */
+/* Equations beside a body are for and-par and equate alone: none of them is a call, and no and-seq goes through them. */
 static bool and_seq_keeps(const struct program *p, const struct tables *t, const struct process *me)
 {
     if (!goal_exists(p, t, &me->place) || ref_split_at(p, &me->place))
