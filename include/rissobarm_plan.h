@@ -200,11 +200,28 @@ static inline uint64_t rissobarm_plan_step_traced(struct rissobarm_plan *plan, u
     return rissobarm_step_traced(RISSOBARM_PLAN_LENT(plan), trace, trace_len, process, stamp);
 }
 
-/* Makes turns as rissobarm_run does, as many as trace has room for at most, and writes the record of each. */
+/* Makes turns as rissobarm_plan_run does, as many as trace has room for at most, and writes the record of each. */
 static inline uint64_t rissobarm_plan_run_traced(struct rissobarm_plan *plan, uint8_t *trace, size_t trace_len,
-                                                 uint16_t limit, uint16_t stamp)
+                                                 uint32_t limit, uint16_t stamp)
 {
-    return rissobarm_run_traced(RISSOBARM_PLAN_LENT(plan), trace, trace_len, limit, stamp);
+    uint32_t made = 0;
+    uint64_t answer;
+
+    if (trace_len / RISSOBARM_TRACE_RECORD_SIZE < limit)
+        limit = (uint32_t)(trace_len / RISSOBARM_TRACE_RECORD_SIZE);
+    do {
+        uint32_t slice = limit - made;
+        size_t written = (size_t)made * RISSOBARM_TRACE_RECORD_SIZE;
+
+        if (slice > RISSOBARM_RUN_LIMIT)
+            slice = RISSOBARM_RUN_LIMIT;
+        answer = rissobarm_run_traced(RISSOBARM_PLAN_LENT(plan), trace + written, trace_len - written, (uint16_t)slice,
+                                      (uint16_t)(stamp + made));
+        if (rissobarm_refusal(answer) != RISSOBARM_ACCEPTED)
+            return answer;
+        made += rissobarm_steps(answer);
+    } while (rissobarm_end(answer) == RISSOBARM_END_BUDGET && made < limit);
+    return (answer & UINT32_MAX) | (uint64_t)made << 32;
 }
 
 /* Plays a trace again. */

@@ -210,6 +210,24 @@ static void try_limit(uint32_t limit, uint16_t first, uint16_t second)
     hold("long: the steps in the head", rissobarm_plan_steps(&run) == limit);
 }
 
+/* The whole long run with its trace, played again; and one that ends with its row. The rows at the end are those of other. */
+static void try_long_trace(uint32_t all)
+{
+    static uint8_t trace[2 * LARGE_LIMIT * RISSOBARM_TRACE_RECORD_SIZE];
+    const size_t record = RISSOBARM_TRACE_RECORD_SIZE;
+    const uint16_t stamp = 65000;
+
+    longrun_fill(&run);
+    hold("long: traced", ran(rissobarm_plan_run_traced(&run, trace, sizeof trace, UINT32_MAX, stamp), RISSOBARM_END_SUCCESS, all));
+    hold("long: traced, the same bytes", same_rows());
+    hold("long: the last stamp", rissobarm_word_at(trace + all * record - 2) == (uint16_t)(stamp + all - 1));
+    longrun_fill(&run);
+    hold("long: played again", rissobarm_played(rissobarm_plan_replay(&run, trace, all * record)) == all && same_rows());
+    longrun_fill(&run);
+    hold("long: no more than the row holds",
+         ran(rissobarm_plan_run_traced(&run, trace, LARGE_LIMIT * record + 9, UINT32_MAX, stamp), RISSOBARM_END_BUDGET, LARGE_LIMIT));
+}
+
 static void try_long(void)
 {
     uint32_t all = run_by_slices(&other);
@@ -223,11 +241,12 @@ static void try_long(void)
     longrun_fill(&run);
     hold("long: one step less", ran(rissobarm_plan_run(&run, all - 1), RISSOBARM_END_BUDGET, all - 1));
     hold("long: the last step", ran(rissobarm_plan_run(&run, 1), RISSOBARM_END_SUCCESS, 1));
+    try_long_trace(all);
     try_limit(0, 0, 0);
     try_limit(RISSOBARM_RUN_LIMIT, RISSOBARM_RUN_LIMIT, 0);
     try_limit(RISSOBARM_RUN_LIMIT + 1, RISSOBARM_RUN_LIMIT, 1);
     try_limit(LARGE_LIMIT, LARGE_LIMIT / 2, LARGE_LIMIT / 2);
-    printf("plan: a run of %u steps, over %d, cut at five limits\n", (unsigned)all, RISSOBARM_RUN_LIMIT);
+    printf("plan: a run of %u steps, over %d, cut at five limits, and traced\n", (unsigned)all, RISSOBARM_RUN_LIMIT);
 }
 
 int main(void)
