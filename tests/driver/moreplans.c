@@ -308,7 +308,8 @@ static void put_staged(struct image *image, struct random *random, unsigned rela
 /* outer calls inner in its guard; inner has outputs and stages, which call done, mostly a fact, and told, which has stages too. */
 void plan_of_splits(struct image *image, struct random *random)
 {
-    unsigned arity = 1 + random_below(random, RISSOBARM_ARITY_LIMIT), all = (1u << arity) - 1, told = random_below(random, 2);
+    unsigned arity = 1 + random_below(random, RISSOBARM_ARITY_LIMIT), all = (1u << arity) - 1;
+    unsigned told = random_below(random, 2), equation = random_below(random, 2);
 
     begin(image);
     put_modes(image, arity, random_once(random, 8) ? random_below(random, 16) : 0);
@@ -326,8 +327,10 @@ void plan_of_splits(struct image *image, struct random *random)
     }
     put_staged(image, random, TOLD, 0);
     record_begin(image, RISSOBARM_RECORD_GOAL);
-    put_byte(image, arity);
-    put_number(image, 1 + 256);
+    put_byte(image, arity + 1);
+    put_number(image, 1 + 256 * (1 + equation));
+    if (equation)
+        put_call(image, RISSOBARM_EQUALITY, variable_term(arity), random_below(random, 2));
     put_own_call(image, OUTER, arity);
     record_end(image);
 }
