@@ -132,6 +132,25 @@ def growth_table(found):
                       for rows in sorted({key[2] for key in keys})])
 
 
+GROWTH = 1.3  # most that a call less a load may take in the longest image, in times of the shortest
+
+
+def grown(found):
+    """For each number of rows the lines of the longest image of a call less a load; none where it was not measured."""
+    keys = [key for key, _ in chosen(found, "call less a load")]
+    longest = max((key[3] for key in keys), default=0)
+    return [(key[2], found[key]) for key in keys if key[3] == longest]
+
+
+def grown_table(found):
+    """How a call less a load grows with the image."""
+    sizes = sorted({key[3] for key, _ in chosen(found, "call less a load")})
+    if sizes:
+        yield from table("A call without a step less a load: its time with %s bytes over that with %s" % (number(sizes[-1]), number(sizes[0])),
+                         ["Rows", "Archive", "Plain C"],
+                         [[str(rows), spread(lines, "archive"), spread(lines, "plain")] for rows, lines in grown(found)])
+
+
 def tables(found):
     yield "Of %d runs: the median, in brackets the least and the greatest." % max(map(len, found.values()))
     yield ""
@@ -144,6 +163,7 @@ def tables(found):
     yield from grid_table(found, "call without a step", "A call without a step, by rows in use and image size")
     yield from grid_table(found, "supply", "A supply, by rows in use and image size")
     yield from growth_table(found)
+    yield from grown_table(found)
     yield from report_table(found)
 
 
@@ -201,8 +221,11 @@ def over(found, what):
 
 def missed(found):
     """What is over its target."""
-    yield from table("", ["What", "Target", "Over it"],
-                     [[what, target_text(what), "; ".join(over(found, what)) or "none"] for what in targets(found)])
+    rows = [[what, target_text(what), "; ".join(over(found, what)) or "none"] for what in targets(found)]
+    if grown(found):
+        far = ["%.2f (%d rows)" % (middle(lines, "archive"), used) for used, lines in grown(found) if middle(lines, "archive") > GROWTH]
+        rows.append(["call less a load, longest image over shortest", "%.1f" % GROWTH, "; ".join(far) or "none"])
+    yield from table("", ["What", "Target", "Over it"], rows)
 
 
 def set_into(page, blocks):

@@ -234,11 +234,38 @@ pub fn load_indexed(image: &[u8], ix: &mut [u16; program_index::SIZE]) -> Loaded
     records(image, ix)
 }
 
-// The same for who needs no index: it is the same pass.
+// The number by which the first record is refused; 0 where it is not, or the image has none or is too long.
+fn first_refusal(s: &[u8]) -> u8
+    ensures { λ r. ⌜ ((r ≡ 0 → ⊥) → loadOf (now (s .entry)) ≡ Refused (refusal r 0)) × (r ≤ 7) ⌝ }
+{
+    if basics::or(s.len() == 0, codes::MOST_BYTES < s.len()) {
+        return 0;
+    }
+    let arities = [0; codes::ARITIES];
+    let g = Progress {
+        relations: 0,
+        clauses: 0,
+        kind: 0,
+        relation: 0,
+        block: 0,
+    };
+    let t = test_record(s, &arities, g, 0);
+    let v = t.verdict;
+    match v {
+        Verdict::Refuses(number) => number,
+        Verdict::Goes(_) => 0,
+    }
+}
+
+// The same for who needs no index: it is the same pass, but that no row is set up for it where the first record is refused.
 pub fn load(image: &[u8]) -> Loaded
     ensures { λ r. ⌜ r ≡ loadOf (now (image .entry)) ⌝ }
     ensures { λ r. ⌜ Bounded (length (now (image .entry))) r ⌝ }
 {
+    let number = first_refusal(image);
+    if number != 0 {
+        return refused(number, 0);
+    }
     let mut ix = [0u16; program_index::SIZE];
     load_indexed(image, &mut ix)
 }

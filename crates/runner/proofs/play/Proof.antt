@@ -1,3 +1,5 @@
+use mathlib.Core.Path.{_∙_}
+use Rattle.entry.proofs.Entering.{indexed-of}
 use native.Mathlib.Omega.{arith}
 use Rattle.runner.proofs.Telling.{lines-fit, never-unrun, told-run}
 use Rattle.runner.proofs.Playing.{plays}
@@ -12,8 +14,10 @@ unfolding small
 play-spec =
     tie.close
     (tie.spec
-    (λ c κs. (c .before .before .before .before .before .before .pre .0, search needs))
     (λ c κs. search needs)
+    (λ c κs. let p = c .before .before .before .before .before .before .before .before .pre in
+    let l = c .before .load-indexed .ensures in
+    (p .1, p .2, indexed-of _ _ (l .1 .1) (l .0 ∙ p .0)))
     (λ c κs. search needs)
     (λ c κs. search needs)
     (λ c. search needs)
