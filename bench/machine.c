@@ -26,6 +26,7 @@ struct clause {
     struct goal sides[2]; /* guard, body */
     uint16_t head;        /* its terms */
     uint8_t relation, own, size, outputs, block;
+    uint8_t split; /* whether the output equations stand beside the whole body */
 };
 
 struct relation {
@@ -131,6 +132,7 @@ static void index_clause(struct run *r, const uint8_t *at)
     clause->head = (uint16_t)(at + 4 - r->image);
     at = index_goal(r, at + 4 + 2 * at[1], &clause->sides[0]);
     index_goal(r, at, &clause->sides[1]);
+    clause->split = clause->outputs > 0 && clause->sides[1].stages > 1;
 }
 
 static void index_image(struct run *r, const uint8_t *image, size_t length)
@@ -153,9 +155,16 @@ static void index_image(struct run *r, const uint8_t *image, size_t length)
 
 /* ---- goals and literals of rows ---- */
 
+/* A body is that of the image, committed or not. */
 static inline const struct goal *goal_of(const struct run *r, unsigned kind, unsigned clause)
 {
-    return kind == RISSOBARM_GOAL_IMAGE ? &r->goal : &r->clause[clause].sides[kind - 1];
+    return kind == RISSOBARM_GOAL_IMAGE ? &r->goal : &r->clause[clause].sides[kind != RISSOBARM_GOAL_GUARD];
+}
+
+/* Whether a goal is the equations beside the whole body of their clause. */
+static inline int beside_body(const struct run *r, unsigned kind, unsigned clause)
+{
+    return kind == RISSOBARM_GOAL_BODY && r->clause[clause].split;
 }
 
 /* Equations that a goal has before the literals of its first stage. */
@@ -168,7 +177,7 @@ static unsigned stage_count(const struct run *r, unsigned kind, unsigned clause)
 {
     unsigned stages = goal_of(r, kind, clause)->stages;
 
-    return stages == 0 && outputs_of(r, kind, clause) > 0 ? 1 : stages;
+    return (stages == 0 && outputs_of(r, kind, clause) > 0) || beside_body(r, kind, clause) ? 1 : stages;
 }
 
 static unsigned stage_size(const struct run *r, unsigned kind, unsigned clause, unsigned stage)
@@ -176,7 +185,7 @@ static unsigned stage_size(const struct run *r, unsigned kind, unsigned clause, 
     const struct goal *goal = goal_of(r, kind, clause);
     unsigned size = stage == 0 ? outputs_of(r, kind, clause) : 0;
 
-    if (stage < goal->stages)
+    if (stage < goal->stages && !beside_body(r, kind, clause))
         size += (unsigned)(goal->start[stage + 1] - goal->start[stage]);
     return size;
 }
@@ -244,8 +253,11 @@ static unsigned stage_tag(const struct run *r, unsigned kind, unsigned clause, u
     return relation_at(r, kind, clause, stage, 0) == RISSOBARM_EQUALITY ? RISSOBARM_TAG_EQUATE : RISSOBARM_TAG_OR_PAR;
 }
 
+/* Equations beside a body are an and-par, be it one alone. */
 static unsigned goal_tag(const struct run *r, unsigned kind, unsigned clause)
 {
+    if (beside_body(r, kind, clause))
+        return RISSOBARM_TAG_AND_PAR;
     return stage_count(r, kind, clause) == 1 ? stage_tag(r, kind, clause, 0) : RISSOBARM_TAG_AND_SEQ;
 }
 
@@ -277,7 +289,7 @@ enum {
 
 /* For each tag the tags that its rules make. */
 static const uint16_t makes[RISSOBARM_TAG_COUNT] = {
-    [RISSOBARM_TAG_AND_PAR] = LITERALS,
+    [RISSOBARM_TAG_AND_PAR] = LITERALS | 1 << RISSOBARM_TAG_AND_SEQ,
     [RISSOBARM_TAG_AND_SEQ] = STAGES,
     [RISSOBARM_TAG_OR_PAR] = GOALS | 1 << RISSOBARM_TAG_SEQ_SEARCH,
     [RISSOBARM_TAG_SEQ_SEARCH] = 1 << RISSOBARM_TAG_OR_SEARCH,
@@ -330,7 +342,7 @@ static int places_good(const struct run *r, const uint8_t *me)
         return goal_good(r, me) &&
                me[RISSOBARM_ROW_STAGE] < stage_count(r, me[RISSOBARM_ROW_KIND], me[RISSOBARM_ROW_CLAUSE]);
     case RISSOBARM_TAG_AND_SEQ:
-        return goal_good(r, me) &&
+        return goal_good(r, me) && !beside_body(r, me[RISSOBARM_ROW_KIND], me[RISSOBARM_ROW_CLAUSE]) &&
                me[RISSOBARM_ROW_STAGE] + (me[RISSOBARM_ROW_MODE] == RISSOBARM_MODE_WAITING) <=
                    (int)stage_count(r, me[RISSOBARM_ROW_KIND], me[RISSOBARM_ROW_CLAUSE]);
     case RISSOBARM_TAG_OR_PAR:
@@ -591,12 +603,23 @@ static int report(struct run *r, unsigned process, unsigned result)
     return 1;
 }
 
+/* An and-seq for the whole body, beside its equations. */
+static void add_body(struct run *r, unsigned parent, const uint8_t *equations)
+{
+    uint8_t *child = add(r, parent, RISSOBARM_TAG_AND_SEQ, RISSOBARM_MODE_READY);
+
+    copy_call(child, equations);
+    child[RISSOBARM_ROW_KIND] = RISSOBARM_GOAL_WRITTEN;
+    child[RISSOBARM_ROW_STAGE] = child[RISSOBARM_ROW_LITERAL] = 0;
+}
+
 static int start_and_par(struct run *r, unsigned process)
 {
     uint8_t *me = row(r, process);
     unsigned size = stage_size(r, me[RISSOBARM_ROW_KIND], me[RISSOBARM_ROW_CLAUSE], me[RISSOBARM_ROW_STAGE]), k;
+    unsigned beside = (unsigned)beside_body(r, me[RISSOBARM_ROW_KIND], me[RISSOBARM_ROW_CLAUSE]);
 
-    if (!room(r, size, 0))
+    if (!room(r, size + beside, 0))
         return 0;
     for (k = 0; k < size; k++) {
         unsigned relation =
@@ -607,6 +630,8 @@ static int start_and_par(struct run *r, unsigned process)
         copy_call(child, me);
         child[RISSOBARM_ROW_LITERAL] = (uint8_t)k;
     }
+    if (beside)
+        add_body(r, process, me);
     me[RISSOBARM_ROW_MODE] = RISSOBARM_MODE_WAITING;
     return 1;
 }

@@ -31,9 +31,10 @@ struct goal {
 };
 
 struct clause {
-    struct goal sides[2]; /* guard, committed body */
+    struct goal sides[3]; /* guard, committed body, body as written */
     uint16_t head;        /* its terms */
     uint8_t relation, own, size, outputs, block;
+    uint8_t split;        /* whether the output equations stand beside the whole body */
 };
 
 struct relation {
@@ -117,6 +118,22 @@ static const uint8_t *index_goal(struct run *r, const uint8_t *at, struct goal *
     return at;
 }
 
+/* A body behind its output equations; as written it has its literals at the same places, and of several stages it is apart from them. */
+static void index_body(struct run *r, const uint8_t *at, struct clause *clause)
+{
+    struct goal *committed = &clause->sides[1], *written = &clause->sides[2];
+
+    index_goal(r, at, committed, clause->outputs);
+    *written = *committed;
+    written->stages = at[0];
+    written->start[0] = clause->outputs;
+    clause->split = clause->outputs > 0 && written->stages > 1;
+    if (clause->split) {
+        committed->stages = 1;
+        committed->start[1] = clause->outputs;
+    }
+}
+
 static void index_relation(struct run *r, const uint8_t *at)
 {
     struct relation *relation = &r->relation[r->relations++];
@@ -145,7 +162,7 @@ static void index_clause(struct run *r, const uint8_t *at)
     relation->first[relation->blocks] = (uint8_t)++r->clauses;
     clause->head = (uint16_t)(at + 4 - r->image);
     at = index_goal(r, at + 4 + 2 * at[1], &clause->sides[0], 0);
-    index_goal(r, at, &clause->sides[1], clause->outputs);
+    index_body(r, at, clause);
 }
 
 static void index_image(struct run *r, const uint8_t *image, size_t length)
@@ -176,6 +193,12 @@ static inline const struct goal *goal_at(const struct run *r, unsigned kind, uns
 static inline const struct goal *goal_of(const struct run *r, const uint8_t *me)
 {
     return goal_at(r, me[RISSOBARM_ROW_KIND], me[RISSOBARM_ROW_CLAUSE]);
+}
+
+/* Whether a row names the equations beside the whole body of their clause. */
+static inline int beside_body(const struct run *r, const uint8_t *me)
+{
+    return me[RISSOBARM_ROW_KIND] == RISSOBARM_GOAL_BODY && r->clause[me[RISSOBARM_ROW_CLAUSE]].split;
 }
 
 static inline unsigned stage_size(const struct goal *goal, unsigned stage)
@@ -272,7 +295,7 @@ enum {
 
 /* For each tag the tags that its rules make. */
 static const uint16_t makes[RISSOBARM_TAG_COUNT] = {
-    [RISSOBARM_TAG_AND_PAR] = LITERALS,
+    [RISSOBARM_TAG_AND_PAR] = LITERALS | 1 << RISSOBARM_TAG_AND_SEQ,
     [RISSOBARM_TAG_AND_SEQ] = STAGES,
     [RISSOBARM_TAG_OR_PAR] = GOALS | 1 << RISSOBARM_TAG_SEQ_SEARCH,
     [RISSOBARM_TAG_SEQ_SEARCH] = 1 << RISSOBARM_TAG_OR_SEARCH,
@@ -333,8 +356,8 @@ static int places_good(const struct run *r, const uint8_t *me)
     case RISSOBARM_TAG_AND_PAR:
         return goal_good(r, me) && me[RISSOBARM_ROW_STAGE] < goal_of(r, me)->stages;
     case RISSOBARM_TAG_AND_SEQ:
-        return goal_good(r, me) && me[RISSOBARM_ROW_STAGE] + (me[RISSOBARM_ROW_MODE] == RISSOBARM_MODE_WAITING) <=
-                                       goal_of(r, me)->stages;
+        return goal_good(r, me) && !beside_body(r, me) &&
+               me[RISSOBARM_ROW_STAGE] + (me[RISSOBARM_ROW_MODE] == RISSOBARM_MODE_WAITING) <= goal_of(r, me)->stages;
     case RISSOBARM_TAG_OR_PAR:
         return relation_named(r, me) < RISSOBARM_EQUALITY;
     case RISSOBARM_TAG_SEQ_SEARCH:
@@ -679,20 +702,32 @@ static int report(struct run *r, unsigned process, unsigned result)
     return 1;
 }
 
+/* An and-seq for the whole body, beside its equations. */
+static void add_body(struct run *r, unsigned parent, const uint8_t *equations)
+{
+    uint8_t *child = add(r, parent, RISSOBARM_TAG_AND_SEQ, RISSOBARM_MODE_READY);
+
+    copy_call(child, equations);
+    child[RISSOBARM_ROW_KIND] = RISSOBARM_GOAL_WRITTEN;
+    child[RISSOBARM_ROW_STAGE] = child[RISSOBARM_ROW_LITERAL] = 0;
+}
+
 static int start_and_par(struct run *r, unsigned process)
 {
     uint8_t *me = row(r, process), *child;
     const struct goal *goal = goal_of(r, me);
     const uint8_t *relation = goal->relation + goal->start[me[RISSOBARM_ROW_STAGE]];
-    unsigned size = stage_size(goal, me[RISSOBARM_ROW_STAGE]), k;
+    unsigned size = stage_size(goal, me[RISSOBARM_ROW_STAGE]), beside = (unsigned)beside_body(r, me), k;
 
-    if (!room(r, size, 0))
+    if (!room(r, size + beside, 0))
         return 0;
     for (k = 0; k < size; k++) {
         child = add(r, process, literal_tag(relation[k]), RISSOBARM_MODE_READY);
         copy_call(child, me);
         child[RISSOBARM_ROW_LITERAL] = (uint8_t)k;
     }
+    if (beside)
+        add_body(r, process, me);
     me[RISSOBARM_ROW_MODE] = RISSOBARM_MODE_WAITING;
     return 1;
 }
@@ -777,10 +812,12 @@ static int start_try_clause(struct run *r, unsigned process)
     return 1;
 }
 
-/* A starting child for a guard or a committed body. */
+/* A starting child for a guard or a committed body; equations beside a body are an and-par, be it one alone. */
 static void add_goal(struct run *r, unsigned parent, unsigned kind, unsigned clause, unsigned first)
 {
-    uint8_t *child = add(r, parent, goal_tag(goal_at(r, kind, clause)), RISSOBARM_MODE_STARTING);
+    int beside = kind == RISSOBARM_GOAL_BODY && r->clause[clause].split;
+    unsigned tag = beside ? (unsigned)RISSOBARM_TAG_AND_PAR : goal_tag(goal_at(r, kind, clause));
+    uint8_t *child = add(r, parent, tag, RISSOBARM_MODE_STARTING);
 
     child[RISSOBARM_ROW_KIND] = (uint8_t)kind;
     child[RISSOBARM_ROW_CLAUSE] = (uint8_t)clause;

@@ -91,13 +91,16 @@ static void damage(struct random *random, uint8_t *bytes, unsigned first, unsign
     bytes[random_below(random, first)] = byte;
 }
 
-/* Damages a byte of the first rows, every other time a mode, so that many tables stay within the rules. */
+/* Damages a byte of the first rows, every other time a mode, so that many tables stay within the rules, or a kind of goal. */
 static void damage_row(struct random *random, unsigned rows)
 {
     uint8_t mode = (uint8_t)random_below(random, RISSOBARM_MODE_COUNT);
+    uint8_t kind = (uint8_t)random_below(random, RISSOBARM_GOAL_COUNT + 1);
 
     if (random_once(random, 2))
         damage(random, ours.procs, RISSOBARM_PROCESS_ROW * rows, RISSOBARM_TAG_COUNT);
+    else if (random_once(random, 4))
+        ours.procs[RISSOBARM_PROCESS_ROW * random_below(random, rows) + RISSOBARM_ROW_KIND] = kind;
     else
         ours.procs[RISSOBARM_PROCESS_ROW * random_below(random, rows) + RISSOBARM_ROW_MODE] = mode;
 }

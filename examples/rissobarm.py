@@ -5,8 +5,8 @@ import struct
 LIMIT = 65535  # of one run call
 ENDS = {1: 'success', 2: 'failure', 3: 'waiting', 4: 'room', 5: 'budget'}
 ROWS = (10, 12288, 4096)  # bytes of head, processes and variables
-VALUES, BOUND, SAVED = 64, 10, 22544  # bytes for the values of all goal variables, a list of variables bound, a saved run
-LIBRARY = ctypes.CDLL('librissobarm.so.0')
+VALUES, BOUND, SAVED = 64, 10, 22546  # bytes for the values of all goal variables, a list of variables bound, a saved run
+LIBRARY = ctypes.CDLL('librissobarm.so.1')
 
 
 class Refused(Exception):

@@ -32,9 +32,9 @@ extern "C" {
 /* ---- version ---- */
 
 /* The major number is that of the shared library's name too; it goes up when the size of a row or the answer of a call changes. */
-#define RISSOBARM_VERSION "0.1"
-#define RISSOBARM_VERSION_MAJOR 0
-#define RISSOBARM_VERSION_MINOR 1
+#define RISSOBARM_VERSION "1.0"
+#define RISSOBARM_VERSION_MAJOR 1
+#define RISSOBARM_VERSION_MINOR 0
 
 /* ---- sizes and limits ---- */
 
@@ -76,7 +76,7 @@ enum {
 enum {
     RISSOBARM_VALUES_SIZE = RISSOBARM_OWN_LIMIT * RISSOBARM_VARIABLE_ROW, /* of rissobarm_values */
     RISSOBARM_BOUND_SIZE = 2 + 2 * RISSOBARM_ARITY_LIMIT,                 /* of a list of variables bound */
-    RISSOBARM_SAVED_SIZE = 22544                                          /* of a saved run */
+    RISSOBARM_SAVED_SIZE = 22546                                          /* of a saved run */
 };
 
 /* ---- images, saved runs and traces ---- */
@@ -90,13 +90,16 @@ enum {
 
 /* Kinds of the records of a saved run, and the bytes of one of each. */
 enum {
-    RISSOBARM_RECORD_RUN = 16, /* the head's ten bytes, then the image's length in two */
+    RISSOBARM_RECORD_RUN = 16, /* the head's ten bytes, then the image's length and the rule number in two each */
     RISSOBARM_RECORD_PROCESS = 17,
     RISSOBARM_RECORD_VARIABLE = 18,
-    RISSOBARM_RUN_RECORD_SIZE = RISSOBARM_RECORD_HEAD + RISSOBARM_HEAD_SIZE + 2,
+    RISSOBARM_RUN_RECORD_SIZE = RISSOBARM_RECORD_HEAD + RISSOBARM_HEAD_SIZE + 4,
     RISSOBARM_PROCESS_RECORD_SIZE = RISSOBARM_RECORD_HEAD + RISSOBARM_PROCESS_ROW,
     RISSOBARM_VARIABLE_RECORD_SIZE = RISSOBARM_RECORD_HEAD + RISSOBARM_VARIABLE_ROW
 };
+
+/* The rule number of a run that is saved now; it goes up when runs go on in another way, and a run of another one is refused 18. */
+enum { RISSOBARM_SAVED_RULE = 2 };
 
 /* Kinds of the records of a trace, which have ten bytes, and where their fields stand, two bytes each. */
 enum {
@@ -181,10 +184,11 @@ enum {
 
 /* Goal kinds. */
 enum {
-    RISSOBARM_GOAL_IMAGE = 0, /* the image's goal */
-    RISSOBARM_GOAL_GUARD = 1, /* the guard of the clause */
-    RISSOBARM_GOAL_BODY = 2,  /* the committed body of the clause */
-    RISSOBARM_GOAL_COUNT = 3
+    RISSOBARM_GOAL_IMAGE = 0,   /* the image's goal */
+    RISSOBARM_GOAL_GUARD = 1,   /* the guard of the clause */
+    RISSOBARM_GOAL_BODY = 2,    /* the committed body of the clause; its output equations alone, where the body has several stages */
+    RISSOBARM_GOAL_WRITTEN = 3, /* the body as it is written */
+    RISSOBARM_GOAL_COUNT = 4
 };
 
 /* ---- variable rows ---- */
@@ -222,9 +226,10 @@ enum {
     RISSOBARM_BOUND = 13,   /* the value of that variable is a constant already */
     RISSOBARM_CONST = 14,   /* the value supplied is above RISSOBARM_CONSTANT_LIMIT */
     RISSOBARM_FOREIGN = 15, /* the saved run is one of an image with another length */
+    RISSOBARM_OLDRULE = 18, /* the saved run is one of another rule */
     RISSOBARM_GAP = 19,     /* a record's stamp does not follow that of the record before */
     RISSOBARM_DISAGREES = 20, /* what a record of a trace tells cannot be done, or is another rule */
-    RISSOBARM_REFUSAL_COUNT = 20 /* the highest; 16 to 18 are not given */
+    RISSOBARM_REFUSAL_COUNT = 20 /* the highest; 16 and 17 are not given */
 };
 
 /* ---- rules: what a step did ---- */
@@ -485,8 +490,9 @@ static inline uint32_t rissobarm_saved(uint64_t answer)
  * Takes a saved run up again: fills all three rows, whatever they held, with zeros where rows are not in use, so that the run
  * goes on with its image as if it had never stopped. Saved is the whole file and nothing behind it. Accepted: 0. Refused: 1 to
  * 7 for the image; then for the saved run by record 2; 3, also where the first record is not the only RISSOBARM_RECORD_RUN, or
- * there is none; 4, for a length that is not the kind's; then 15 when it says another image length; then 8, also for counts
- * that are not those of the records.
+ * there is none; 4, for a length that is not the kind's; of the first record 18, in place of 4 where it has no rule number, as it
+ * once was, and next where that is another one than RISSOBARM_SAVED_RULE; then, behind all records, 15 when it says another
+ * image length; then 8, also for counts that are not those of the records.
  */
 uint64_t rissobarm_resume(const uint8_t *image, size_t image_len, uint8_t *head, size_t head_len,
                           uint8_t *procs, size_t procs_len, uint8_t *vars, size_t vars_len,

@@ -240,6 +240,30 @@ static bool no_stage_left(struct breaking *b)
     return true;
 }
 
+/* ---- equations beside a body */
+
+/* As the former rule had it: an and-seq in the committed body of a clause that is split now. */
+static bool and_seq_beside(struct breaking *b)
+{
+    unsigned process, waiting, tries;
+    struct found found;
+
+    if (!row_with_tag(b, RISSOBARM_TAG_AND_SEQ, &process))
+        return false;
+    for (tries = 0; tries < 8; tries++) {
+        if (!draw_clause(&b->draw, ANY_RELATION, &found))
+            return false;
+        if (b->draw.program->clauses[found.clause].split)
+            break;
+    }
+    waiting = process_row(&b->rows, process)[RISSOBARM_ROW_MODE] == RISSOBARM_MODE_WAITING;
+    poke_byte(b, THE_PROCS, field(process, RISSOBARM_ROW_KIND), RISSOBARM_GOAL_BODY);
+    poke_byte(b, THE_PROCS, field(process, RISSOBARM_ROW_CLAUSE), found.clause);
+    poke_word(b, THE_PROCS, field(process, RISSOBARM_ROW_BASE), found.first);
+    poke_byte(b, THE_PROCS, field(process, RISSOBARM_ROW_STAGE), below(b, 2 - waiting));
+    return true;
+}
+
 /* ---- variables */
 
 static bool poke_variable(struct breaking *b, unsigned variable, unsigned sort, uint32_t number)
@@ -331,9 +355,9 @@ static bool (*const plain[PLAIN_RULES])(struct breaking *) = {
     [KNOWN_RESULT] = unknown_result,      [KNOWN_KIND] = unknown_kind,          [REPORTER_RESULT] = reports_nothing,
     [ROOT_RESULT] = root_without_result,  [ROOT_TAG] = root_tag,                [ROOT_PARENT] = root_parent,
     [ROOT_GOAL] = root_goal,              [LOWER_PARENT] = parent_not_lower,    [MADE_TAG] = parent_of_other_tag,
-    [STAGE_LEFT] = no_stage_left,         [KNOWN_SORT] = unknown_sort,          [UNBOUND_NUMBER] = number_of_unbound,
-    [CONSTANT_FITS] = constant_too_high,  [LOWER_VARIABLE] = variable_not_lower, [NOTES_FIT] = many_notes,
-    [NOTES_BELOW] = note_not_below,       [MARKER_BELOW] = marker_out,
+    [STAGE_LEFT] = no_stage_left,         [EQUATIONS_ALONE] = and_seq_beside,   [KNOWN_SORT] = unknown_sort,
+    [UNBOUND_NUMBER] = number_of_unbound, [CONSTANT_FITS] = constant_too_high,  [LOWER_VARIABLE] = variable_not_lower,
+    [NOTES_FIT] = many_notes,             [NOTES_BELOW] = note_not_below,       [MARKER_BELOW] = marker_out,
 };
 
 bool row_with_tag(struct breaking *b, unsigned tag, unsigned *process)

@@ -58,6 +58,29 @@ static void seen_pair(const struct rows *rows)
     }
 }
 
+/* Whether the rows changed name a body as written, or equations beside a body, before the change or after it. */
+static void seen_kinds(const struct program *program, const struct breaking *breaking, const struct rows *before)
+{
+    bool written = false, beside = false;
+    unsigned k;
+
+    for (k = 0; k < breaking->count; k++) {
+        unsigned process = breaking->pokes[k].a / RISSOBARM_PROCESS_ROW, side;
+
+        for (side = 0; side < 2 && breaking->pokes[k].row == THE_PROCS; side++) {
+            const uint8_t *row = process_row(side == 0 ? before : &breaking->rows, process);
+            struct place place = { row[RISSOBARM_ROW_KIND], row[RISSOBARM_ROW_CLAUSE], 0, 0, 0 };
+
+            if (row[RISSOBARM_ROW_TAG] == RISSOBARM_TAG_GUARD_EVAL || place.clause >= program->clause_count)
+                continue;
+            written |= place.kind == RISSOBARM_GOAL_WRITTEN;
+            beside |= beside_body_at(program, &place);
+        }
+    }
+    counts.features[BROKEN_WRITTEN] += written;
+    counts.features[BROKEN_BESIDE] += beside;
+}
+
 /* Breaks the rule where that can be done alone: refused; mended: let in again. */
 static bool break_rule(struct journey *journey, unsigned rule)
 {
@@ -71,6 +94,7 @@ static bool break_rule(struct journey *journey, unsigned rule)
         return true;
     if (rule == MADE_TAG)
         seen_pair(&breaking.rows);
+    seen_kinds(&bed->program, &breaking, &bed->ours);
     for (k = 0; k < breaking.count; k++)
         if (!go_row(journey, POKES, breaking.pokes[k].row, breaking.pokes[k].a, breaking.pokes[k].b))
             return false;

@@ -50,6 +50,7 @@ static const char *const refusals[RISSOBARM_REFUSAL_COUNT + 1] = {
     [RISSOBARM_NAME] = "NAME", [RISSOBARM_MANY] = "MANY", [RISSOBARM_NOGOAL] = "NOGOAL", [RISSOBARM_STATE] = "STATE",
     [RISSOBARM_NODE] = "NODE", [RISSOBARM_STILL] = "STILL", [RISSOBARM_ROOM] = "ROOM", [RISSOBARM_NOVAR] = "NOVAR",
     [RISSOBARM_BOUND] = "BOUND", [RISSOBARM_CONST] = "CONST", [RISSOBARM_FOREIGN] = "FOREIGN",
+    [RISSOBARM_OLDRULE] = "OLDRULE",
     [RISSOBARM_GAP] = "GAP", [RISSOBARM_DISAGREES] = "DISAGREES",
 };
 
@@ -73,13 +74,22 @@ static const char *const features[FEATURES] = {
     "supplies after the end",
     "supplies that wake somebody",
     "equations woken",
+    "bodies beside their equations",
+    "bodies beside a single equation",
+    "bodies beside four equations",
+    "later stages begun while an equation waits",
+    "bodies done while an equation waits",
     "runs made again by turns",
     "stuck runs with their grounds",
     "turns in which all were watched",
     "plans whose records were all placed",
     "calls let in with tables of pure chance",
+    "rules broken in a body as written",
+    "rules broken in equations beside a body",
     "further rows that are too short",
     "further rows with no byte to spare",
+    "saved runs of the former length",
+    "saved runs with another rule number",
     "saved runs taken up where they were saved",
     "saved runs taken up in other rows",
     "damaged saved runs that are still one",
@@ -153,18 +163,20 @@ static unsigned pairs_seen(void)
     return seen;
 }
 
-/* An empty guard has no process of its own. */
+/* An empty guard has no process of its own, and a body as written has more than one stage. */
 static bool tell_shapes(void)
 {
     unsigned asked = shapes_seen(counts.goals[RISSOBARM_GOAL_IMAGE]);
     unsigned guards = shapes_seen(counts.goals[RISSOBARM_GOAL_GUARD]);
     unsigned bodies = shapes_seen(counts.goals[RISSOBARM_GOAL_BODY]);
+    unsigned written = shapes_seen(counts.goals[RISSOBARM_GOAL_WRITTEN]);
     bool enough = tell("shapes", 0, "of the image's goal, of 256", "", asked, SHAPES);
 
     enough &= tell("shapes", 1, "of guards, of 255", "", guards, SHAPES - 1);
-    enough &= tell("shapes", 2, "of bodies, of 256", "", bodies, SHAPES);
-    enough &= tell("shapes", 3, "of blocks of a relation, of 256", "", shapes_seen(counts.blocks), SHAPES);
-    return enough & tell("tags", 0, "pairs that no rule makes, of 63", "", pairs_seen(), 63);
+    enough &= tell("shapes", 2, "of committed bodies, of 256", "", bodies, SHAPES);
+    enough &= tell("shapes", 3, "of bodies as written, of 247", "", written, SPLIT_SHAPES);
+    enough &= tell("shapes", 4, "of blocks of a relation, of 256", "", shapes_seen(counts.blocks), SHAPES);
+    return enough & tell("tags", 0, "pairs that no rule makes, of 62", "", pairs_seen(), 62);
 }
 
 /* Lists of the variables bound, by how many they name. */
@@ -181,7 +193,8 @@ static bool tell_lists(void)
 /* What became of damaged saved runs and traces: each of their refusals. */
 static bool tell_damaged(void)
 {
-    static const uint8_t saved[] = { RISSOBARM_CUT, RISSOBARM_KIND, RISSOBARM_BODY, RISSOBARM_FOREIGN, RISSOBARM_STATE };
+    static const uint8_t saved[] = { RISSOBARM_CUT,     RISSOBARM_KIND,    RISSOBARM_BODY,
+                                     RISSOBARM_OLDRULE, RISSOBARM_FOREIGN, RISSOBARM_STATE };
     static const uint8_t traces[] = { RISSOBARM_CUT, RISSOBARM_KIND, RISSOBARM_BODY, RISSOBARM_GAP, RISSOBARM_DISAGREES };
     bool enough = true;
     unsigned k;

@@ -5,7 +5,7 @@
 #include "event.h"
 #include "tablerules.h"
 
-enum { SHAPES = 256 };
+enum { SHAPES = 256, SPLIT_SHAPES = SHAPES - 1 - RISSOBARM_LITERAL_LIMIT };
 
 /* What is rare enough to be looked for by name. */
 enum feature {
@@ -23,13 +23,22 @@ enum feature {
     SUPPLY_AT_END,
     WOKEN_BY_SUPPLY,
     EQUATE_WOKEN,
+    SPLIT_BODIES,
+    SPLIT_FROM_ONE,
+    SPLIT_FROM_FOUR,
+    STAGE_BESIDE_WAIT,
+    DONE_BESIDE_WAIT,
     RUN_AS_TURNS,
     STUCK,
     SERVED,
     RECORDS_PLACED,
     CHANCE_LET_IN,
+    BROKEN_WRITTEN,
+    BROKEN_BESIDE,
     SHORT_ROW,
     JUST_ENOUGH,
+    FORMER_LENGTH,
+    OTHER_NUMBER,
     TAKEN_UP,
     TAKEN_UP_ELSEWHERE,
     DAMAGED_LET_IN,

@@ -39,6 +39,31 @@ static uint8_t filling(const struct bed *bed, size_t at)
     return (uint8_t)(29 * bed->calls + 7 * at + 1);
 }
 
+/* A run of the former rule: the first record without its last two bytes; how long it is then. */
+static size_t make_former(uint8_t *bytes, size_t length)
+{
+    enum { FORMER_SIZE = RISSOBARM_RUN_RECORD_SIZE - 2 };
+
+    put_word_at(bytes, FORMER_SIZE);
+    memmove(bytes + FORMER_SIZE, bytes + RISSOBARM_RUN_RECORD_SIZE, length - RISSOBARM_RUN_RECORD_SIZE);
+    return length - 2;
+}
+
+/* Some seeds make it a run of another rule; true where it is to be damaged further. */
+static bool change_rule(uint8_t *bytes, size_t *length, uint32_t seed)
+{
+    static const uint16_t numbers[] = { 0, 1, 3, 4, 258, 512, 513, 65535 };
+    unsigned sort = seed % 32;
+
+    if (*length < RISSOBARM_RUN_RECORD_SIZE || sort > 3)
+        return true;
+    if (sort < 2)
+        *length = make_former(bytes, *length);
+    else
+        put_word_at(bytes + RISSOBARM_RUN_RECORD_SIZE - 2, numbers[seed / 32 % 8]);
+    return sort % 2 == 1;
+}
+
 /* A run to be taken up, damaged or whole; how long it is. */
 static size_t fill_saved(struct bed *bed, const struct event *event)
 {
@@ -53,7 +78,9 @@ static size_t fill_saved(struct bed *bed, const struct event *event)
         length = records_of(&bed->ours, (unsigned)bed->source->length, bed->beside);
     else
         memcpy(bed->beside, bed->kept.bytes, length);
-    return event->a == 0 ? length : damage_records(bed->beside, length, TAPE_ROOM, event->a, &kinds);
+    if (event->a == 0 || !change_rule(bed->beside, &length, event->a))
+        return length;
+    return damage_records(bed->beside, length, TAPE_ROOM, event->a, &kinds);
 }
 
 /* A trace to be played, damaged or whole; every other damaged one is stamped anew, so that no gap hides what else is wrong. */

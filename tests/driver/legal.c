@@ -117,6 +117,8 @@ static bool fill_places(struct draw *draw, uint8_t *row)
         behind = tag == RISSOBARM_TAG_AND_SEQ && row[RISSOBARM_ROW_MODE] != RISSOBARM_MODE_WAITING;
         if (!draw_stage(draw, behind, &place))
             return false;
+        if (tag == RISSOBARM_TAG_AND_SEQ && beside_body_at(draw->program, &place))
+            place.kind = RISSOBARM_GOAL_WRITTEN; /* its stages are more */
     } else if (!draw_literal(draw, tag == RISSOBARM_TAG_EQUATE, &place)) {
         return false;
     }

@@ -1,4 +1,4 @@
-/* Images for a purpose: shapes, records, loops and notes. */
+/* Images for a purpose: shapes, records, loops, notes and equations beside a body. */
 #include "plans.h"
 
 static void begin(struct image *image)
@@ -247,13 +247,103 @@ void plan_of_notes(struct image *image, struct random *random)
     record_end(image);
 }
 
+/* ---- equations beside a body */
+
+enum { OUTER, INNER, DONE, TOLD, SPLIT_RELATIONS };
+
+static const struct style split = { "splits", 4, 4, 12, 2, 8, 4, 2, 8, 1, 6, 1, 8, 4, 4, 1 };
+
+/* A shape of at least two stages, often just two of a literal each. */
+static unsigned draw_stages(struct random *random)
+{
+    unsigned shape = 3;
+
+    if (random_once(random, 2))
+        return shape;
+    do
+        shape = random_below(random, 256);
+    while ((shape & (shape - 1)) == 0);
+    return shape;
+}
+
+static void put_own_call(struct image *image, unsigned relation, unsigned arity)
+{
+    unsigned k;
+
+    put_byte(image, relation);
+    put_byte(image, arity);
+    for (k = 0; k < arity; k++)
+        put_number(image, variable_term(k));
+}
+
+/* outer(A,B,..) <- inner(A,B,..) : */
+static void put_outer(struct image *image, struct random *random, unsigned arity)
+{
+    struct goal_style body = { arity, DONE, SPLIT_RELATIONS, &split };
+    unsigned k;
+
+    put_head(image, OUTER, arity, 0, arity);
+    for (k = 0; k < arity; k++)
+        put_number(image, variable_term(k));
+    put_number(image, 1 + 256);
+    put_own_call(image, INNER, arity);
+    put_shaped_goal(image, random, &body, random_once(random, 2) ? 0 : draw_stages(random));
+    record_end(image);
+}
+
+/* A clause with a body of stages. */
+static void put_staged(struct image *image, struct random *random, unsigned relation, unsigned mark)
+{
+    struct goal_style body = { random_below(random, 4), relation + 1 < TOLD ? DONE : TOLD + 1, SPLIT_RELATIONS, &split };
+    unsigned arity = declared_arity(image, relation);
+
+    put_head(image, relation, arity, mark, body.variables);
+    while (arity-- > 0)
+        put_styled_term(image, random, &split, body.variables);
+    put_byte(image, 0);
+    put_shaped_goal(image, random, &body, draw_stages(random));
+    record_end(image);
+}
+
+/* outer calls inner in its guard; inner has outputs and stages, which call done, mostly a fact, and told, which has stages too. */
+void plan_of_splits(struct image *image, struct random *random)
+{
+    unsigned arity = 1 + random_below(random, RISSOBARM_ARITY_LIMIT), all = (1u << arity) - 1;
+    unsigned told = random_below(random, 2), equation = random_below(random, 2);
+
+    begin(image);
+    put_modes(image, arity, random_once(random, 8) ? random_below(random, 16) : 0);
+    put_modes(image, arity, random_once(random, 2) ? all : 1 + random_below(random, all));
+    put_modes(image, 0, 0);
+    put_modes(image, 1, told);
+    put_outer(image, random, arity);
+    put_staged(image, random, INNER, 0);
+    if (random_once(random, 3))
+        put_staged(image, random, INNER, random_below(random, 2));
+    if (!random_once(random, 8)) {
+        put_head(image, DONE, 0, 0, 0);
+        put_number(image, 0);
+        record_end(image);
+    }
+    put_staged(image, random, TOLD, 0);
+    record_begin(image, RISSOBARM_RECORD_GOAL);
+    put_byte(image, arity + 1);
+    put_number(image, 1 + 256 * (1 + equation));
+    if (equation)
+        put_call(image, RISSOBARM_EQUALITY, variable_term(arity), random_below(random, 2));
+    put_own_call(image, OUTER, arity);
+    record_end(image);
+}
+
 /* ---- any */
 
 void plan_any(struct image *image, struct random *random)
 {
-    unsigned way = random_below(random, 32);
+    unsigned way = random_below(random, 36);
 
-    if (way < 8)
+    if (way >= 32)
+        plan_of_splits(image, random);
+    else if (way < 8)
         plan_of_shapes(image, random);
     else if (way < 11)
         plan_of_records(image, random);

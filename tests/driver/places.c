@@ -50,7 +50,7 @@ static bool draw_goal(struct draw *draw, struct place *place)
         return true;
     if (!draw_clause(draw, ANY_RELATION, &found))
         return false;
-    place->kind = random_once(draw->random, 2) ? RISSOBARM_GOAL_GUARD : RISSOBARM_GOAL_BODY;
+    place->kind = (uint8_t)(RISSOBARM_GOAL_GUARD + random_below(draw->random, RISSOBARM_GOAL_COUNT - RISSOBARM_GOAL_GUARD));
     place->clause = found.clause;
     place->first = found.first;
     return true;
@@ -71,6 +71,11 @@ bool draw_stage(struct draw *draw, unsigned behind, struct place *place)
         return true;
     }
     return false;
+}
+
+bool beside_body_at(const struct program *program, const struct place *place)
+{
+    return place->kind == RISSOBARM_GOAL_BODY && program->clauses[place->clause].split;
 }
 
 unsigned called_at(const struct program *program, const struct place *place)

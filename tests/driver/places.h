@@ -20,6 +20,9 @@ bool draw_stage(struct draw *draw, unsigned behind, struct place *place);
 /* A place of a literal that is an equality, or that is none. */
 bool draw_literal(struct draw *draw, bool equality, struct place *place);
 
+/* Whether a place is among equations beside a body, where no and-seq may be. */
+bool beside_body_at(const struct program *program, const struct place *place);
+
 /* A clause of a relation, or any clause. */
 bool draw_clause(struct draw *draw, unsigned relation, struct found *found);
 

@@ -46,6 +46,9 @@ void plan_of_loops(struct image *image, struct random *random);
 /* Calls with input arguments alone, over variables that are shared or not: matches that note up to four of them. */
 void plan_of_notes(struct image *image, struct random *random);
 
+/* Clauses whose equations stand beside a body of several stages, called inside a guard, where the equations wait. */
+void plan_of_splits(struct image *image, struct random *random);
+
 /* One of all these. */
 void plan_any(struct image *image, struct random *random);
 

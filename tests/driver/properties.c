@@ -89,7 +89,7 @@ static bool refusal_possible(const struct event *event, unsigned refusal)
                in_records(refusal);
     case RESUMES:
         return refusal == RISSOBARM_ACCEPTED || refusal == RISSOBARM_STATE || refusal == RISSOBARM_FOREIGN ||
-               in_records(refusal);
+               refusal == RISSOBARM_OLDRULE || in_records(refusal);
     default:
         return refusal == RISSOBARM_ACCEPTED;
     }

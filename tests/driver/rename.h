@@ -24,6 +24,7 @@
 #define ref_stage_tag standin_stage_tag
 #define ref_goal_tag standin_goal_tag
 #define ref_goal_at standin_goal_at
+#define ref_split_at standin_split_at
 #define ref_literal_at standin_literal_at
 #define ref_full_size standin_full_size
 #define ref_decode standin_decode

@@ -21,6 +21,7 @@ static const char *const plain[PLAIN_RULES] = {
     "the parent has a lower number",
     "the parent's rules make the tag",
     "a waiting and-seq has a stage left",
+    "no and-seq in equations beside a body",
     "a known sort of a variable",
     "an unbound variable has no number",
     "a constant up to 32,767",

@@ -30,7 +30,8 @@ size_t records_of(const struct rows *rows, unsigned image_length, uint8_t *bytes
 
     put_word_at(bytes, RISSOBARM_RUN_RECORD_SIZE);
     put_word_at(at, image_length);
-    at += 2;
+    put_word_at(at + 2, RISSOBARM_SAVED_RULE);
+    at += 4;
     for (k = 0; k < process_count(rows) && k <= RISSOBARM_PROCESS_LIMIT; k++)
         at = put_row_record(at, RISSOBARM_RECORD_PROCESS,
                             row_or_zeros(rows->procs, k, RISSOBARM_PROCESS_LIMIT, RISSOBARM_PROCESS_ROW),

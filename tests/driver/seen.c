@@ -34,6 +34,38 @@ static void seen_binding(const struct bed *bed, unsigned process)
     counts.features[NESTED_GUARDS] += guards_above(&bed->ours, process) >= 3;
 }
 
+/* Whether an equation beside the body that a process goes through is suspended. */
+static bool waits_beside(const struct rows *rows, unsigned process)
+{
+    unsigned count = process_count(rows), parent = word_at(process_row(rows, process) + RISSOBARM_ROW_PARENT), k;
+
+    for (k = parent + 1; k < count; k++) {
+        const uint8_t *row = process_row(rows, k);
+
+        if (word_at(row + RISSOBARM_ROW_PARENT) == parent && row[RISSOBARM_ROW_TAG] == RISSOBARM_TAG_EQUATE &&
+            row[RISSOBARM_ROW_MODE] == RISSOBARM_MODE_SUSPENDED)
+            return true;
+    }
+    return false;
+}
+
+/* Equations beside a body: how many there are, and that the body goes on while one waits. */
+static void seen_split(const struct bed *bed, unsigned rule, const uint8_t *row, unsigned made)
+{
+    const struct clause *clause = &bed->program.clauses[row[RISSOBARM_ROW_CLAUSE]];
+    bool written = row[RISSOBARM_ROW_TAG] == RISSOBARM_TAG_AND_SEQ && row[RISSOBARM_ROW_KIND] == RISSOBARM_GOAL_WRITTEN;
+
+    if (rule == RISSOBARM_RULE_AND_PAR_START && row[RISSOBARM_ROW_KIND] == RISSOBARM_GOAL_BODY && clause->split) {
+        counts.features[SPLIT_BODIES]++;
+        counts.features[SPLIT_FROM_ONE] += made == 2;
+        counts.features[SPLIT_FROM_FOUR] += made == RISSOBARM_ARITY_LIMIT + 1;
+    }
+    if (!written || !bed->straight || !waits_beside(&bed->ours, last_stepped(&bed->ours)))
+        return;
+    counts.features[STAGE_BESIDE_WAIT] += rule == RISSOBARM_RULE_AND_SEQ_START && row[RISSOBARM_ROW_STAGE] > 0;
+    counts.features[DONE_BESIDE_WAIT] += rule == RISSOBARM_RULE_AND_SEQ_SUCCESS;
+}
+
 static void seen_move(const struct bed *bed)
 {
     unsigned rule = rissobarm_rule(bed->answer), process = last_stepped(&bed->ours);
@@ -51,6 +83,7 @@ static void seen_move(const struct bed *bed)
     counts.features[ALL_VARIABLES] += searches && variable_count(&bed->ours) == RISSOBARM_VARIABLE_LIMIT;
     counts.features[COUNT_AT_TOP] += step_count(&bed->before) == UINT32_MAX;
     counts.features[EQUATE_WOKEN] += rule == RISSOBARM_RULE_WAKE && row[RISSOBARM_ROW_TAG] == RISSOBARM_TAG_EQUATE;
+    seen_split(bed, rule, row, made);
     if (rule == RISSOBARM_RULE_EQUATE_SUCCESS || rule == RISSOBARM_RULE_EQUATE_SUSPEND ||
         rule == RISSOBARM_RULE_INPUT_MATCH_SUCCESS)
         seen_binding(bed, process);
@@ -96,6 +129,8 @@ static void seen_refusal(const struct bed *bed, const struct event *event, const
         seen_room(bed, event);
     if (refusal == RISSOBARM_STATE && entry->broken == 1)
         counts.broken[entry->first]++;
+    if (refusal == RISSOBARM_OLDRULE)
+        counts.features[word_at(bed->further.bytes) == RISSOBARM_RUN_RECORD_SIZE ? OTHER_NUMBER : FORMER_LENGTH]++;
 }
 
 /* Saved runs and traces that were damaged, and what became of them. */

@@ -13,14 +13,13 @@ static unsigned shape_add(unsigned shape, bool begins)
     return shape * 2 + (shape == 0 || begins);
 }
 
-/* As the image writes it, so without the equations of a committed body. */
-static unsigned goal_shape(const struct goal *goal, unsigned equations)
+static unsigned goal_shape(const struct goal *goal)
 {
     unsigned shape = 0, s, k;
 
     for (s = 0; s < goal->stage_count; s++)
-        for (k = s == 0 ? equations : 0; k < goal->stages[s].count; k++)
-            shape = shape_add(shape, k == (s == 0 ? equations : 0));
+        for (k = 0; k < goal->stages[s].count; k++)
+            shape = shape_add(shape, k == 0);
     return shape;
 }
 
@@ -31,11 +30,11 @@ static void seen_goal(const struct bed *bed, const uint8_t *row)
     unsigned shape;
 
     if (row[RISSOBARM_ROW_KIND] == RISSOBARM_GOAL_IMAGE)
-        shape = goal_shape(&program->goal, 0);
+        shape = goal_shape(&program->goal);
     else if (row[RISSOBARM_ROW_KIND] == RISSOBARM_GOAL_GUARD)
-        shape = goal_shape(&clause->guard, 0);
-    else
-        shape = goal_shape(&clause->body, clause->size - clause->own);
+        shape = goal_shape(&clause->guard);
+    else /* of a committed body too, as the image writes it: without the equations */
+        shape = goal_shape(&clause->written);
     counts.goals[row[RISSOBARM_ROW_KIND]][shape]++;
 }
 

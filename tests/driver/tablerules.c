@@ -39,7 +39,7 @@ bool tag_makes(unsigned parent, unsigned child)
         GOALS = STAGES | 1 << RISSOBARM_TAG_AND_SEQ
     };
     static const uint16_t made[RISSOBARM_TAG_COUNT] = {
-        [RISSOBARM_TAG_AND_PAR] = LITERALS,
+        [RISSOBARM_TAG_AND_PAR] = LITERALS | 1 << RISSOBARM_TAG_AND_SEQ,
         [RISSOBARM_TAG_AND_SEQ] = STAGES,
         [RISSOBARM_TAG_OR_PAR] = GOALS | 1 << RISSOBARM_TAG_SEQ_SEARCH,
         [RISSOBARM_TAG_SEQ_SEARCH] = 1 << RISSOBARM_TAG_OR_SEARCH,
@@ -89,7 +89,9 @@ static const struct goal *look_at_goal(const struct look *look, const uint8_t *r
         return asks(look, place_rule(GOAL_FIRST, tag), first == 0) ? &program->goal : NULL;
     if (!look_at_clause(look, place_rule(GOAL_CLAUSE, tag), place_rule(GOAL_BLOCK, tag), clause, first))
         return NULL;
-    return kind == RISSOBARM_GOAL_GUARD ? &program->clauses[clause].guard : &program->clauses[clause].body;
+    if (kind == RISSOBARM_GOAL_GUARD)
+        return &program->clauses[clause].guard;
+    return kind == RISSOBARM_GOAL_BODY ? &program->clauses[clause].body : &program->clauses[clause].written;
 }
 
 /* The literal that a row names, of the kind that its tag needs; else NULL. */
@@ -145,12 +147,20 @@ static void look_at_trial(const struct look *look, const uint8_t *row)
         asks(look, place_rule(CLAUSE_RELATION, tag), look->program->clauses[clause].relation == call->relation);
 }
 
+/* Whether a row names the equations that stand beside the whole body of their clause, which is there. */
+static bool beside_body(const struct look *look, const uint8_t *row)
+{
+    const struct clause *clause = &look->program->clauses[row[RISSOBARM_ROW_CLAUSE]];
+
+    return row[RISSOBARM_ROW_KIND] == RISSOBARM_GOAL_BODY && clause->size > clause->own && clause->written.stage_count > 1;
+}
+
 static void look_at_stages(const struct look *look, const uint8_t *row)
 {
     const struct goal *goal = look_at_goal(look, row);
     unsigned tag = row[RISSOBARM_ROW_TAG], stage = row[RISSOBARM_ROW_STAGE], behind = tag == RISSOBARM_TAG_AND_SEQ;
 
-    if (goal == NULL)
+    if (goal == NULL || !asks(look, EQUATIONS_ALONE, tag != RISSOBARM_TAG_AND_SEQ || !beside_body(look, row)))
         return;
     if (!asks(look, place_rule(ITS_STAGE, tag), stage < goal->stage_count + behind))
         return;

@@ -26,6 +26,7 @@ enum table_rule {
     LOWER_PARENT,
     MADE_TAG,
     STAGE_LEFT,
+    EQUATIONS_ALONE,
     KNOWN_SORT,
     UNBOUND_NUMBER,
     CONSTANT_FITS,

@@ -125,6 +125,9 @@ static void try_saved(void)
     hold("saved: the same end", rissobarm_plan_run(&run, LARGE_LIMIT) == rissobarm_plan_run(&other, LARGE_LIMIT));
     hold("saved: the same rows at the end", same_rows());
     hold("saved: foreign", rissobarm_plan_resume(&other, fills, sizeof fills, saved, size) == RISSOBARM_FOREIGN);
+    saved[RISSOBARM_RUN_RECORD_SIZE - 2]++;
+    hold("saved: by another rule", rissobarm_plan_resume(&other, waits, sizeof waits, saved, size) == RISSOBARM_OLDRULE);
+    saved[RISSOBARM_RUN_RECORD_SIZE - 2]--;
     hold("saved: cut",
          rissobarm_refusal(rissobarm_plan_resume(&other, waits, sizeof waits, saved, size - 1)) == RISSOBARM_CUT);
 }

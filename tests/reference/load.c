@@ -164,14 +164,18 @@ static void number_outputs(const struct relation *relation, struct clause *claus
     }
 }
 
-/* Puts one equation per output argument before the first stage's literals. */
+/* Puts one equation per output argument before the first stage's literals; beside several stages they are one by themselves. */
 static void commit_body(const struct relation *relation, struct clause *clause)
 {
     struct goal *body = &clause->body;
     unsigned outputs = clause->size - clause->own, made = 0, k;
 
+    clause->written = *body;
+    clause->split = outputs > 0 && body->stage_count > 1;
     if (outputs == 0)
         return;
+    if (clause->split)
+        memset(body, 0, sizeof *body);
     memmove(&body->literals[outputs], &body->literals[0], LITERAL_LIMIT * sizeof body->literals[0]);
     for (k = 0; k < clause->arity; k++)
         if (relation->output[k]) {

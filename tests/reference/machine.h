@@ -45,6 +45,7 @@ enum refusal {
     REFUSED_BOUND = 13,
     REFUSED_CONST = 14,
     REFUSED_FOREIGN = 15,
+    REFUSED_OLDRULE = 18,
     REFUSED_GAP = 19,
     REFUSED_DISAGREES = 20
 };
@@ -54,7 +55,7 @@ enum end { END_NONE = 0, END_SUCCESS = 1, END_FAILURE = 2, END_WAITING = 3, END_
 enum tag { AND_PAR, AND_SEQ, OR_PAR, SEQ_SEARCH, OR_SEARCH, TRY_CLAUSE, INPUT_MATCH, GUARD_EVAL, EQUATE, TAG_COUNT };
 enum mode { DORMANT, READY, STARTING, WAITING, REPORTING, SUSPENDED, MODE_COUNT };
 enum result { NONE, SUCCESS, FAILURE, RESULT_COUNT };
-enum goal_kind { THE_GOAL, GUARD, BODY, GOAL_KIND_COUNT };
+enum goal_kind { THE_GOAL, GUARD, BODY, WRITTEN, GOAL_KIND_COUNT };
 enum sort { UNBOUND, CONSTANT, VARIABLE, SORT_COUNT };
 
 enum rule {
@@ -138,7 +139,9 @@ struct clause {
     struct term head[ARITY_LIMIT];
     struct term matched[ARITY_LIMIT]; /* the head with output arguments replaced by their new variables */
     struct goal guard;
-    struct goal body;                 /* as committed, output equations in front */
+    bool split;                       /* whether the equations are to stand beside the whole body */
+    struct goal body;                 /* as committed: output equations in front, or alone where it is split */
+    struct goal written;              /* the body as the image has it */
 };
 
 struct program {
@@ -158,7 +161,7 @@ struct verdict {
 
 /* The tables. */
 
-/* A stage or literal of a goal; clause counts only for a guard or body. */
+/* A stage or literal of a goal; clause counts only for a guard or body, as committed or as written. */
 struct place {
     uint8_t kind;
     uint8_t clause;
@@ -237,6 +240,7 @@ bool ref_in_block(const struct clause *clause, unsigned relation, unsigned block
 /* tables.c */
 unsigned ref_stage_tag(const struct goal *goal, unsigned stage);
 unsigned ref_goal_tag(const struct goal *goal);
+bool ref_split_at(const struct program *program, const struct place *place);
 const struct goal *ref_goal_at(const struct program *program, const struct place *place);
 const struct literal *ref_literal_at(const struct program *program, const struct place *place);
 bool ref_full_size(const struct lent *lent);

@@ -416,6 +416,7 @@ int main(void)
     watch_case();
     bound_cases();
     saved_cases();
+    split_cases();
     trace_cases();
     printf("marked: %u as told, %u not\n", passed, failed);
     return failed == 0 ? 0 : 1;

@@ -50,6 +50,7 @@ void say_run(const char *name, bool good);
 /* The worked examples of the change requests. */
 void bound_cases(void);
 void saved_cases(void);
+void split_cases(void);
 void trace_cases(void);
 
 #endif

@@ -69,7 +69,7 @@ uint64_t reference_save(const uint8_t *image, size_t image_len, uint8_t *head, s
                         uint8_t *procs, size_t procs_len, uint8_t *vars, size_t vars_len,
                         uint8_t *saved, size_t saved_len);
 
-/* Fills all three tables with a saved run; refusals 2, 3 and 4 hold the offset of its record. */
+/* Fills all three tables with a saved run; refusals 2, 3 and 4 hold the offset of its record, and 18 is one of another rule. */
 uint64_t reference_resume(const uint8_t *image, size_t image_len, uint8_t *head, size_t head_len,
                           uint8_t *procs, size_t procs_len, uint8_t *vars, size_t vars_len,
                           const uint8_t *saved, size_t saved_len);

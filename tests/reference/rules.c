@@ -292,7 +292,7 @@ static struct need need_of(const struct program *p, const struct process *me, un
 
     switch (rule) {
     case AND_PAR_START:
-        need.processes = ref_goal_at(p, &me->place)->stages[me->place.stage].count;
+        need.processes = ref_goal_at(p, &me->place)->stages[me->place.stage].count + ref_split_at(p, &me->place);
         return need;
     case OR_SEARCH_START:
         return or_search_need(p, me);
@@ -330,13 +330,23 @@ static struct process *add_child(struct tables *t, unsigned parent, unsigned tag
     return child;
 }
 
-/* A starting child for a whole guard or body. */
+/* A starting child for a whole guard or body; equations beside a body are an and-par, be it one alone. */
 static void add_goal_child(const struct program *p, struct tables *t, unsigned parent, unsigned kind,
                            struct found found)
 {
     struct place place = { (uint8_t)kind, found.clause, found.first, 0, 0 };
+    unsigned tag = ref_split_at(p, &place) ? AND_PAR : ref_goal_tag(ref_goal_at(p, &place));
 
-    add_child(t, parent, ref_goal_tag(ref_goal_at(p, &place)), STARTING)->place = place;
+    add_child(t, parent, tag, STARTING)->place = place;
+}
+
+/* The whole body as it is written, beside its equations. */
+static void add_written_body(struct tables *t, unsigned number)
+{
+    const struct place *equations = &t->processes[number].place;
+    struct place place = { WRITTEN, equations->clause, equations->first, 0, 0 };
+
+    add_child(t, number, AND_SEQ, READY)->place = place;
 }
 
 static void and_par_start(const struct program *p, struct tables *t, unsigned number)
@@ -351,6 +361,8 @@ static void and_par_start(const struct program *p, struct tables *t, unsigned nu
         tag = ref_literal_at(p, &place)->relation == EQUALITY ? EQUATE : OR_PAR;
         add_child(t, number, tag, READY)->place = place;
     }
+    if (ref_split_at(p, &place))
+        add_written_body(t, number);
     t->processes[number].mode = WAITING;
 }
 

@@ -6,9 +6,16 @@
 
 enum { KIND_RUN = 16, KIND_PROCESS = 17, KIND_VARIABLE = 18, RECORD_HEAD = 4 };
 
-/* Bytes of a record of each kind; the run's holds the head and the image's length. */
+/* The rule by which runs are made now; the first one was never written. */
+enum { RULE_NUMBER = 2 };
+
+/* What the run's record holds behind the head, two bytes each. */
+enum { IMAGE_LENGTH_AT = RECORD_HEAD + REFERENCE_HEAD_SIZE, RULE_NUMBER_AT = IMAGE_LENGTH_AT + 2 };
+
+/* Bytes of a record of each kind; the run's ended before the rule number once. */
 enum {
-    RUN_SIZE = RECORD_HEAD + REFERENCE_HEAD_SIZE + 2,
+    RUN_SIZE = RULE_NUMBER_AT + 2,
+    FORMER_RUN_SIZE = RULE_NUMBER_AT,
     PROCESS_SIZE = RECORD_HEAD + REFERENCE_PROCESS_ROW,
     VARIABLE_SIZE = RECORD_HEAD + REFERENCE_VARIABLE_ROW
 };
@@ -45,7 +52,8 @@ uint64_t reference_save(const uint8_t *image, size_t image_len, uint8_t *head, s
     if (saved_len < size)
         return ref_refused(REFUSED_ROOM, 0);
     saved = put_record(saved, KIND_RUN, head, REFERENCE_HEAD_SIZE);
-    ref_put16(saved - 2, (unsigned)image_len);
+    ref_put16(saved - RUN_SIZE + IMAGE_LENGTH_AT, (unsigned)image_len);
+    ref_put16(saved - RUN_SIZE + RULE_NUMBER_AT, RULE_NUMBER);
     for (k = 0; k < tables.process_count; k++)
         saved = put_record(saved, KIND_PROCESS, procs + k * REFERENCE_PROCESS_ROW, REFERENCE_PROCESS_ROW);
     for (k = 0; k < tables.variable_count; k++)
@@ -62,6 +70,18 @@ struct contents {
     size_t variables;
 };
 
+/* The length of a record, and of the run's the rule number behind it. */
+static unsigned test_length(const uint8_t *record, size_t length, unsigned kind)
+{
+    if (kind == KIND_RUN && length == FORMER_RUN_SIZE)
+        return REFUSED_OLDRULE;
+    if (length != size_of(kind))
+        return REFUSED_BODY;
+    if (kind == KIND_RUN && ref_get16(record + RULE_NUMBER_AT) != RULE_NUMBER)
+        return REFUSED_OLDRULE;
+    return ACCEPTED;
+}
+
 /* Tests the record at the front of what is left, given the kind before it, 0 for none. */
 static unsigned test_record(const uint8_t *left, size_t left_len, unsigned before, unsigned *kind)
 {
@@ -77,7 +97,7 @@ static unsigned test_record(const uint8_t *left, size_t left_len, unsigned befor
         return REFUSED_KIND;
     if ((*kind == KIND_RUN) != (before == 0)) /* the first one and no other */
         return REFUSED_KIND;
-    return length == size_of(*kind) ? ACCEPTED : REFUSED_BODY;
+    return test_length(left, length, *kind);
 }
 
 /* Goes over all records; a row without any lacks the first. */
@@ -152,7 +172,7 @@ uint64_t reference_resume(const uint8_t *image, size_t image_len, uint8_t *head,
     found = read_records(saved, saved_len);
     if (found.verdict.refusal != ACCEPTED)
         return refused_at(found.verdict);
-    if (ref_get16(saved + RUN_SIZE - 2) != image_len)
+    if (ref_get16(saved + IMAGE_LENGTH_AT) != image_len)
         return ref_refused(REFUSED_FOREIGN, 0);
     if (!ref_full_size(&lent) || !fill_rows(saved, &found, &rows) || !rows_keep(&program, &found, &rows))
         return ref_refused(REFUSED_STATE, 0);

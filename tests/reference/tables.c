@@ -26,7 +26,13 @@ const struct goal *ref_goal_at(const struct program *program, const struct place
         return &program->goal;
     if (place->kind == GUARD)
         return &program->clauses[place->clause].guard;
-    return &program->clauses[place->clause].body;
+    return place->kind == BODY ? &program->clauses[place->clause].body : &program->clauses[place->clause].written;
+}
+
+/* Whether a place is among the equations that stand beside their clause's body. */
+bool ref_split_at(const struct program *program, const struct place *place)
+{
+    return place->kind == BODY && program->clauses[place->clause].split;
 }
 
 const struct literal *ref_literal_at(const struct program *program, const struct place *place)
@@ -196,7 +202,7 @@ static bool makes(unsigned parent, unsigned child)
 
     switch (parent) {
     case AND_PAR:
-        return for_literal;
+        return for_literal || child == AND_SEQ;
     case AND_SEQ:
         return for_stage;
     case OR_PAR:
@@ -243,11 +249,14 @@ static bool call_exists(const struct program *p, const struct tables *t, const s
     return literal_exists(p, t, place) && ref_literal_at(p, place)->relation != EQUALITY;
 }
 
+/* Equations beside a body are for and-par and equate alone: none of them is a call, and no and-seq goes through them. */
 static bool and_seq_keeps(const struct program *p, const struct tables *t, const struct process *me)
 {
+    if (!goal_exists(p, t, &me->place) || ref_split_at(p, &me->place))
+        return false;
     if (me->mode == WAITING)
         return stage_exists(p, t, &me->place);
-    return goal_exists(p, t, &me->place) && me->place.stage <= ref_goal_at(p, &me->place)->stage_count;
+    return me->place.stage <= ref_goal_at(p, &me->place)->stage_count;
 }
 
 /* A searcher needs its block where its rules read one, and what it found once it reports success. */

@@ -15,7 +15,7 @@ use Rattle.parlog.specs.Scan.{tally}
 use Rattle.parlog.specs.declared.Progress.{Progress}
 use Rattle.place.proofs.Clauses.{clause-count}
 use Rattle.program_block.specs.Parts.{ownBefore}
-use Rattle.program_index.specs.Indexed.{behindFrom, blocksFrom, bodiesFrom, firstFrom, Indexed, indexSize, varsFrom}
+use Rattle.program_index.specs.Indexed.{behindFrom, blocksFrom, bodiesFrom, firstFrom, Headed, Indexed, indexSize, varsFrom}
 
 -- ---- no clause is passed
 
@@ -118,8 +118,8 @@ blocks-end : (s : List ℕ) (r c j : ℕ) {x : ℕ} → Blocks (programOf s r c)
 unfolding blockCount
 blocks-end s r c j b = b .0 ∙ ap (tally (opens (programOf s r c) j)) (sym (clause-count s r c))
 
-pub all-indexed : (s : List ℕ) (r c : ℕ) → r ≤ 32 → c ≤ 64 → {ix : List ℕ} → Placed s (r + c + 1) ix → Filled s r c c ix → Indexed s r c ix
-all-indexed s r c few most p f = record {
+pub all-indexed : (s : List ℕ) (r c : ℕ) → r ≤ 32 → c ≤ 64 → {ix : List ℕ} → Placed s (r + c + 1) ix → Filled s r c c ix → Headed (programOf s r c) → Indexed s r c ix
+all-indexed s r c few most p f heads = record {
   place = λ k h. p k (omega arith) .0;
   place-few = λ k h. let e = p k (omega arith) .1 in omega arith;
   vars = λ k h. f .vars k h .0;
@@ -132,4 +132,5 @@ all-indexed s r c few most p f = record {
   first-few = λ q h. f .first q (omega arith) .1;
   behind = λ q h. f .behind q (omega arith) .0;
   behind-few = λ q h. f .behind q (omega arith) .1;
+  heads = heads;
 }

@@ -303,7 +303,7 @@ module _ (s : List ℕ) (r c : ℕ) (short : length s ≤ 32768) where
         ends = sym (R .done k3) ∙ the-end;
       }))
 
-  from-records : (n at : ℕ) (g : Progress) → length s ≤ at + n → Reached s g at → records s n at g ≡ Accepted r c → Right s r c
+  pub from-records : (n at : ℕ) (g : Progress) → length s ≤ at + n → Reached s g at → records s n at g ≡ Accepted r c → Right s r c
   from-records = walk-holds s broken (judged s) (loadEnd s) (λ at g. Reached s g at) (λ a. a ≡ Accepted r c → Right s r c)
       (λ at g R l e q. absurd (let z : _≡_ {A = ℕ} 0 1 = cc in omega arith))
       (λ at g R l e rest go. turn g at R e rest go (verdict s g at) refl)

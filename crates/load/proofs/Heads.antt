@@ -7,16 +7,17 @@ use lib.Dec.{eqb, ltb}
 use lib.ListN.{length}
 use borrow.Author.Tests.{eqb-true, ltb-false, ltb-true}
 use native.Mathlib.Omega.{arith}
-use Rattle.load.proofs.Accepted.{accepted, Right}
+use Rattle.load.proofs.Accepted.{accepted, from-records, nothing-reached, Right}
 use Rattle.parlog.proofs.Along.{list-at, list-length, list-past}
 use Rattle.parlog.proofs.Bools.{and-true, split}
 use Rattle.parlog.specs.Image.{equality, modeEnd, termAt, termEnd}
-use Rattle.parlog.specs.Load.{loadOf}
+use Rattle.parlog.specs.Load.{loadOf, nothingRead, records}
 use Rattle.parlog.specs.Names.{arityOf, relationNamed}
 use Rattle.parlog.specs.Program.{clauseAt, clauseOf, modesAt, modesOf, programOf}
 use Rattle.parlog.specs.Records.{byteAt, recordAt, recordEnd}
 use Rattle.parlog.specs.declared.Loaded.the-variants.{Accepted}
 use Rattle.place.proofs.Clauses.{clause-here, clause-past}
+use Rattle.program_index.specs.Indexed.{Headed}
 
 module _ (s : List ℕ) (r c : ℕ) (ok : Right s r c) where
   modes-past : (q : ℕ) → r ≤ q → modesAt (programOf s r c) q ≡ []
@@ -43,3 +44,7 @@ module _ (s : List ℕ) (r c : ℕ) (ok : Right s r c) where
 -- THE LAW: an accepted image's heads are no shorter than their relations' modes
 pub accepted-heads : (s : List ℕ) (r c : ℕ) → loadOf s ≡ Accepted r c → (k : ℕ) → length (modesAt (programOf s r c) (clauseAt (programOf s r c) k .rel)) ≤ length (clauseAt (programOf s r c) k .head)
 accepted-heads s r c e = right-heads s r c (accepted s r c e)
+
+-- the same of records that pass their tests
+pub passed-heads : (s : List ℕ) (r c : ℕ) → length s ≤ 32768 → records s (length s) 0 nothingRead ≡ Accepted r c → Headed (programOf s r c)
+passed-heads s r c few e = right-heads s r c (from-records s r c few (length s) 0 nothingRead (omega arith) (nothing-reached s) e)

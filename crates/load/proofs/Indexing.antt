@@ -22,7 +22,7 @@ use Rattle.parlog.specs.Records.{byteAt, kindAt, recordAt}
 use Rattle.parlog.specs.declared.Progress.{Progress}
 use Rattle.program_block.specs.Parts.{opensBy, ownBefore}
 use Rattle.program_clause.proofs.Fields.{relation-some}
-use Rattle.program_index.specs.Indexed.{behindFrom, blocksFrom, firstFrom, Indexed, indexSize}
+use Rattle.program_index.specs.Indexed.{behindFrom, blocksFrom, firstFrom, Headed, Indexed, indexSize}
 
 -- the words for what the records before have shown
 pub record Holds (s : List ℕ) (g : Progress) (ix : List ℕ) : Type 0 where
@@ -35,8 +35,8 @@ pub holds-start : (s : List ℕ) {ix : List ℕ} → length ix ≡ indexSize →
 holds-start s size z = record { size = size; places = λ k h. absurd (omega arith); goal = λ e. absurd (omega arith); filled = λ c h. filled-start s 0 c z }
 
 -- all is indexed when the goal was the last
-pub holds-end : (s : List ℕ) (g : Progress) {ix : List ℕ} → g .relations ≤ 32 → g .clauses ≤ 64 → Holds s g ix → g .kind ≡ 3 → Indexed s (g .relations) (g .clauses) ix
-holds-end s g few most x e = all-indexed s (g .relations) (g .clauses) few most (x .goal e) (x .filled (g .clauses) (omega arith))
+pub holds-end : (s : List ℕ) (g : Progress) {ix : List ℕ} → g .relations ≤ 32 → g .clauses ≤ 64 → Holds s g ix → g .kind ≡ 3 → Headed (programOf s (g .relations) (g .clauses)) → Indexed s (g .relations) (g .clauses) ix
+holds-end s g few most x e heads = all-indexed s (g .relations) (g .clauses) few most (x .goal e) (x .filled (g .clauses) (omega arith)) heads
 
 -- the clause before is of the relation, by the load's count and by the program
 own-before : (s : List ℕ) (g : Progress) (at : ℕ) → Reached s g at → (c q : ℕ) → g .clauses < c → follows g q ≡ ownBefore (programOf s (g .relations) c) q (g .clauses)

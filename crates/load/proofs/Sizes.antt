@@ -13,11 +13,14 @@ use Rattle.load.proofs.Sanity.{right-sane}
 use Rattle.parlog.proofs.Along.{list-at, list-length, list-past}
 use Rattle.parlog.proofs.Blocks.{blocks-short, runSize}
 use Rattle.parlog.proofs.Bools.{split}
+use Rattle.parlog.proofs.Scans.{build-length}
 use Rattle.parlog.specs.Body.{goalRange}
-use Rattle.parlog.specs.Codes.{Kind, kindOf, the-body, the-goal, the-guard}
+use Rattle.parlog.specs.Codes.{as-written, Kind, kindOf, the-body, the-goal, the-guard}
 use Rattle.parlog.specs.Image.{bodyAt, guardAt, isInput, literalEnd, stageEnd}
-use Rattle.parlog.specs.Program.{before, blockOf, clauseAt, clauseOf, committedBody, equation, Goal, goalAt, goalBy, goalOf, Literal, literalOf, modesAt, outputs, Program, programOf, stageAt, stageOf}
+use Rattle.parlog.specs.Program.{before, blockOf, clauseAt, clauseOf, committedBody, committedBy, equation, Goal, goalAt, goalBy, goalOf, isSplit, Literal, literalOf, modesAt, outputs, Program, programOf, splitAt, splitBy, stageAt, stageOf}
 use Rattle.parlog.specs.Records.{byteAt, recordAt}
+use Rattle.parlog.specs.Rules.{bodyBeside, member, members}
+use Rattle.parlog.specs.Scan.{build}
 use Rattle.parlog.specs.declared.Spot.{Spot}
 use Rattle.parlog.specs.declared.Term.{Term}
 use Rattle.place.proofs.Clauses.{clause-count, clause-here, clause-past}
@@ -48,6 +51,13 @@ before-few (e ∷ es) [] h f (suc i) = omega arith
 before-few (e ∷ es) (st ∷ g) h f zero = let l = f 0 in omega (arith, length-append (e ∷ es) st)
 before-few (e ∷ es) (st ∷ g) h f (suc i) = let l = f (suc i) in omega arith
 
+beside-few : (b : Bool) (es : List Literal) (g : Goal) → length es ≤ 4 → ((i : ℕ) → length (getD g i []) ≤ 8) → (i p : ℕ) (z : Spot)
+    → length (getD (committedBy b es g) i []) + length (bodyBeside b p z) ≤ 12
+unfolding committedBy bodyBeside
+beside-few false es g h f i p z = let l = before-few es g h f i in omega arith
+beside-few true es g h f zero p z = omega arith
+beside-few true es g h f (suc i) p z = omega arith
+
 module _ (s : List ℕ) (r c : ℕ) (ok : Right s r c) where
   abbrev pr : Program
   pr = programOf s r c
@@ -68,19 +78,29 @@ module _ (s : List ℕ) (r c : ℕ) (ok : Right s r c) where
   unfolding programOf
   goal-few i = stage-few s (recordAt s (r + c) + 5) (ask-fields s (recordAt s (r + c)) (ok .goal .body) .goal) i
 
-  few-by : (kind : Kind) (k i : ℕ) → length (getD (goalBy kind pr k) i []) ≤ 12
-  unfolding goalBy committedBody
-  few-by the-goal k i = let l = goal-few i in omega arith
-  few-by the-guard k i = let l = guard-few k i in omega arith
-  few-by the-body k i =
+  abbrev equations : ℕ → List Literal
+  equations k = outputs (modesAt pr (clauseAt pr k .rel)) (clauseAt pr k .head) (clauseAt pr k .vars)
+
+  equations-few : (k : ℕ) → length (equations k) ≤ 4
+  equations-few k =
       let m = right-sane s r c ok .modes (clauseAt pr k .rel) in
       let o = outputs-few (modesAt pr (clauseAt pr k .rel)) (clauseAt pr k .head) (clauseAt pr k .vars) in
-      before-few (outputs (modesAt pr (clauseAt pr k .rel)) (clauseAt pr k .head) (clauseAt pr k .vars)) (clauseAt pr k .body) (omega arith) (body-few k) i
+      omega arith
 
-  -- THE LAW: a stage has at most 12 members
-  pub stage-small : (z : Spot) → length (stageAt pr z) ≤ 12
-  unfolding stageAt goalAt
-  stage-small z = few-by (kindOf (z .kind)) (z .clause) (z .stage)
+  beside-by : (kind : Kind) (k i p : ℕ) (z : Spot) → length (getD (goalBy kind pr k) i []) + length (bodyBeside (splitBy kind pr k) p z) ≤ 12
+  unfolding goalBy committedBody splitBy bodyBeside
+  beside-by the-goal k i p z = let l = goal-few i in omega arith
+  beside-by the-guard k i p z = let l = guard-few k i in omega arith
+  beside-by the-body k i p z = beside-few (isSplit pr (clauseAt pr k)) (equations k) (clauseAt pr k .body) (equations-few k) (body-few k) i p z
+  beside-by as-written k i p z = let l = body-few k i in omega arith
+
+  -- THE LAW: a stage, with the body beside it where there is one, has at most 12 members
+  pub members-small : (p : ℕ) (z : Spot) → length (members pr p z) ≤ 12
+  unfolding members stageAt goalAt splitAt
+  members-small p z =
+      let l = beside-by (kindOf (z .kind)) (z .clause) (z .stage) p z in
+      let k = length-append (build (member pr p z) (length (stageAt pr z))) (bodyBeside (splitAt pr z) p z) in
+      omega (arith, build-length (member pr p z) (length (stageAt pr z)))
 
   size-run : (k : ℕ) → k < c → runSize pr k ≡ sizeWith s r k
   unfolding runSize sizeWith clauseOf

@@ -9,31 +9,31 @@ use borrow.Author.Tests.{ltb-false, ltb-true}
 use native.Mathlib.Omega.{arith}
 use Rattle.load.proofs.Accepted.{Right}
 use Rattle.load.proofs.Inside.{ask-fields, clause-fields, goal-fields}
-use Rattle.load.proofs.Sizes.{block-small, stage-small}
+use Rattle.load.proofs.Sizes.{block-small, members-small}
 use Rattle.move_plan.specs.Plans.{newMost}
 use Rattle.moves.specs.Legal.{Legal}
 use Rattle.parlog.proofs.Along.{along-add, list-at, list-length, list-past}
 use Rattle.parlog.proofs.Assume.{assume-block, assume-known, assume-notes, assume-stage}
 use Rattle.parlog.proofs.Bools.{split}
 use Rattle.parlog.specs.Body.{goalRange}
-use Rattle.parlog.specs.Codes.{Kind, kindOf, the-body, the-goal, the-guard}
+use Rattle.parlog.specs.Codes.{as-written, Kind, kindOf, the-body, the-goal, the-guard}
 use Rattle.parlog.specs.Image.{bodyAt, byteAt, guardAt, recordAt, recordEnd, stageEnd}
 use Rattle.parlog.specs.Limits.{Limits}
 use Rattle.parlog.specs.Notions.{me}
-use Rattle.parlog.specs.Program.{before, blockCount, blockOf, clauseAt, clauseOf, committedBody, Goal, goalAt, goalBy, goalOf, Literal, literalAt, modesAt, noClause, opens, outputs, Program, programOf, stageAt, stageOf}
-use Rattle.parlog.specs.Rules.{blockAt}
+use Rattle.parlog.specs.Program.{before, blockCount, blockOf, clauseAt, clauseOf, committedBody, committedBy, Goal, goalAt, goalBy, goalOf, isSplit, Literal, literalAt, modesAt, noClause, opens, outputs, Program, programOf, stageOf}
+use Rattle.parlog.specs.Rules.{blockAt, members}
 use Rattle.parlog.specs.Sane.{Sane}
 use Rattle.parlog.specs.Scan.{tally}
 use Rattle.parlog.specs.TableRules.{stateOk}
 use Rattle.parlog.specs.Tables.{State}
 use Rattle.parlog.specs.declared.Process.{Process}
 use Rattle.parlog.specs.declared.Spot.{Spot}
+use Rattle.program_index.specs.Indexed.{Headed}
 use Rattle.rules_match.proofs.There.{equate-there, match-there}
-use Rattle.rules_match.specs.Starts.{Headed}
 
 -- how much of a program there is at a place
 pub record Sized (pr : Program) : Type 0 where
-  pub stage : (z : Spot) → length (stageAt pr z) ≤ newMost
+  pub members : (p : ℕ) (z : Spot) → length (members pr p z) ≤ newMost
   pub block : (q b : ℕ) → length (blockOf pr q b) ≤ 8
   pub goal : (z : Spot) → length (goalAt pr z) ≤ 255
   pub clauses : length (pr .clauses) ≤ 255
@@ -60,7 +60,7 @@ legal lim pr s sa hd z ok p h u =
     record {
       tag = k .tag;
       mode = k .mode;
-      members = z .stage (x .spot);
+      members = λ q. z .members q (x .spot);
       tries = z .block (literalAt pr (x .spot) .rel) (x .spot .block);
       stage = λ t m. let a = assume-stage lim pr s ok p h t m in let l = z .goal (x .spot) in omega arith;
       block = λ t m. let a = assume-block lim pr s ok p h t m in let l = blocks-few pr z (literalAt pr (x .spot) .rel) in omega arith;
@@ -80,6 +80,11 @@ unfolding before
 before-stages [] g h = h
 before-stages (e ∷ es) [] h = omega arith
 before-stages (e ∷ es) (st ∷ g) h = h
+
+committed-stages : (b : Bool) (es : List Literal) (g : Goal) → length g ≤ 8 → length (committedBy b es g) ≤ 8
+unfolding committedBy
+committed-stages false es g h = before-stages es g h
+committed-stages true es g h = omega arith
 
 module _ (s : List ℕ) (r c : ℕ) (ok : Right s r c) where
   abbrev pr : Program
@@ -113,7 +118,8 @@ module _ (s : List ℕ) (r c : ℕ) (ok : Right s r c) where
   unfolding goalBy committedBody
   stages-by the-goal k = ask-stages
   stages-by the-guard k = guard-stages k
-  stages-by the-body k = before-stages (outputs (modesAt pr (clauseAt pr k .rel)) (clauseAt pr k .head) (clauseAt pr k .vars)) (clauseAt pr k .body) (body-stages k)
+  stages-by the-body k = committed-stages (isSplit pr (clauseAt pr k)) (outputs (modesAt pr (clauseAt pr k .rel)) (clauseAt pr k .head) (clauseAt pr k .vars)) (clauseAt pr k .body) (body-stages k)
+  stages-by as-written k = body-stages k
 
   goal-short : (z : Spot) → length (goalAt pr z) ≤ 8
   unfolding goalAt
@@ -126,7 +132,7 @@ module _ (s : List ℕ) (r c : ℕ) (ok : Right s r c) where
   -- THE LAW: an accepted image is small enough
   pub right-sized : c ≤ 64 → Sized pr
   right-sized l = record {
-    stage = stage-small s r c ok;
+    members = members-small s r c ok;
     block = block-small s r c ok;
     goal = λ z. let g = goal-short z in omega arith;
     clauses = let n = clause-count in omega arith;

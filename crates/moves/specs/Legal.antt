@@ -4,8 +4,8 @@ use mathlib.Core.List.{List}
 use Prim.Native.Nat.{_<_, _≤_, ℕ}
 use lib.ListN.{length}
 use Rattle.move_plan.specs.Plans.{newMost}
-use Rattle.parlog.specs.Program.{Program, stageAt}
-use Rattle.parlog.specs.Rules.{blockAt}
+use Rattle.parlog.specs.Program.{Program}
+use Rattle.parlog.specs.Rules.{blockAt, members}
 use Rattle.parlog.specs.Tables.{at, State}
 use Rattle.parlog.specs.declared.Binding.{Binding}
 use Rattle.parlog.specs.declared.Process.{Process}
@@ -15,7 +15,7 @@ use Rattle.rules_match.specs.Starts.{EquateThere, MatchThere}
 pub record Able (pr : Program) (vs : List Binding) (x : Process) : Type 0 where
   pub tag : x .tag < 9
   pub mode : x .mode < 6
-  pub members : length (stageAt pr (x .spot)) ≤ newMost
+  pub members : (p : ℕ) → length (members pr p (x .spot)) ≤ newMost
   pub tries : length (blockAt pr (x .spot)) ≤ 8
   pub stage : x .tag ≡ 1 → x .mode ≡ 3 → x .spot .stage < 255
   pub block : x .tag ≡ 3 → x .mode ≡ 3 → x .spot .block < 255

@@ -7,8 +7,8 @@ ghost use Prim.Native.Nat.{_*_, _≤_, _<_};
 ghost use lib.ListN.{length};
 ghost use Rattle.children.specs.Telling.{Tells};
 ghost use Rattle.parlog.specs.Codes.{tagOf};
-ghost use Rattle.parlog.specs.Program.{programOf, stageAt};
-ghost use Rattle.parlog.specs.Rules.{blockAt, ruleOf, startRule, waitRule};
+ghost use Rattle.parlog.specs.Program.{programOf};
+ghost use Rattle.parlog.specs.Rules.{blockAt, members, ruleOf, startRule, waitRule};
 ghost use Rattle.parlog.specs.Tables.{at, cellSize, procsOf, rowSize, State, varsIn};
 ghost use Rattle.parlog.specs.declared.Binding.{Binding};
 ghost use Rattle.move_plan.specs.Plans.{appliedOf, newMost, stateIn, Within};
@@ -29,7 +29,7 @@ fn start_tree(
     p: usize,
     x: Process,
 ) -> Plan
-    requires { ⌜ (rels ≤ 32) × (clauses ≤ 64) × (n ≤ 65535) × (m ≤ 60000) × (p < n) × (x .tag < 9) × (x .tag ≢ 6) × (x .tag ≢ 8) × (length (stageAt (programOf (now image) rels clauses) (x .spot)) ≤ newMost) × (length (blockAt (programOf (now image) rels clauses) (x .spot)) ≤ 8) × Indexed (now image) rels clauses (now ix) ⌝ }
+    requires { ⌜ (rels ≤ 32) × (clauses ≤ 64) × (n ≤ 65535) × (m ≤ 60000) × (p < n) × (x .tag < 9) × (x .tag ≢ 6) × (x .tag ≢ 8) × (length (members (programOf (now image) rels clauses) p (x .spot)) ≤ newMost) × (length (blockAt (programOf (now image) rels clauses) (x .spot)) ≤ 8) × Indexed (now image) rels clauses (now ix) ⌝ }
     ensures { λ r. ⌜ ((s : State) → length (s .procs) ≡ n → length (s .vars) ≡ m → appliedOf r ≡ startRule (tagOf (x .tag)) (programOf (now (image .entry)) rels clauses) s p x) × (r .count ≤ newMost) × (r .changes .count ≡ 0) ⌝ }
 {
     let t = x.tag;

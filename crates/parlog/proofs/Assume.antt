@@ -23,7 +23,7 @@ use Rattle.parlog.specs.Codes.{and-par, and-seq, equate, guard-eval, inp
 use Rattle.parlog.specs.Image.{equality}
 use Rattle.parlog.specs.Limits.{Limits}
 use Rattle.parlog.specs.Notions.{Child, me, Reports}
-use Rattle.parlog.specs.Program.{blockCount, clauseAt, goalAt, literalAt, Program, stageAt, varsOf}
+use Rattle.parlog.specs.Program.{blockCount, clauseAt, goalAt, literalAt, Program, splitAt, stageAt, varsOf}
 use Rattle.parlog.specs.Scan.{implies}
 use Rattle.parlog.specs.TableRules.{allBelow, blockIn, callIn, clauseIn, equalityIn, foundIn, fullSize, goalIn, goingOk, isEquality, literalIn, notesOk, placesOk, stageIn, stateOk, succeeds, tryIn}
 use Rattle.parlog.specs.Tables.{Lent, noted, State}
@@ -32,7 +32,7 @@ use Rattle.parlog.specs.declared.Spot.{Spot}
 
 -- the goal's variables are there
 pub record GoalThere (pr : Program) (n : ℕ) (z : Spot) : Type 0 where
-  pub kind : z .kind < 3
+  pub kind : z .kind < 4
   pub fits : z .base + sizeAt pr z ≤ n
 
 pub record LiteralThere (pr : Program) (n : ℕ) (z : Spot) : Type 0 where
@@ -76,7 +76,7 @@ module _ (pr : Program) (n : ℕ) where
       (λ e. ltb-true (z .stage) (length (goalAt pr z)) e)
       (λ e. let q : getD (goalAt pr z) (z .stage) [] ≡ [] = List·getD-eq-default (goalAt pr z) [] (ltb-false (z .stage) (length (goalAt pr z)) e) in absurd (not-suc-le-zero (rw q at h)))
 
-  module _ (z : Spot) (known : z .kind < 3) where
+  module _ (z : Spot) (known : z .kind < 4) where
     goal-there : goalIn pr n z ≡ true → GoalThere pr n z
     goal-there e = record { kind = known; fits = goal-fits pr n z e }
 
@@ -109,7 +109,9 @@ module _ (pr : Program) (n : ℕ) where
     places-there : (t : Tag) → placesOk t pr n z ≡ true → Assume t pr n z
     unfolding placesOk
     places-there and-par e = let a = and-true (goalIn pr n z) (stageIn pr z) e in (goal-there (a .0), ltb-true (z .stage) (length (goalAt pr z)) (a .1))
-    places-there and-seq e = let a = and-true (goalIn pr n z) (leb (z .stage) (length (goalAt pr z))) e in (goal-there (a .0), leb-true (z .stage) (length (goalAt pr z)) (a .1))
+    places-there and-seq e =
+        let a = and-true (goalIn pr n z) (leb (z .stage) (length (goalAt pr z)) && not (splitAt pr z)) e in
+        (goal-there (a .0), leb-true (z .stage) (length (goalAt pr z)) (and-true (leb (z .stage) (length (goalAt pr z))) (not (splitAt pr z)) (a .1) .0))
     places-there or-par e = call-there e
     places-there seq-search e = call-there e
     places-there or-search e = let a = and-true (callIn pr n z) (blockIn pr z) e in (call-there (a .0), ltb-true (z .block) (blockCount pr (literalAt pr z .rel)) (a .1))

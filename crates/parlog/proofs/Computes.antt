@@ -15,7 +15,7 @@ use Rattle.parlog.proofs.Kin.{all-fail, all-not-any, all-test, any-test
 use Rattle.parlog.proofs.Matched.{matches-complete}
 use Rattle.parlog.proofs.Noted.{bound-noted}
 use Rattle.parlog.proofs.Openers.{block-counted, block-only, clause-counted, no-block-counted, no-clause-counted}
-use Rattle.parlog.proofs.Placed.{called-only, committed-only, first-only, literal-only, members-only, stage-only, works-only}
+use Rattle.parlog.proofs.Placed.{body-tag-only, called-only, first-only, literal-only, members-only, stage-only, works-only}
 use Rattle.parlog.proofs.Says.{agrees-below, agrees-just, agrees-none, there}
 use Rattle.parlog.proofs.Trying.{tries-only}
 use Rattle.parlog.specs.Codes.{and-par, and-seq, dormant, equate, failure, guard-eval, input-match, or-par, or-search, ready, reporting, seq-search, starting, success, suspended, Tag, tagCode, the-body, the-guard, try-clause, waiting}
@@ -139,7 +139,7 @@ module _ (pr : Program) (s : State) (g : Good s) (p : ℕ) where
   computes (stop-rule m e a) = stop-computes m e a
   computes (and-par-start {new = new} i st per f a) =
       let z = stage-only pr (x .spot) st in
-      let w : new ≡ members pr p (x .spot) = members-only pr p (x .spot) (rw z per) in
+      let w : new ≡ members pr p (x .spot) = members-only pr p (x .spot) (g .kinds p) (rw z per) in
       record {
         delta = making (withMode waiting x) Nothing (members pr p (x .spot)) 0;
         rule = by-start and-par i ∙ rw (first-only s p f, w);
@@ -161,10 +161,10 @@ module _ (pr : Program) (s : State) (g : Good s) (p : ℕ) where
   computes (and-seq-failure i h a) = record { delta = report failure x; rule = by-wait and-seq i ∙ rw (hears-bad s p h); state = only-below (at-wait and-seq i) a }
   computes (or-par-start i a) =
       record { delta = making (withMode waiting x) Nothing (newProcess seq-search starting p (callSpot (x .spot)) ∷ []) 0; rule = by-start or-par i; state = only-none (at-start or-par i) a }
-  computes (or-par-spawn {c = c} {g = gl} i h t w a) =
+  computes (or-par-spawn {c = c} {t = k} i h t w a) =
       record {
-        delta = making x (At c) (newProcess (tagOfGoal gl) starting p (goalSpot the-body (spotOf s c .found) (spotOf s c .first)) ∷ []) 0;
-        rule = by-wait or-par i ∙ rw (hears-good s p h, eq-eqb (me s c .tag) (tagCode seq-search) t, committed-only pr (clauseAt pr (spotOf s c .found)) w);
+        delta = making x (At c) (newProcess k starting p (goalSpot the-body (spotOf s c .found) (spotOf s c .first)) ∷ []) 0;
+        rule = by-wait or-par i ∙ rw (hears-good s p h, eq-eqb (me s c .tag) (tagCode seq-search) t, body-tag-only pr (clauseAt pr (spotOf s c .found)) w);
         state = only-just (at-wait or-par i) a;
       }
   computes (or-par-success {c = c} i h t a) =

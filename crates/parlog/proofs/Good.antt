@@ -28,7 +28,7 @@ use Rattle.parlog.specs.declared.Term.the-variants.{Const, Var}
 pub record Good (s : State) : Type 0 where
   pub tags : (i : ℕ) → me s i .tag < 9
   pub modes : (i : ℕ) → me s i .mode < 6
-  pub kinds : (i : ℕ) → spotOf s i .kind < 3
+  pub kinds : (i : ℕ) → spotOf s i .kind < 4
   pub kin : Kin s
   pub makes : {p c : ℕ} → Child s p c → makesTag (tagOf (me s p .tag)) (tagOf (me s c .tag)) ≡ true
   pub falls : Falling (s .vars)
@@ -76,13 +76,13 @@ module _ (lim : Limits) (pr : Program) (s : State) (ok : stateOk lim pr s ≡ tr
   by-row : (P : Process → Type 0) → P idle → ((i : ℕ) → i < n → P (me s i)) → (i : ℕ) → P (me s i)
   by-row P z f i = split (ltb i n) (λ e. f i (ltb-true i n e)) (λ e. rw (List·getD-eq-default (s .procs) idle (ltb-false i n e)) z)
 
-  known-parts : (x : Process) → known x ≡ true → (x .tag < 9) × (x .mode < 6) × (x .spot .kind < 3)
+  known-parts : (x : Process) → known x ≡ true → (x .tag < 9) × (x .mode < 6) × (x .spot .kind < 4)
   unfolding known
   known-parts x e =
       let a = and-true (ltb (x .tag) 9) _ e in
       let b = and-true (ltb (x .mode) 6) _ (a .1) in
       let c = and-true (ltb (x .result) 3) _ (b .1) in
-      (ltb-true (x .tag) 9 (a .0), ltb-true (x .mode) 6 (b .0), ltb-true (x .spot .kind) 3 (c .1))
+      (ltb-true (x .tag) 9 (a .0), ltb-true (x .mode) 6 (b .0), ltb-true (x .spot .kind) 4 (c .1))
 
   kin-lower : (i : ℕ) → i ≢ 0 → (x : Process) → kinOk pr (s .procs) i x ≡ true → (x .parent < i) × (makesTag (tagOf (me s (x .parent) .tag)) (tagOf (x .tag)) ≡ true)
   unfolding kinOk
@@ -93,7 +93,7 @@ module _ (lim : Limits) (pr : Program) (s : State) (ok : stateOk lim pr s ≡ tr
   state-good = record {
     tags = by-row (λ x. x .tag < 9) (omega arith) (λ i h. known-parts (me s i) (row-known i h) .0);
     modes = by-row (λ x. x .mode < 6) (omega arith) (λ i h. known-parts (me s i) (row-known i h) .1);
-    kinds = by-row (λ x. x .spot .kind < 3) (omega arith) (λ i h. known-parts (me s i) (row-known i h) .2);
+    kinds = by-row (λ x. x .spot .kind < 4) (omega arith) (λ i h. known-parts (me s i) (row-known i h) .2);
     kin = record { lower = λ i h o. kin-lower i o (me s i) (row-kin i h) .0 };
     makes = λ {p} {c} d. rw (← d .parent) (kin-lower c (d .other) (me s c) (row-kin c (d .there)) .1);
     falls = rules-fall (s .vars) (both-parts .1);

@@ -17,7 +17,7 @@ use Rattle.parlog.proofs.RowRules.{kind-known, new-row, Row}
 use Rattle.parlog.specs.Codes.{kindOf, starting, tagCode, the-goal}
 use Rattle.parlog.specs.Delta.{apply, Delta}
 use Rattle.parlog.specs.Limits.{Limits}
-use Rattle.parlog.specs.Program.{goalAt, goalBy, Program, tagOfGoal}
+use Rattle.parlog.specs.Program.{goalAt, goalBy, Program, splitAt, splitBy, tagOfGoal}
 use Rattle.parlog.specs.Rules.{Decision, move, moved, room, still}
 use Rattle.parlog.specs.Run.{given, goalEnded, halt, made, procsIn, runFrom, Running, runStep, runTables, runTest, runTurn, stepBy, stepped, Stepping, stepTables, supplied, supplyTables, supplyValue, turnFor, turnTables, turnTo, ungiven, unmade}
 use Rattle.parlog.specs.Sane.{allOf, Sane}
@@ -46,7 +46,7 @@ goalProcess pr = newProcess (tagOfGoal (pr .goal)) starting 0 (goalSpot the-goal
 goal-row : (pr : Program) → Row pr (length (replicate (pr .goalVars) Free)) 0 (goalProcess pr)
 goal-row pr =
     new-row pr (length (replicate (pr .goalVars) Free)) 0 (tagOfGoal (pr .goal)) (goalSpot the-goal 0 0) starting refl (kind-known the-goal)
-    (goal-place pr (length (replicate (pr .goalVars) Free)) the-goal 0 0 (pr .goal) (unfold goalAt goalBy kindOf in refl) (goal-all pr)) 0
+    (goal-place pr (length (replicate (pr .goalVars) Free)) the-goal 0 0 (pr .goal) (unfold goalAt goalBy kindOf in refl) (goal-all pr) (unfold splitAt splitBy kindOf in refl)) 0
 
 goal-kin : (pr : Program) (ps : List Process) → kinOk pr ps 0 (goalProcess pr) ≡ true
 unfolding kinOk newProcess

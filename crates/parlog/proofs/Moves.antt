@@ -15,13 +15,13 @@ use Rattle.parlog.proofs.Coded.{code-tag, mode-code}
 use Rattle.parlog.proofs.Good.{state-good}
 use Rattle.parlog.proofs.Keeps.{apply-keeps, Ruled, Safe, state-facts, state-test}
 use Rattle.parlog.proofs.Kin.{heard-bad, heard-good, lowest-child-at, reports-test}
-use Rattle.parlog.proofs.Made.{block-clauses, new-block, new-body, new-eval, new-guard, new-match, new-members, new-search, new-stage, new-tries, same-at-block, same-at-stage, same-call, same-goal, same-goal-in, same-literal, same-with-clause}
+use Rattle.parlog.proofs.Made.{block-clauses, new-block, new-body, new-eval, new-guard, new-match, new-members, new-search, new-stage, new-tries, same-at-block, same-at-stage, same-call, same-goal, same-goal-in, same-literal, same-split, same-with-clause}
 use Rattle.parlog.proofs.RowRules.{AllNew, call-more, going-quiet, mode-known, notes-none, result-known, result-live, result-told, Row, row-more}
 use Rattle.parlog.specs.Codes.{and-par, and-seq, dormant, equate, failure, guard-eval, input-match, isMode, isResult, isTag, Mode, modeCode, modeOf, none, or-par, or-search, ready, reporting, Result, resultCode, seq-search, starting, success, suspended, Tag, tagCode, tagOf, try-clause, waiting}
 use Rattle.parlog.specs.Delta.{apply, atBlock, atStage, blockSpot, Delta, fourOf, making, only, report, reporting-with, withClause, withMode, withNotes, withResult, withSpot, woken}
 use Rattle.parlog.specs.Limits.{Limits}
 use Rattle.parlog.specs.Notions.{Child, Hears, me, Reports}
-use Rattle.parlog.specs.Program.{blockCount, blockOf, clauseAt, Goal, goalAt, literalAt, Program, stageAt}
+use Rattle.parlog.specs.Program.{blockCount, blockOf, clauseAt, Goal, goalAt, literalAt, Program, splitAt, stageAt}
 use Rattle.parlog.specs.Rules.{andParStart, andParWait, andSeqStart, andSeqWait, Applied, blockAt, bodyChild, by-rule, equateAt, equateStart, fits, guardEvalStart, guardEvalWait, inputMatchStart, matchAt, members, move, moved, no-rule, orParHeard, orParStart, orParWait, orSearchStart, orSearchWait, room, ruleIn, ruleOf, searching, seqSearchNext, seqSearchStart, seqSearchWait, startRule, stopRule, tries, triesVars, tryClauseStart, tryClauseWait, waitRule, wakeRule, withFound, withRoom}
 use Rattle.parlog.specs.Sane.{allOf, Sane}
 use Rattle.parlog.specs.Scan.{implies}
@@ -189,7 +189,7 @@ module _ (lim : Limits) (pr : Program) (sane : Sane pr) (s : State) (p : ℕ) (o
 
   -- ---- starting
 
-  abbrev known : x .spot .kind < 3
+  abbrev known : x .spot .kind < 4
   known = row .numbers .kind
 
   okay-and-par : tagOf (x .tag) ≡ and-par → Okay pr s p (andParStart pr s p x)
@@ -202,7 +202,7 @@ module _ (lim : Limits) (pr : Program) (sane : Sane pr) (s : State) (p : ℕ) (o
   unfolding andSeqStart placesOk goingOk withMode withResult
   okay-and-seq et false e = okay-succeed _ and-seq et refl
   okay-and-seq et true e =
-      let a = and-true (goalIn pr n (x .spot)) (leb (x .spot .stage) (length (goalAt pr (x .spot)))) (places and-seq et) in
+      let a = and-true (goalIn pr n (x .spot)) (leb (x .spot .stage) (length (goalAt pr (x .spot))) && not (splitAt pr (x .spot))) (places and-seq et) in
       okay-wait _ and-seq et _ e (new-stage pr n p (x .spot) known (a .0) e, tt)
 
   okay-or-par : tagOf (x .tag) ≡ or-par → Okay pr s p (orParStart s p x)
@@ -339,12 +339,15 @@ module _ (lim : Limits) (pr : Program) (sane : Sane pr) (s : State) (p : ℕ) (o
   next-stage : tagOf (x .tag) ≡ and-seq → x .mode ≡ modeCode waiting → placesOk and-seq pr n (atStage (suc (x .spot .stage)) (x .spot)) ≡ true
   unfolding placesOk goingOk
   next-stage et em =
-      let a = and-true (goalIn pr n (x .spot)) (leb (x .spot .stage) (length (goalAt pr (x .spot)))) (places and-seq et) in
+      let a = and-true (goalIn pr n (x .spot)) (leb (x .spot .stage) (length (goalAt pr (x .spot))) && not (splitAt pr (x .spot))) (places and-seq et) in
+      let b = and-true (leb (x .spot .stage) (length (goalAt pr (x .spot)))) (not (splitAt pr (x .spot))) (a .1) in
       let left : stageIn pr (x .spot) ≡ true = implies-true (isMode waiting (x .mode)) (stageIn pr (x .spot)) (rw et at (row .going)) (eq-eqb (x .mode) (modeCode waiting) em) in
       let w = same-at-stage (x .spot) (suc (x .spot .stage)) in
-      true-and (goalIn pr n (atStage (suc (x .spot .stage)) (x .spot))) (leb (atStage (suc (x .spot .stage)) (x .spot) .stage) (length (goalAt pr (atStage (suc (x .spot .stage)) (x .spot)))))
-      (same-goal-in pr (x .spot) (atStage (suc (x .spot .stage)) (x .spot)) n w (a .0))
-      (rw (same-goal pr (x .spot) (atStage (suc (x .spot .stage)) (x .spot)) w, at-stage (suc (x .spot .stage)) (x .spot)) (le-leb (suc (x .spot .stage)) (length (goalAt pr (x .spot))) (ltb-true (x .spot .stage) (length (goalAt pr (x .spot))) left)))
+      let z : Spot = atStage (suc (x .spot .stage)) (x .spot) in
+      true-and (goalIn pr n z) (leb (z .stage) (length (goalAt pr z)) && not (splitAt pr z)) (same-goal-in pr (x .spot) z n w (a .0))
+      (true-and (leb (z .stage) (length (goalAt pr z))) (not (splitAt pr z))
+      (rw (same-goal pr (x .spot) z w, at-stage (suc (x .spot .stage)) (x .spot)) (le-leb (suc (x .spot .stage)) (length (goalAt pr (x .spot))) (ltb-true (x .spot .stage) (length (goalAt pr (x .spot))) left)))
+      (rw (same-split pr (x .spot) z w) (b .1)))
 
   okay-next-stage : tagOf (x .tag) ≡ and-seq → x .mode ≡ modeCode waiting → (h : Heard) → heard (s .procs) p ≡ h → Okay pr s p (andSeqWait h p x)
   unfolding andSeqWait

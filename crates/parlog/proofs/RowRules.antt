@@ -10,7 +10,7 @@ use borrow.Author.Tests.{le-leb, leb-true, lt-ltb, ltb-true, ne-eqb}
 use native.Mathlib.Omega.{arith}
 use Rattle.parlog.proofs.Bools.{and-true, never, split, true-and, true-implies}
 use Rattle.parlog.proofs.Coded.{code-tag}
-use Rattle.parlog.specs.Codes.{and-par, and-seq, dormant, equate, failure, guard-eval, input-match, isMode, isResult, Kind, kindCode, kindOf, Mode, modeCode, none, or-par, or-search, ready, reporting, Result, resultCode, seq-search, starting, success, suspended, Tag, tagCode, tagOf, the-body, the-goal, the-guard, try-clause, waiting}
+use Rattle.parlog.specs.Codes.{and-par, and-seq, as-written, dormant, equate, failure, guard-eval, input-match, isMode, isResult, Kind, kindCode, kindOf, Mode, modeCode, none, or-par, or-search, ready, reporting, Result, resultCode, seq-search, starting, success, suspended, Tag, tagCode, tagOf, the-body, the-goal, the-guard, try-clause, waiting}
 use Rattle.parlog.specs.Delta.{asleep, withMode}
 use Rattle.parlog.specs.Program.{Program, varsOf}
 use Rattle.parlog.specs.Scan.{implies}
@@ -45,16 +45,17 @@ result-known none = omega arith
 result-known success = omega arith
 result-known failure = omega arith
 
-pub kind-known : (k : Kind) → kindCode k < 3
+pub kind-known : (k : Kind) → kindCode k < 4
 kind-known the-goal = omega arith
 kind-known the-guard = omega arith
 kind-known the-body = omega arith
+kind-known as-written = omega arith
 
 pub record Known (x : Process) : Type 0 where
   pub tag : x .tag < 9
   pub mode : x .mode < 6
   pub result : x .result < 3
-  pub kind : x .spot .kind < 3
+  pub kind : x .spot .kind < 4
 
 known-facts : (x : Process) → known x ≡ true → Known x
 unfolding known
@@ -62,11 +63,11 @@ known-facts x e =
     let a = and-true (ltb (x .tag) 9) _ e in
     let b = and-true (ltb (x .mode) 6) _ (a .1) in
     let c = and-true (ltb (x .result) 3) _ (b .1) in
-    record { tag = ltb-true (x .tag) 9 (a .0); mode = ltb-true (x .mode) 6 (b .0); result = ltb-true (x .result) 3 (c .0); kind = ltb-true (x .spot .kind) 3 (c .1) }
+    record { tag = ltb-true (x .tag) 9 (a .0); mode = ltb-true (x .mode) 6 (b .0); result = ltb-true (x .result) 3 (c .0); kind = ltb-true (x .spot .kind) 4 (c .1) }
 
 known-test : (x : Process) → Known x → known x ≡ true
 unfolding known
-known-test x k = rw (lt-ltb (x .tag) 9 (k .tag), lt-ltb (x .mode) 6 (k .mode), lt-ltb (x .result) 3 (k .result), lt-ltb (x .spot .kind) 3 (k .kind))
+known-test x k = rw (lt-ltb (x .tag) 9 (k .tag), lt-ltb (x .mode) 6 (k .mode), lt-ltb (x .result) 3 (k .result), lt-ltb (x .spot .kind) 4 (k .kind))
 
 -- ---- a row without its kin
 
@@ -115,6 +116,7 @@ module _ (pr : Program) (m n : ℕ) (h : m ≤ n) where
   goal-by-more the-goal z e = and-more (eqb (z .base) 0) (leb (pr .goalVars) m) (eqb (z .base) 0) (leb (pr .goalVars) n) (λ q. q) (λ q. le-leb (pr .goalVars) n (omega (arith, leb-true (pr .goalVars) m q))) e
   goal-by-more the-guard z e = clause-more (z .clause) (z .base) e
   goal-by-more the-body z e = clause-more (z .clause) (z .base) e
+  goal-by-more as-written z e = clause-more (z .clause) (z .base) e
 
   pub goal-more : (z : Spot) → goalIn pr m z ≡ true → goalIn pr n z ≡ true
   unfolding goalIn
@@ -239,7 +241,7 @@ isNewMode reporting = false
 isNewMode suspended = false
 
 module _ (pr : Program) (n p : ℕ) (t : Tag) (z : Spot) where
-  pub new-row : (m : Mode) → isNewMode m ≡ true → z .kind < 3 → placesOk t pr n z ≡ true → (i : ℕ) → Row pr n i (newProcess t m p z)
+  pub new-row : (m : Mode) → isNewMode m ≡ true → z .kind < 4 → placesOk t pr n z ≡ true → (i : ℕ) → Row pr n i (newProcess t m p z)
   unfolding newProcess
   new-row dormant w k e i = never w
   new-row ready w k e i = record {
@@ -260,5 +262,5 @@ module _ (pr : Program) (n p : ℕ) (t : Tag) (z : Spot) where
   new-row reporting w k e i = never w
   new-row suspended w k e i = never w
 
-  pub new-process : (up : Tag) (m : Mode) → isNewMode m ≡ true → makesTag up t ≡ true → z .kind < 3 → placesOk t pr n z ≡ true → New pr n p up (newProcess t m p z)
+  pub new-process : (up : Tag) (m : Mode) → isNewMode m ≡ true → makesTag up t ≡ true → z .kind < 4 → placesOk t pr n z ≡ true → New pr n p up (newProcess t m p z)
   new-process up m w q k e = record { parent = unfold newProcess in refl; makes = unfold newProcess in rw (code-tag t (tagCode t) refl) q; row = new-row m w k e }

@@ -17,7 +17,7 @@ use Rattle.parlog.proofs.Kin.{all-at, any-at, below-at, below-test, hea
 use Rattle.parlog.proofs.Matched.{matches-sound}
 use Rattle.parlog.proofs.Noted.{note-bound}
 use Rattle.parlog.proofs.Openers.{block-counted, block-is, clause-counted, has-block, has-clause}
-use Rattle.parlog.proofs.Placed.{called-is, committed-is, first-is, literal-is, members-are, stage-is, works-is}
+use Rattle.parlog.proofs.Placed.{body-tag-is, called-is, first-is, literal-is, members-are, stage-is, works-is}
 use Rattle.parlog.proofs.Trying.{tries-are}
 use Rattle.parlog.specs.Codes.{and-par, and-seq, dormant, equate, failure, guard-eval, input-match, isTag, Mode, modeCode, modeOf, or-par, or-search, ready, reporting, Result, seq-search, starting, success, suspended, Tag, tagCode, tagOf, the-guard, try-clause, waiting}
 use Rattle.parlog.specs.Delta.{apply, atBlock, atStage, blockSpot, callSpot, Delta, guardSpot, literalSpot, making, only, reporting-with, trySpot, withMode, withNotes, withResult, withSpot, woken}
@@ -79,7 +79,7 @@ module _ (pr : Program) (s : State) (g : Good s) (p : ℕ) where
     replaces : (c : ℕ) (y : Process) (new : List Process) (n : ℕ) → After s p y (Just c) new [] n (apply s p (making y (At c) new n))
     replaces c y new n = after-apply s p (making y (At c) new n) (Just c) low (agrees-just s p c y new [] n)
 
-  abbrev kind : spotOf s p .kind < 3
+  abbrev kind : spotOf s p .kind < 4
   kind = g .kinds p
 
   -- ---- and-par, try-clause
@@ -118,7 +118,7 @@ module _ (pr : Program) (s : State) (g : Good s) (p : ℕ) where
     unfolding orParHeard bodyChild
     says-or-heard i c h false q = says-rule (or-par-success i h (eqb-false (me s c .tag) (tagCode seq-search) q) (reports-so low success x []))
     says-or-heard i c h true q =
-        says-rule (or-par-spawn i h (eqb-true (me s c .tag) (tagCode seq-search) q) (committed-is pr (clauseAt pr (spotOf s c .found)))
+        says-rule (or-par-spawn i h (eqb-true (me s c .tag) (tagCode seq-search) q) (body-tag-is pr (clauseAt pr (spotOf s c .found)))
         (replaces low c x (bodyChild pr p (spotOf s c .found) (spotOf s c .first) ∷ []) 0))
 
     says-or-wait : Is s p or-par waiting → (h : Heard) → heard (s .procs) p ≡ h → Says pr s p (orParWait h pr s p x)
@@ -237,7 +237,7 @@ module _ (pr : Program) (s : State) (g : Good s) (p : ℕ) where
     says-start : (t : Tag) → Is s p t starting → Says pr s p (startRule t pr s p x)
     unfolding startRule andParStart orParStart orSearchStart blockAt tryClauseStart matchAt matchOf equateAt equateOf
     says-start and-par i =
-        says-rule (and-par-start i (stage-is pr (x .spot) kind) (members-are pr p (x .spot)) (first-is s p (members pr p (x .spot))) (creates low (withMode waiting x) (members pr p (x .spot)) 0))
+        says-rule (and-par-start i (stage-is pr (x .spot) kind) (members-are pr p (x .spot) kind) (first-is s p (members pr p (x .spot))) (creates low (withMode waiting x) (members pr p (x .spot)) 0))
     says-start and-seq i = says-seq-start i (ltb (x .spot .stage) (length (goalAt pr (x .spot)))) refl
     says-start or-par i = says-rule (or-par-start i (creates low (withMode waiting x) (newProcess seq-search starting p (callSpot (x .spot)) ∷ []) 0))
     says-start seq-search i = says-search-start i (ltb 0 (blockCount pr rel)) refl

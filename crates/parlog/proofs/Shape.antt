@@ -2,7 +2,7 @@
 use mathlib.Core.Path.{_≡_, ap, refl}
 use mathlib.Core.Logic.{_≢_}
 use mathlib.Core.Bool.{Bool, false, true}
-use mathlib.Core.List.{[], _∷_, List}
+use mathlib.Core.List.{[], _++_, _∷_, List}
 use Prim.Native.Nat.{_+_, _<_, suc, zero, ℕ}
 use lib.ListN.{length}
 use borrow.Author.Tests.{ne-eqb}
@@ -11,15 +11,16 @@ use native.Mathlib.Nat.{le-of-suc-le-suc, not-suc-le-zero}
 use Rattle.parlog.proofs.Able.{modeAt, tagAt}
 use Rattle.parlog.proofs.Bools.{never}
 use Rattle.parlog.proofs.Kin.{heard-bad, heard-good}
-use Rattle.parlog.proofs.Placed.{members-are}
+use Rattle.parlog.proofs.Placed.{literals-are}
 use Rattle.parlog.proofs.Stays.{Grows, grows-decided}
 use Rattle.parlog.proofs.Values.{Falling}
-use Rattle.parlog.specs.Codes.{and-par, and-seq, dormant, equate, failure, guard-eval, input-match, isLive, Mode, modeCode, modeOf, none, or-par, or-search, ready, reporting, Result, seq-search, starting, success, suspended, Tag, try-clause, waiting}
+use Rattle.parlog.specs.Codes.{and-par, and-seq, as-written, dormant, equate, failure, guard-eval, input-match, isLive, Mode, modeCode, modeOf, none, or-par, or-search, ready, reporting, Result, seq-search, starting, success, suspended, Tag, try-clause, waiting}
 use Rattle.parlog.specs.Delta.{Delta, literalSpot, making, only, report, reporting-with, trySpot, withMode, withNotes, withSpot, woken}
 use Rattle.parlog.specs.Notions.{Hears, me}
-use Rattle.parlog.specs.Program.{Goal, Program, varsOf}
-use Rattle.parlog.specs.Rules.{andParStart, andParWait, andSeqStart, andSeqWait, Applied, bodyChild, by-rule, equateAt, equateStart, guardEvalStart, guardEvalWait, inputMatchStart, matchAt, members, no-rule, orParHeard, orParStart, orParWait, orSearchStart, orSearchWait, ruleIn, ruleOf, searching, seqSearchNext, seqSearchStart, seqSearchWait, startRule, stopRule, tries, tryClauseStart, tryClauseWait, waitRule, wakeRule, withFound}
-use Rattle.parlog.specs.Tables.{at, newProcess, State}
+use Rattle.parlog.specs.Program.{Goal, Program, splitAt, stageAt, varsOf}
+use Rattle.parlog.specs.Rules.{andParStart, andParWait, andSeqStart, andSeqWait, Applied, bodyBeside, bodyChild, by-rule, equateAt, equateStart, guardEvalStart, guardEvalWait, inputMatchStart, matchAt, member, members, no-rule, orParHeard, orParStart, orParWait, orSearchStart, orSearchWait, ruleIn, ruleOf, searching, seqSearchNext, seqSearchStart, seqSearchWait, startRule, stopRule, tries, tryClauseStart, tryClauseWait, waitRule, wakeRule, withFound}
+use Rattle.parlog.specs.Scan.{build}
+use Rattle.parlog.specs.Tables.{at, goalSpot, newProcess, State}
 use Rattle.parlog.specs.Tree.{bad, good, Heard, heard, silent}
 use Rattle.parlog.specs.Unify.{binds, changed, Decided, equateOf, fails, matchOf, suspends}
 use Rattle.parlog.specs.declared.Change.{Change}
@@ -164,10 +165,25 @@ young-starting : (t : Tag) (p : ℕ) (z : Spot) → Young p (newProcess t starti
 unfolding newProcess
 young-starting t p z = record { parent = refl; some = omega arith; early = omega arith }
 
-young-members : (pr : Program) (p : ℕ) (z : Spot) → AllYoung p (members pr p z)
-young-members pr p z j h =
-    let a = members-are pr p z in
+young-append : (p : ℕ) (xs ys : List Process) → AllYoung p xs → AllYoung p ys → AllYoung p (xs ++ ys)
+young-append p [] ys a b j h = b j h
+young-append p (x ∷ xs) ys a b zero h = a 0 (omega arith)
+young-append p (x ∷ xs) ys a b (suc j) h = young-append p xs ys (λ i l. a (suc i) (omega arith)) b j (le-of-suc-le-suc h)
+
+young-literals : (pr : Program) (p : ℕ) (z : Spot) → AllYoung p (build (member pr p z) (length (stageAt pr z)))
+young-literals pr p z j h =
+    let a = literals-are pr p z in
     rw (a .child j (omega (arith, a .count))) (young-ready _ p (literalSpot z j))
+
+young-beside : (b : Bool) (p : ℕ) (z : Spot) → AllYoung p (bodyBeside b p z)
+unfolding bodyBeside
+young-beside false p z j h = absurd (not-suc-le-zero h)
+young-beside true p z zero h = young-ready and-seq p (goalSpot as-written (z .clause) (z .base))
+young-beside true p z (suc j) h = absurd (omega arith)
+
+young-members : (pr : Program) (p : ℕ) (z : Spot) → AllYoung p (members pr p z)
+unfolding members
+young-members pr p z = young-append p (build (member pr p z) (length (stageAt pr z))) (bodyBeside (splitAt pr z) p z) (young-literals pr p z) (young-beside (splitAt pr z) p z)
 
 young-tries : (pr : Program) (p : ℕ) (z : Spot) (v : ℕ) (ks : List ℕ) → AllYoung p (tries pr p z v ks)
 unfolding tries

@@ -5,12 +5,12 @@ use mathlib.Core.List.{[], _++_, _∷_, List}
 use Prim.Native.Nat.{_+_, _<_, _≤_, suc, ℕ}
 use lib.ListN.{getD, length, replicate}
 use Rattle.parlog.specs.Clauses.{HasVars, OutputPlaces}
-use Rattle.parlog.specs.Codes.{dormant, guard-eval, kindCode, Mode, modeCode, ready, reporting, Result, resultCode, Tag, tagCode, the-body, the-goal, the-guard, try-clause}
+use Rattle.parlog.specs.Codes.{and-par, and-seq, as-written, dormant, guard-eval, kindCode, Mode, modeCode, ready, reporting, Result, resultCode, Tag, tagCode, the-body, the-goal, the-guard, try-clause}
 use Rattle.parlog.specs.Delta.{literalSpot, trySpot, withMode, withResult}
 use Rattle.parlog.specs.Image.{equality, inputMode}
 use Rattle.parlog.specs.Listed.{Listed}
-use Rattle.parlog.specs.Program.{Clause, clauseAt, Goal, Literal, modesAt, noLiteral, Program, tagOfLiteral}
-use Rattle.parlog.specs.Tables.{at, bindingOf, newProcess, noted, place, State}
+use Rattle.parlog.specs.Program.{Clause, clauseAt, Goal, Literal, modesAt, noLiteral, Program, tagOfGoal, tagOfLiteral}
+use Rattle.parlog.specs.Tables.{at, bindingOf, goalSpot, newProcess, noted, place, State}
 use Rattle.parlog.specs.Unify.{change, shift}
 use Rattle.parlog.specs.declared.Binding.{Binding}
 use Rattle.parlog.specs.declared.Binding.the-variants.{Bound, Free}
@@ -108,17 +108,35 @@ pub record Outputs (ms : List ℕ) (ts : List Term) (v : ℕ) (es : List Literal
 abbrev pub OutputsOf : Program → Clause → List Literal → Type 0
 OutputsOf pr c es = Outputs (modesAt pr (c .rel)) (c .head) (c .vars) es
 
--- Tags 41: the body of a clause with its equations
-pub data Committed (pr : Program) (c : Clause) : Goal → Type 0 where
-  as-it-stands : OutputsOf pr c [] → Committed pr c (c .body)
-  one-stage : {e : Literal} {es : List Literal} → OutputsOf pr c (e ∷ es) → c .body ≡ [] → Committed pr c ((e ∷ es) ∷ [])
-  in-front : {e : Literal} {es st : List Literal} {g : Goal} → OutputsOf pr c (e ∷ es) → c .body ≡ st ∷ g → Committed pr c ((e ∷ es ++ st) ∷ g)
+-- Tags 42: a clause is split: it has an output argument, and its body more than one stage
+pub record Split (pr : Program) (c : Clause) : Type 0 where
+  pub argument : ℕ
+  pub output : getD (modesAt pr (c .rel)) argument inputMode ≢ inputMode
+  pub several : 1 < length (c .body)
 
--- the goal that z names: the image's, a guard, or a committed body
+-- Tags 41, 42: the body of a clause with its equations, or the equations alone where the clause is split
+pub data Committed (pr : Program) (c : Clause) : Goal → Type 0 where
+  as-it-stands : (Split pr c → ⊥) → OutputsOf pr c [] → Committed pr c (c .body)
+  one-stage : {e : Literal} {es : List Literal} → OutputsOf pr c (e ∷ es) → c .body ≡ [] → Committed pr c ((e ∷ es) ∷ [])
+  in-front : {e : Literal} {es st : List Literal} {g : Goal} → (Split pr c → ⊥) → OutputsOf pr c (e ∷ es) → c .body ≡ st ∷ g → Committed pr c ((e ∷ es ++ st) ∷ g)
+  beside : {es : List Literal} → Split pr c → OutputsOf pr c es → Committed pr c (es ∷ [])
+
+-- Tags 41, 42: the tag of a process for it
+pub data BodyTag (pr : Program) (c : Clause) : Tag → Type 0 where
+  tag-of-goal : {g : Goal} → (Split pr c → ⊥) → Committed pr c g → BodyTag pr c (tagOfGoal g)
+  tag-of-split : Split pr c → BodyTag pr c and-par
+
+-- the goal that z names: the image's, a guard, a committed body, or a body as it is written
 pub data Works (pr : Program) (z : Spot) : Goal → Type 0 where
   in-goal : z .kind ≡ kindCode the-goal → Works pr z (pr .goal)
   in-guard : z .kind ≡ kindCode the-guard → Works pr z (clauseAt pr (z .clause) .guard)
   in-body : {g : Goal} → z .kind ≡ kindCode the-body → Committed pr (clauseAt pr (z .clause)) g → Works pr z g
+  in-written : z .kind ≡ kindCode as-written → Works pr z (clauseAt pr (z .clause) .body)
+
+-- Tags 42: z names the equations of a split clause
+pub record AtSplit (pr : Program) (z : Spot) : Type 0 where
+  pub kind : z .kind ≡ kindCode the-body
+  pub clause : Split pr (clauseAt pr (z .clause))
 
 -- the stage that z names there
 pub record AtStage (pr : Program) (z : Spot) (st : List Literal) : Type 0 where
@@ -260,6 +278,13 @@ pub data FirstMade (s : State) (p : ℕ) : List Process → ℕ → Type 0 where
 pub record PerLiteral (p : ℕ) (z : Spot) (st : List Literal) (new : List Process) : Type 0 where
   pub count : length new ≡ length st
   pub child : (j : ℕ) → j < length st → at new j ≡ newProcess (tagOfLiteral (getD st j noLiteral)) ready p (literalSpot z j)
+
+-- Tags 12, 42: the children of an and-par: one for each literal, and at the equations of a split clause a ready and-seq behind them, for the body
+-- as it is written, of the same clause and with the same variables
+pub data Members (pr : Program) (p : ℕ) (z : Spot) (st : List Literal) : List Process → Type 0 where
+  literals-alone : {new : List Process} → (AtSplit pr z → ⊥) → PerLiteral p z st new → Members pr p z st new
+  and-the-body : {new : List Process} → AtSplit pr z → PerLiteral p z st new
+      → Members pr p z st (new ++ (newProcess and-seq ready p (goalSpot as-written (z .clause) (z .base)) ∷ []))
 
 -- Tags 10, 24: a ready try-clause for each clause, in order; the variables of the first begin at v, those of each other behind those of the one
 -- before, and n are made in all

@@ -5,10 +5,10 @@ use mathlib.Core.List.{[], _∷_, List}
 use Prim.Native.Nat.{_<_, _≤_, suc, ℕ}
 use lib.ListN.{getD, length}
 use Rattle.parlog.specs.Clauses.{Block, HasBlock, HasClause}
-use Rattle.parlog.specs.Codes.{and-par, and-seq, dormant, equate, failure, guard-eval, input-match, or-par, or-search, ready, reporting, seq-search, starting, success, suspended, the-body, the-guard, try-clause, waiting}
+use Rattle.parlog.specs.Codes.{and-par, and-seq, dormant, equate, failure, guard-eval, input-match, or-par, or-search, ready, reporting, seq-search, starting, success, suspended, Tag, the-body, the-guard, try-clause, waiting}
 use Rattle.parlog.specs.Delta.{atBlock, atStage, blockSpot, callSpot, guardSpot, literalSpot, trySpot, withClause, withMode, withNotes, withSpot, woken}
 use Rattle.parlog.specs.Limits.{Limits}
-use Rattle.parlog.specs.Notions.{After, AllReport, AtLiteral, AtStage, Becomes, Committed, Creates, Ends, Fails, FirstMade, HasMode, HasTag, Hears, InputValue, Is, Just, LowestReports, Matches, me, Nobody, NoteBound, Notes, Older, PerLiteral, ReportsWith, SomeReports, Trials, Unifies, Works}
+use Rattle.parlog.specs.Notions.{After, AllReport, AtLiteral, AtStage, Becomes, BodyTag, Creates, Ends, Fails, FirstMade, HasMode, HasTag, Hears, InputValue, Is, Just, LowestReports, Matches, me, Members, Nobody, NoteBound, Notes, Older, ReportsWith, SomeReports, Trials, Unifies, Works}
 use Rattle.parlog.specs.Program.{argument, clauseAt, Goal, Literal, modesAt, Program, tagOfGoal, tagOfStage}
 use Rattle.parlog.specs.Tables.{goalSpot, newProcess, State}
 use Rattle.parlog.specs.Unify.{shift}
@@ -58,9 +58,9 @@ pub data Rule (pr : Program) (s : State) (p : ℕ) : Move → State → Type 0 w
   wake-rule : {s′ : State} → HasMode s p suspended → NoteBound s p → Becomes s p (woken (me s p)) s′ → Rule pr s p (Wake p) s′
   -- rule 3, Tags 38
   stop-rule : {s′ : State} → HasMode s p reporting → p ≡ 0 → Becomes s p (withMode dormant (me s p)) s′ → Rule pr s p (Stop 0) s′
-  -- rule 4, Tags 12
+  -- rule 4, Tags 12, 42
   and-par-start : {s′ : State} {st : List Literal} {new : List Process} {q : ℕ} → Is s p and-par starting → AtStage pr (spotOf s p) st
-      → PerLiteral p (spotOf s p) st new → FirstMade s p new q → After s p (withMode waiting (me s p)) Nobody new [] 0 s′ → Rule pr s p (AndParStart q) s′
+      → Members pr p (spotOf s p) st new → FirstMade s p new q → After s p (withMode waiting (me s p)) Nobody new [] 0 s′ → Rule pr s p (AndParStart q) s′
   -- rule 5, Tags 13
   and-par-success : {s′ : State} → Is s p and-par waiting → AllReport s p success → Ends s p success s′ → Rule pr s p (AndParSuccess p) s′
   -- rule 6, Tags 13
@@ -79,8 +79,8 @@ pub data Rule (pr : Program) (s : State) (p : ℕ) : Move → State → Type 0 w
   or-par-start : {s′ : State} → Is s p or-par starting → Creates s p (withMode waiting (me s p)) Nobody (newProcess seq-search starting p (callSpot (spotOf s p))) s′
       → Rule pr s p (OrParStart (length (s .procs))) s′
   -- rule 12, Tags 18
-  or-par-spawn : {s′ : State} {c : ℕ} {g : Goal} → Is s p or-par waiting → Hears s p c success → HasTag s c seq-search → Committed pr (clauseAt pr (spotOf s c .found)) g
-      → Creates s p (me s p) (Just c) (newProcess (tagOfGoal g) starting p (goalSpot the-body (spotOf s c .found) (spotOf s c .first))) s′ → Rule pr s p (OrParSpawn (length (s .procs))) s′
+  or-par-spawn : {s′ : State} {c : ℕ} {t : Tag} → Is s p or-par waiting → Hears s p c success → HasTag s c seq-search → BodyTag pr (clauseAt pr (spotOf s c .found)) t
+      → Creates s p (me s p) (Just c) (newProcess t starting p (goalSpot the-body (spotOf s c .found) (spotOf s c .first))) s′ → Rule pr s p (OrParSpawn (length (s .procs))) s′
   -- rule 13, Tags 19
   or-par-success : {s′ : State} {c : ℕ} → Is s p or-par waiting → Hears s p c success → (HasTag s c seq-search → ⊥) → Ends s p success s′ → Rule pr s p (OrParSuccess p) s′
   -- rule 14, Tags 20

@@ -1,13 +1,13 @@
 -- The 35 rules as one function: which rule applies to a process, what it touches and what it changes.
 use mathlib.Core.Bool.{_&&_, Bool, cond, false, true}
-use mathlib.Core.List.{[], _∷_, List}
+use mathlib.Core.List.{[], _++_, _∷_, List}
 use Prim.Native.Nat.{_+_, suc, zero, ℕ}
 use lib.Dec.{leb, ltb}
 use lib.ListN.{getD, length}
-use Rattle.parlog.specs.Codes.{and-par, and-seq, dormant, equate, failure, guard-eval, input-match, isTag, Mode, modeOf, or-par, or-search, ready, reporting, seq-search, starting, success, suspended, Tag, tagOf, the-body, the-guard, try-clause, waiting}
+use Rattle.parlog.specs.Codes.{and-par, and-seq, as-written, dormant, equate, failure, guard-eval, input-match, isTag, Mode, modeOf, or-par, or-search, ready, reporting, seq-search, starting, success, suspended, Tag, tagOf, the-body, the-guard, try-clause, waiting}
 use Rattle.parlog.specs.Delta.{atBlock, atStage, blockSpot, callSpot, Delta, guardSpot, literalSpot, making, nextRow, only, report, reporting-with, trySpot, withClause, withMode, withNotes, withSpot, woken}
 use Rattle.parlog.specs.Limits.{Limits}
-use Rattle.parlog.specs.Program.{argument, blockCount, blockOf, callModes, clauseAt, committedBody, Goal, goalAt, literalAt, noLiteral, Program, stageAt, tagOfGoal, tagOfLiteral, tagOfStage, varsOf}
+use Rattle.parlog.specs.Program.{argument, blockCount, blockOf, bodyTag, callModes, clauseAt, committedBody, Goal, goalAt, isSplit, literalAt, noLiteral, Program, splitAt, stageAt, tagOfGoal, tagOfLiteral, tagOfStage, varsOf}
 use Rattle.parlog.specs.Scan.{build}
 use Rattle.parlog.specs.Tables.{at, goalSpot, newProcess, noted, State}
 use Rattle.parlog.specs.Tree.{allChildren, anyChild, bad, enclosing, firstOf, good, Heard, heard, lowestChild, silent}
@@ -53,9 +53,14 @@ memberTag pr z j = tagOfLiteral (getD (stageAt pr z) j noLiteral)
 unfoldable pub member : Program → ℕ → Spot → ℕ → Process
 member pr p z j = newProcess (memberTag pr z j) ready p (literalSpot z j)
 
--- Tags 12: one for each, in order
+-- Tags 10, 42: the process for the body of a split clause, as it is written
+unfoldable pub bodyBeside : Bool → ℕ → Spot → List Process
+bodyBeside false p z = []
+bodyBeside true p z = newProcess and-seq ready p (goalSpot as-written (z .clause) (z .base)) ∷ []
+
+-- Tags 12, 42: one for each, in order, and that for the body behind the equations of a split clause
 unfoldable pub members : Program → ℕ → Spot → List Process
-members pr p z = build (member pr p z) (length (stageAt pr z))
+members pr p z = build (member pr p z) (length (stageAt pr z)) ++ bodyBeside (splitAt pr z) p z
 
 -- Tags 12: starts all of them
 unfoldable pub andParStart : Program → State → ℕ → Process → Applied
@@ -87,9 +92,9 @@ andSeqWait (bad c) p x = by-rule (AndSeqFailure p) (report failure x)
 unfoldable pub orParStart : State → ℕ → Process → Applied
 orParStart s p x = by-rule (OrParStart (nextRow s)) (making (withMode waiting x) Nothing (newProcess seq-search starting p (callSpot (x .spot)) ∷ []) 0)
 
--- Tags 11, 18: the process for what the clause leaves to do
+-- Tags 11, 18, 42: the process for what the clause leaves to do
 unfoldable pub bodyChild : Program → ℕ → ℕ → ℕ → Process
-bodyChild pr p k v = newProcess (tagOfGoal (committedBody pr (clauseAt pr k))) starting p (goalSpot the-body k v)
+bodyChild pr p k v = newProcess (bodyTag (isSplit pr (clauseAt pr k)) (committedBody pr (clauseAt pr k))) starting p (goalSpot the-body k v)
 
 -- Tags 18, 19: a clause was found, or its body is done
 unfoldable pub orParHeard : Bool → Program → State → ℕ → Process → ℕ → Applied

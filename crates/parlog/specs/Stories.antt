@@ -1,4 +1,4 @@
--- Sixteen runs told in full and computed from the bytes of their images: every turn with its process, its rule and the number of what it touched,
+-- Seventeen runs told in full and computed from the bytes of their images: every turn with its process, its rule and the number of what it touched,
 -- then end, processes, bindings and notes. They shut out machines that change what function and relation of the rules share, and together
 -- make every rule.
 use mathlib.Core.Path.{_≡_}
@@ -264,11 +264,11 @@ nested =
 abbrev pub nestedTurns : List Turn
 nestedTurns =
     turn 0 4 1 ∷ turn 1 1 1 ∷ turn 2 1 2 ∷ turn 1 11 3 ∷ turn 2 33 0 ∷ turn 3 16 4 ∷ turn 4 20 5 ∷ turn 5 1 5 ∷ turn 5 23 6
-    ∷ turn 6 1 6 ∷ turn 7 1 7 ∷ turn 6 26 3 ∷ turn 7 29 7 ∷ turn 5 24 5 ∷ turn 4 21 4 ∷ turn 3 18 3 ∷ turn 1 12 8 ∷ turn 8 7 9
-    ∷ turn 9 4 10 ∷ turn 10 1 10 ∷ turn 11 1 11 ∷ turn 10 33 2 ∷ turn 11 11 12 ∷ turn 12 16 13 ∷ turn 13 20 14 ∷ turn 14 1 14
+    ∷ turn 6 1 6 ∷ turn 7 1 7 ∷ turn 6 26 3 ∷ turn 7 29 7 ∷ turn 5 24 5 ∷ turn 4 21 4 ∷ turn 3 18 3 ∷ turn 1 12 8 ∷ turn 8 4 9
+    ∷ turn 9 1 9 ∷ turn 10 1 10 ∷ turn 9 33 2 ∷ turn 10 7 11 ∷ turn 11 11 12 ∷ turn 12 16 13 ∷ turn 13 20 14 ∷ turn 14 1 14
     ∷ turn 14 23 15 ∷ turn 15 1 15 ∷ turn 16 1 16 ∷ turn 15 26 5 ∷ turn 16 29 16 ∷ turn 14 24 14 ∷ turn 13 21 13 ∷ turn 12 18 12
-    ∷ turn 11 12 17 ∷ turn 17 33 1 ∷ turn 11 13 11 ∷ turn 9 5 9 ∷ turn 8 8 8 ∷ turn 8 7 18 ∷ turn 18 33 18 ∷ turn 8 8 8 ∷ turn 8 9 8
-    ∷ turn 1 13 1 ∷ turn 0 5 0 ∷ turn 0 3 0 ∷ []
+    ∷ turn 11 12 17 ∷ turn 17 33 1 ∷ turn 11 13 11 ∷ turn 10 8 10 ∷ turn 10 7 18 ∷ turn 18 33 18 ∷ turn 10 8 10 ∷ turn 10 9 10
+    ∷ turn 8 5 8 ∷ turn 1 13 1 ∷ turn 0 5 0 ∷ turn 0 3 0 ∷ []
 
 -- t(1,2,3,260), asked of four variables, the last of which is then supplied as 260
 abbrev pub fourNotes : List ℕ
@@ -282,6 +282,38 @@ abbrev pub fourNotesTurns : List Turn
 fourNotesTurns =
     turn 0 11 1 ∷ turn 1 16 2 ∷ turn 2 20 3 ∷ turn 3 1 3 ∷ turn 3 23 4 ∷ turn 4 1 4 ∷ turn 5 1 5 ∷ turn 4 28 0 ∷ turn 5 29 5
     ∷ turn 4 2 4 ∷ turn 4 28 0 ∷ []
+
+-- q(?), r(^), t, u: q(B) <- r(B) :, r(5) <- t & u, t, u, asked q(A)
+abbrev pub splitBody : List ℕ
+splitBody =
+    6 ∷ 0 ∷ 1 ∷ 0 ∷ 1 ∷ 0
+    ∷ 6 ∷ 0 ∷ 1 ∷ 0 ∷ 1 ∷ 1
+    ∷ 5 ∷ 0 ∷ 1 ∷ 0 ∷ 0
+    ∷ 5 ∷ 0 ∷ 1 ∷ 0 ∷ 0
+    ∷ 17 ∷ 0 ∷ 2 ∷ 0 ∷ 0 ∷ 1 ∷ 0 ∷ 1 ∷ 0 ∷ 128 ∷ 1 ∷ 1 ∷ 1 ∷ 1 ∷ 0 ∷ 128 ∷ 0
+    ∷ 18 ∷ 0 ∷ 2 ∷ 0 ∷ 1 ∷ 1 ∷ 0 ∷ 0 ∷ 5 ∷ 0 ∷ 0 ∷ 2 ∷ 1 ∷ 2 ∷ 0 ∷ 1 ∷ 3 ∷ 0
+    ∷ 10 ∷ 0 ∷ 2 ∷ 0 ∷ 2 ∷ 0 ∷ 0 ∷ 0 ∷ 0 ∷ 0
+    ∷ 10 ∷ 0 ∷ 2 ∷ 0 ∷ 3 ∷ 0 ∷ 0 ∷ 0 ∷ 0 ∷ 0
+    ∷ 11 ∷ 0 ∷ 3 ∷ 0 ∷ 1 ∷ 1 ∷ 1 ∷ 0 ∷ 1 ∷ 0 ∷ 128 ∷ []
+
+-- 61 turns, and it waits: the equation of r's clause is suspended inside the guard, and t and u are done
+abbrev pub splitBodyTurns : List Turn
+splitBodyTurns =
+    turn 0 11 1 ∷ turn 1 16 2 ∷ turn 2 20 3 ∷ turn 3 1 3 ∷ turn 3 23 4 ∷ turn 4 1 4 ∷ turn 5 1 5 ∷ turn 4 26 1 ∷ turn 5 30 6
+    ∷ turn 6 11 7 ∷ turn 7 16 8 ∷ turn 8 20 9 ∷ turn 9 1 9 ∷ turn 9 23 10 ∷ turn 10 1 10 ∷ turn 11 1 11 ∷ turn 10 26 2
+    ∷ turn 11 29 11 ∷ turn 9 24 9 ∷ turn 8 21 8 ∷ turn 7 18 7 ∷ turn 6 12 12 ∷ turn 12 4 13 ∷ turn 13 1 13 ∷ turn 14 1 14
+    ∷ turn 13 35 0 ∷ turn 14 7 15 ∷ turn 15 11 16 ∷ turn 16 16 17 ∷ turn 17 20 18 ∷ turn 18 1 18 ∷ turn 18 23 19 ∷ turn 19 1 19
+    ∷ turn 20 1 20 ∷ turn 19 26 19 ∷ turn 20 29 20 ∷ turn 18 24 18 ∷ turn 17 21 17 ∷ turn 16 18 16 ∷ turn 15 12 21
+    ∷ turn 21 9 21 ∷ turn 15 13 15 ∷ turn 14 8 14 ∷ turn 14 7 22 ∷ turn 22 11 23 ∷ turn 23 16 24 ∷ turn 24 20 25 ∷ turn 25 1 25
+    ∷ turn 25 23 26 ∷ turn 26 1 26 ∷ turn 27 1 27 ∷ turn 26 26 26 ∷ turn 27 29 27 ∷ turn 25 24 25 ∷ turn 24 21 24
+    ∷ turn 23 18 23 ∷ turn 22 12 28 ∷ turn 28 9 28 ∷ turn 22 13 22 ∷ turn 14 8 14 ∷ turn 14 9 14 ∷ []
+
+-- 12 more once A is supplied as 5
+-- shuts out: equations that hold up a stage of their body; a lone equation without its and-par; a body that starts at once, or before them
+abbrev pub splitBodyMore : List Turn
+splitBodyMore =
+    turn 13 2 13 ∷ turn 13 33 13 ∷ turn 12 5 12 ∷ turn 6 13 6 ∷ turn 5 31 5 ∷ turn 3 24 3 ∷ turn 2 21 2 ∷ turn 1 18 1
+    ∷ turn 0 12 29 ∷ turn 29 9 29 ∷ turn 0 13 0 ∷ turn 0 3 0 ∷ []
 
 -- ---- the stories
 
@@ -304,6 +336,8 @@ StoriesTold =
     × (tell inAndOut [] ≡ told inAndOutTurns Success 12 (Bound (Const 6) ∷ Free ∷ Bound (Var 0) ∷ Bound (Var 0) ∷ []) [])
     × (tell nested [] ≡ told nestedTurns Success 19 (Bound (Const 3) ∷ Bound (Const 7) ∷ Bound (Var 1) ∷ Bound (Const 3) ∷ Bound (Var 1) ∷ Bound (Var 1) ∷ []) [])
     × (tell fourNotes (give 3 260 ∷ []) ≡ told fourNotesTurns Waiting 6 (Free ∷ Free ∷ Free ∷ Bound (Const 260) ∷ []) ((0 ∷ 1 ∷ 2 ∷ []) ∷ []))
+    × (tell splitBody [] ≡ told splitBodyTurns Waiting 29 (Free ∷ Bound (Var 0) ∷ Bound (Var 0) ∷ []) ((0 ∷ []) ∷ []))
+    × (tell splitBody (give 0 5 ∷ []) ≡ told (splitBodyTurns ++ splitBodyMore) Success 30 (Bound (Const 5) ∷ Bound (Var 0) ∷ Bound (Var 0) ∷ []) [])
 
 -- ---- every rule is made
 

@@ -4,10 +4,10 @@ use mathlib.Core.List.{[], _∷_, List}
 use Prim.Native.Nat.{_*_, _+_, suc, zero, ℕ}
 use lib.Dec.{eqb, leb, ltb}
 use lib.ListN.{length}
-use Rattle.parlog.specs.Codes.{and-par, and-seq, dormant, equate, guard-eval, input-match, isMode, isOneOf, isResult, isTag, Kind, kindCode, kindOf, none, or-par, or-search, reporting, seq-search, success, suspended, Tag, tagCode, tagOf, the-body, the-goal, the-guard, try-clause, waiting}
+use Rattle.parlog.specs.Codes.{and-par, and-seq, as-written, dormant, equate, guard-eval, input-match, isMode, isOneOf, isResult, isTag, Kind, kindCode, kindOf, none, or-par, or-search, reporting, seq-search, success, suspended, Tag, tagCode, tagOf, the-body, the-goal, the-guard, try-clause, waiting}
 use Rattle.parlog.specs.Image.{equality, mostConstant}
 use Rattle.parlog.specs.Limits.{Limits}
-use Rattle.parlog.specs.Program.{blockCount, clauseAt, goalAt, Literal, literalAt, Program, stageAt, tagOfGoal, varsOf}
+use Rattle.parlog.specs.Program.{blockCount, clauseAt, goalAt, Literal, literalAt, Program, splitAt, stageAt, tagOfGoal, varsOf}
 use Rattle.parlog.specs.Scan.{every, implies}
 use Rattle.parlog.specs.Tables.{at, bindingOf, cellSize, headSize, Lent, noted, numberAt, rank, rowSize, sortAt, State, Tables, tablesIn, varCount}
 use Rattle.parlog.specs.declared.Binding.{Binding}
@@ -28,7 +28,7 @@ countsOk lim pr s =
 
 -- Tables 3b: every number in a row stands for something
 unfoldable pub known : Process → Bool
-known x = ltb (x .tag) 9 && (ltb (x .mode) 6 && (ltb (x .result) 3 && ltb (x .spot .kind) 3))
+known x = ltb (x .tag) 9 && (ltb (x .mode) 6 && (ltb (x .result) 3 && ltb (x .spot .kind) 4))
 
 -- ---- results
 
@@ -52,7 +52,7 @@ goalTags = and-seq ∷ stageTags
 
 -- Tables 3e: the tags of the processes that a tag's rules make
 abbrev pub tagsMade : Tag → List Tag
-tagsMade and-par = literalTags
+tagsMade and-par = and-seq ∷ literalTags
 tagsMade and-seq = stageTags
 tagsMade or-par = seq-search ∷ goalTags
 tagsMade seq-search = or-search ∷ []
@@ -82,6 +82,7 @@ unfoldable pub goalInBy : Kind → Program → ℕ → Spot → Bool
 goalInBy the-goal pr n z = eqb (z .base) 0 && leb (pr .goalVars) n
 goalInBy the-guard pr n z = clauseIn pr n (z .clause) (z .base)
 goalInBy the-body pr n z = clauseIn pr n (z .clause) (z .base)
+goalInBy as-written pr n z = clauseIn pr n (z .clause) (z .base)
 
 -- Tables 3j: the goal that z names
 unfoldable pub goalIn : Program → ℕ → Spot → Bool
@@ -119,10 +120,10 @@ foundIn pr n z = clauseIn pr n (z .found) (z .first)
 unfoldable pub tryIn : Program → ℕ → Spot → Bool
 tryIn pr n z = foundIn pr n z && eqb (clauseAt pr (z .found) .rel) (literalAt pr z .rel)
 
--- Tables 3f: what the rules of a tag read
+-- Tables 3f, 3g: what the rules of a tag read; no and-seq is at the equations of a split clause
 unfoldable pub placesOk : Tag → Program → ℕ → Spot → Bool
 placesOk and-par pr n z = goalIn pr n z && stageIn pr z
-placesOk and-seq pr n z = goalIn pr n z && leb (z .stage) (length (goalAt pr z))
+placesOk and-seq pr n z = goalIn pr n z && (leb (z .stage) (length (goalAt pr z)) && not (splitAt pr z))
 placesOk or-par pr n z = callIn pr n z
 placesOk seq-search pr n z = callIn pr n z
 placesOk or-search pr n z = callIn pr n z && blockIn pr z

@@ -50,6 +50,9 @@ pub const THE_GUARD: u8 = 1;
 
 pub const THE_BODY: u8 = 2;
 
+// The body as it is written, which runs beside its equations where the clause is split.
+pub const AS_WRITTEN: u8 = 3;
+
 // ---- what a variable row holds
 
 pub const UNBOUND: u8 = 0;

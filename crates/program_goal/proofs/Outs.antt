@@ -7,9 +7,10 @@ use lib.Dec.{eqb, ltb}
 use lib.ListN.{getD, length}
 use borrow.Author.Tests.{eqb-false, eqb-true, ltb-false, ltb-true, ne-eqb}
 use native.Mathlib.Omega.{arith}
+use native.Mathlib.Nat.{le-of-suc-le-suc, not-suc-le-zero}
 use Rattle.parlog.proofs.Bools.{never}
 use Rattle.parlog.specs.Image.{byteAt, isInput, modeEnd, recordEnd, termAt}
-use Rattle.parlog.specs.Program.{equation, Literal, modesOf, noLiteral, outputs}
+use Rattle.parlog.specs.Program.{equation, Literal, modesOf, noLiteral, outCount, outputs}
 use Rattle.parlog.specs.Scan.{listOf, those}
 use Rattle.parlog.specs.declared.Term.{Term}
 use Rattle.program_clause.proofs.Turns.{item-by, size-by}
@@ -119,6 +120,19 @@ few-terms s (suc n) (suc m) mat tat v h =
 few : (s : List ℕ) (n m mat tat v : ℕ) (b : Bool) → ltb m n ≡ b → outsOf s n mat m tat v ≡ outsOf s (cond b m n) mat (cond b m n) tat v
 few s n m mat tat v true e = let h = ltb-true m n e in few-terms s n m mat tat v (omega arith)
 few s n m mat tat v false e = few-modes s n m mat tat v (ltb-false m n e)
+
+-- ---- one for each output argument, where the head has a term for each argument
+
+pub outs-whole : (ms : List ℕ) (ts : List Term) (v : ℕ) → length ms ≤ length ts → length (outputs ms ts v) ≡ outCount ms
+unfolding outputs outCount
+outs-whole [] ts v h = refl
+outs-whole (m ∷ ms) [] v h = absurd (not-suc-le-zero h)
+outs-whole (m ∷ ms) (t ∷ ts) v h = go (isInput m) (outs-whole ms ts v (le-of-suc-le-suc h)) (outs-whole ms ts (suc v) (le-of-suc-le-suc h))
+  where
+    go : (b : Bool) → length (outputs ms ts v) ≡ outCount ms → length (outputs ms ts (suc v)) ≡ outCount ms
+        → length (cond b (outputs ms ts v) (equation t v ∷ outputs ms ts (suc v))) ≡ cond b (outCount ms) (suc (outCount ms))
+    go true a o = a
+    go false a o = ap suc o
 
 -- ---- the ways through outs_before
 

@@ -1,12 +1,12 @@
 -- A literal as the reads hand it on, and a goal where it stands.
-use mathlib.Core.Bool.{Bool, cond, false, true}
+use mathlib.Core.Bool.{_&&_, Bool, cond, false, true}
 use mathlib.Core.List.{[], List}
 use Prim.Native.Nat.{_+_, _≤_, suc, zero, ℕ}
-use lib.Dec.{eqb}
+use lib.Dec.{eqb, ltb}
 use lib.ListN.{getD, length}
 use Rattle.parlog.specs.Codes.{equate, or-par, tagCode}
 use Rattle.parlog.specs.Image.{byteAt, equality, modeEnd, recordEnd, stageEnd, termAt, termEnd}
-use Rattle.parlog.specs.Program.{before, Goal, Literal, modesOf, outputs, stageOf}
+use Rattle.parlog.specs.Program.{before, clauseAt, Goal, Literal, modesAt, modesOf, outCount, outputs, Program, stageOf}
 use Rattle.parlog.specs.Scan.{listOf}
 use Rattle.parlog.specs.declared.Term.the-variants.{Const}
 use Rattle.program_goal.specs.declared.Home.{Home}
@@ -44,6 +44,10 @@ front true (suc i) s r at = []
 -- the goal that stands there
 unfoldable pub goalIn : List ℕ → ℕ → Home → Goal
 goalIn s r h = before (front (h .body) 0 s r (h .clause)) (stagesOf s (h .stages) (h .at))
+
+-- clause k has an output argument, and so many stages are more than one
+unfoldable pub splitsWith : Program → ℕ → ℕ → Bool
+splitsWith pr k n = ltb 0 (outCount (modesAt pr (clauseAt pr k .rel))) && ltb 1 n
 
 -- bounds of its places
 abbrev pub Near : Home → Type 0

@@ -12,8 +12,8 @@ ghost use lib.Dec.{eqb, ltb};
 ghost use lib.ListN.{length, getD};
 ghost use Rattle.parlog.specs.Codes.{kindOf, tagCode};
 ghost use Rattle.parlog.specs.Image.{bodyAt, byteAt, guardAt, recordAt, termAt};
-ghost use Rattle.parlog.specs.Program.{noLiteral, equation, literalOf, programOf, goalBy, stageAt, literalAt, tagOfLiteral, tagOfStage, tagOfGoal};
-ghost use Rattle.program_goal.specs.Parts.{shown, front, goalIn, Near, stagesOf, relationTag};
+ghost use Rattle.parlog.specs.Program.{noLiteral, equation, literalOf, programOf, goalBy, stageAt, literalAt, tagOfLiteral, tagOfStage, tagOfGoal, bodyTag, clauseAt, committedBody, isSplit, splitBy};
+ghost use Rattle.program_goal.specs.Parts.{shown, front, goalIn, Near, stagesOf, relationTag, splitsWith};
 
 // A literal: its relation, its arity, and the four arguments that it may have.
 pub struct Lit {
@@ -125,7 +125,54 @@ fn part_place(
     program_index::body_at(s, rels, clauses, ix, k)
 }
 
-// The goal that kind and k name: the image's goal, the guard of clause k, or its committed body.
+// Clause k, whose record stands at a place, has an output argument, and there is more than one stage.
+fn splits(
+    s: &[u8],
+    rels: usize,
+    clauses: usize,
+    ix: &[u16; program_index::SIZE],
+    k: usize,
+    clause: usize,
+    stages: usize,
+) -> bool
+    requires { ⌜ (rels ≤ 32) × (clauses ≤ 64) × (k < clauses) × (clause ≡ recordAt (now s) (rels + k)) × (clause ≤ 65535) × Indexed (now s) rels clauses (now ix) ⌝ }
+    ensures { λ r. ⌜ r ≡ splitsWith (programOf (now (s .entry)) rels clauses) k stages ⌝ }
+{
+    let vars = program_index::vars_at(s, rels, clauses, ix, k);
+    let own = place::byte_at(s, clause + codes::CLAUSE_VARS);
+    basics::and(own < vars, 1 < stages)
+}
+
+// The goal that kind and k name is the equations of a split clause.
+pub fn split_by(
+    s: &[u8],
+    rels: usize,
+    clauses: usize,
+    ix: &[u16; program_index::SIZE],
+    kind: u8,
+    k: u8,
+) -> bool
+    requires { ⌜ (rels ≤ 32) × (clauses ≤ 64) × Indexed (now s) rels clauses (now ix) ⌝ }
+    ensures { λ r. ⌜ r ≡ splitBy (kindOf kind) (programOf (now (s .entry)) rels clauses) k ⌝ }
+{
+    let number = k as usize;
+    if basics::or(kind != codes::THE_BODY, clauses <= number) {
+        return false;
+    }
+    let clause = program_index::record_at(s, rels, clauses, ix, rels + number);
+    let at = program_index::body_at(s, rels, clauses, ix, number);
+    let stages = place::byte_at(s, at);
+    splits(s, rels, clauses, ix, number, clause, stages)
+}
+
+// The stages that stand behind the equations: none where the body runs beside them.
+fn stages_left(apart: bool, stages: usize) -> usize
+    ensures { λ r. ⌜ (r ≡ cond apart 0 stages) × (r ≤ stages) ⌝ }
+{
+    if apart { 0 } else { stages }
+}
+
+// The goal that kind and k name: the image's goal, the guard of clause k, its committed body, or its body as it is written.
 fn goal_home(
     s: &[u8],
     rels: usize,
@@ -159,10 +206,12 @@ fn goal_home(
     let clause = program_index::record_at(s, rels, clauses, ix, rels + number);
     let at = part_place(s, rels, clauses, ix, number, clause, kind);
     let stages = place::byte_at(s, at);
+    let body = kind == codes::THE_BODY;
+    let apart = basics::and(body, splits(s, rels, clauses, ix, number, clause, stages));
     Home {
-        stages,
+        stages: stages_left(apart, stages),
         at: at + 1,
-        body: kind != codes::THE_GUARD,
+        body,
         clause,
     }
 }
@@ -384,6 +433,23 @@ pub fn tag_of_goal(
         return codes::AND_SEQ;
     }
     stage_tag(s, rels, clauses, ix, h, 0)
+}
+
+// The tag of a process for the committed body of clause k.
+pub fn tag_of_body(
+    s: &[u8],
+    rels: usize,
+    clauses: usize,
+    ix: &[u16; program_index::SIZE],
+    k: u8,
+) -> u8
+    requires { ⌜ (rels ≤ 32) × (clauses ≤ 64) × Indexed (now s) rels clauses (now ix) ⌝ }
+    ensures { λ r. ⌜ (r ≡ tagCode (bodyTag (isSplit (programOf (now (s .entry)) rels clauses) (clauseAt (programOf (now (s .entry)) rels clauses) k)) (committedBody (programOf (now (s .entry)) rels clauses) (clauseAt (programOf (now (s .entry)) rels clauses) k)))) × (r ≤ 8) ⌝ }
+{
+    if split_by(s, rels, clauses, ix, codes::THE_BODY, k) {
+        return codes::AND_PAR;
+    }
+    tag_of_goal(s, rels, clauses, ix, codes::THE_BODY, k)
 }
 
 // ---- the stage and the literal that a process names

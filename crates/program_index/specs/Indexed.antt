@@ -4,9 +4,9 @@ use mathlib.Core.Bool.{false}
 use mathlib.Core.List.{List}
 use Prim.Native.Nat.{_+_, _<_, _≤_, ℕ}
 use lib.Dec.{eqb}
-use lib.ListN.{getD}
+use lib.ListN.{getD, length}
 use Rattle.parlog.specs.Image.{bodyAt, recordAt}
-use Rattle.parlog.specs.Program.{blockCount, clauseAt, Program, programOf, varsOf}
+use Rattle.parlog.specs.Program.{blockCount, clauseAt, modesAt, Program, programOf, varsOf}
 use Rattle.parlog.specs.declared.Loaded.{Loaded}
 use Rattle.parlog.specs.declared.Loaded.the-variants.{Accepted, Refused}
 
@@ -46,6 +46,10 @@ Early pr q n = (k : ℕ) → k < n → eqb (clauseAt pr k .rel) q ≡ false
 abbrev pub Behind : Program → ℕ → ℕ → ℕ → Type 0
 Behind pr q c n = (k : ℕ) → n ≤ k → k < c → eqb (clauseAt pr k .rel) q ≡ false
 
+-- each clause has a term in its head for every argument of its relation
+abbrev pub Headed : Program → Type 0
+Headed pr = (k : ℕ) → length (modesAt pr (clauseAt pr k .rel)) ≤ length (clauseAt pr k .head)
+
 -- a place for each record; of each clause its new variables and the place of its body; of each relation its blocks and the range of its clauses
 pub record Indexed (s : List ℕ) (r c : ℕ) (ix : List ℕ) : Type 0 where
   pub place : (k : ℕ) → k ≤ r + c → getD ix k 0 ≡ recordAt s k
@@ -60,6 +64,7 @@ pub record Indexed (s : List ℕ) (r c : ℕ) (ix : List ℕ) : Type 0 where
   pub first-few : (q : ℕ) → q < r → getD ix (firstFrom + q) 0 ≤ c
   pub behind : (q : ℕ) → q < r → Behind (programOf s r c) q c (getD ix (behindFrom + q) 0)
   pub behind-few : (q : ℕ) → q < r → getD ix (behindFrom + q) 0 ≤ c
+  pub heads : Headed (programOf s r c)
 
 -- that of an image that is accepted
 abbrev pub IndexedOf : Loaded → List ℕ → List ℕ → Type 0

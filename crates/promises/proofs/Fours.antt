@@ -1,7 +1,7 @@
 -- Every process has four notes, as its row does: in the tables that bytes hold, and after every move and supply.
 use mathlib.Core.Path.{_≡_, refl}
 use mathlib.Core.Bool.{_&&_, _||_, Bool, false, true}
-use mathlib.Core.List.{[], _∷_, List}
+use mathlib.Core.List.{[], _++_, _∷_, List}
 use Prim.Native.Nat.{_+_, _-_, _≤_, suc, zero, ℕ}
 use lib.Dec.{eqb, ltb}
 use lib.ListN.{length}
@@ -10,15 +10,15 @@ use native.Mathlib.Omega.{arith}
 use Rattle.parlog.proofs.Bools.{split}
 use Rattle.parlog.proofs.Effects.{apply-new, apply-row}
 use Rattle.parlog.proofs.Steps.{step-made, turn-made}
-use Rattle.parlog.specs.Codes.{and-par, and-seq, dormant, equate, failure, guard-eval, input-match, Mode, modeOf, or-par, or-search, ready, reporting, Result, seq-search, starting, success, suspended, Tag, try-clause, waiting}
+use Rattle.parlog.specs.Codes.{and-par, and-seq, as-written, dormant, equate, failure, guard-eval, input-match, Mode, modeOf, or-par, or-search, ready, reporting, Result, seq-search, starting, success, suspended, Tag, try-clause, waiting}
 use Rattle.parlog.specs.Delta.{apply, asleep, Delta, fourOf, isAt, literalSpot, making, only, report, reporting-with, rowAfter, trySpot, withMode, withNotes, withResult, withSpot, woken}
 use Rattle.parlog.specs.Demands.{no-more, once-more, Repeats}
 use Rattle.parlog.specs.Limits.{Limits}
-use Rattle.parlog.specs.Program.{Goal, Program, stageAt, varsOf}
-use Rattle.parlog.specs.Rules.{andParStart, andParWait, andSeqStart, andSeqWait, Applied, bodyChild, by-rule, equateStart, guardEvalStart, guardEvalWait, inputMatchStart, member, members, no-rule, orParHeard, orParStart, orParWait, orSearchStart, orSearchWait, ruleIn, ruleOf, searching, seqSearchNext, seqSearchStart, seqSearchWait, startRule, stopRule, tries, tryClauseStart, tryClauseWait, waitRule, wakeRule, withFound}
+use Rattle.parlog.specs.Program.{Goal, Program, splitAt, stageAt, varsOf}
+use Rattle.parlog.specs.Rules.{andParStart, andParWait, andSeqStart, andSeqWait, Applied, bodyBeside, bodyChild, by-rule, equateStart, guardEvalStart, guardEvalWait, inputMatchStart, member, members, no-rule, orParHeard, orParStart, orParWait, orSearchStart, orSearchWait, ruleIn, ruleOf, searching, seqSearchNext, seqSearchStart, seqSearchWait, startRule, stopRule, tries, tryClauseStart, tryClauseWait, waitRule, wakeRule, withFound}
 use Rattle.parlog.specs.Run.{made, stepped, stepTables, supplied}
 use Rattle.parlog.specs.Scan.{build}
-use Rattle.parlog.specs.Tables.{at, Lent, newProcess, procCount, State, Tables, tablesIn}
+use Rattle.parlog.specs.Tables.{at, goalSpot, Lent, newProcess, procCount, State, Tables, tablesIn}
 use Rattle.parlog.specs.Tree.{bad, below, good, Heard, silent}
 use Rattle.parlog.specs.Unify.{binds, Decided, fails, suspends}
 use Rattle.parlog.specs.declared.Change.{Change}
@@ -69,9 +69,20 @@ four-member : (pr : Program) (p : ℕ) (z : Spot) (j : ℕ) → Four (member pr 
 unfolding member
 four-member pr p z j = four-new _ ready p (literalSpot z j)
 
+four-append : (ys zs : List Process) → FourRows ys → FourRows zs → FourRows (ys ++ zs)
+four-append [] zs a b = b
+four-append (y ∷ ys) zs (four-first f a) b = four-first f (four-append ys zs a b)
+
+four-beside : (b : Bool) (p : ℕ) (z : Spot) → FourRows (bodyBeside b p z)
+unfolding bodyBeside
+four-beside false p z = four-none
+four-beside true p z = four-one _ (four-new and-seq ready p (goalSpot as-written (z .clause) (z .base)))
+
 four-members : (pr : Program) (p : ℕ) (z : Spot) → FourRows (members pr p z)
 unfolding members
-four-members pr p z = four-build (member pr p z) (four-member pr p z) (length (stageAt pr z))
+four-members pr p z =
+    four-append (build (member pr p z) (length (stageAt pr z))) (bodyBeside (splitAt pr z) p z)
+    (four-build (member pr p z) (four-member pr p z) (length (stageAt pr z))) (four-beside (splitAt pr z) p z)
 
 four-tries : (pr : Program) (p : ℕ) (z : Spot) (v : ℕ) (ks : List ℕ) → FourRows (tries pr p z v ks)
 unfolding tries

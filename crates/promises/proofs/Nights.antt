@@ -38,7 +38,7 @@ use Rattle.rows.specs.Rows.{Bytes}
 use Rattle.saved.proofs.Back.{saved-again}
 use Rattle.saved.proofs.Formed.{bad-read, formed-read, read-bad, read-formed}
 use Rattle.saved.specs.Form.{savedBytes}
-use Rattle.saved.specs.Formed.{BadSaved, no-record, saved-body, saved-cut, saved-kind}
+use Rattle.saved.specs.Formed.{BadSaved, no-record, saved-body, saved-cut, saved-former, saved-kind, saved-rule}
 use Rattle.saved.specs.Reading.{readSaved}
 use Rattle.saved.specs.Restored.{countsAgree, headIn, imageLength, resumedLent}
 use Rattle.saved.specs.declared.Reading.{Reading}
@@ -119,13 +119,15 @@ saved-front s l row w row′ k = rw (k .size, k .bytes) (take-append-seam (saved
 
 -- ---- a resume
 
-bad-saved-numbered : {x : List ℕ} {n o : ℕ} → BadSaved x n o → (1 ≤ n) × (n ≤ 15)
+bad-saved-numbered : {x : List ℕ} {n o : ℕ} → BadSaved x n o → (1 ≤ n) × (n ≤ 18)
 bad-saved-numbered (no-record e) = (omega arith, omega arith)
 bad-saved-numbered (saved-cut b h w) = (omega arith, omega arith)
 bad-saved-numbered (saved-kind b h w k) = (omega arith, omega arith)
-bad-saved-numbered (saved-body b h w k f) = (omega arith, omega arith)
+bad-saved-numbered (saved-former h w f) = (omega arith, omega arith)
+bad-saved-numbered (saved-body b h w k a f) = (omega arith, omega arith)
+bad-saved-numbered (saved-rule h w k e n) = (omega arith, omega arith)
 
-resume-numbered : {lim : Limits} {s : List ℕ} {l : Lent} {x : List ℕ} {n o : ℕ} → ResumeRefused lim s l x n o → (1 ≤ n) × (n ≤ 15)
+resume-numbered : {lim : Limits} {s : List ℕ} {l : Lent} {x : List ℕ} {n o : ℕ} → ResumeRefused lim s l x n o → (1 ≤ n) × (n ≤ 18)
 resume-numbered (resume-image b) = let a = refused-number b in (a .0, omega (arith, a .1))
 resume-numbered (resume-record i b) = bad-saved-numbered b
 resume-numbered (is-foreign i f n) = (omega arith, omega arith)
@@ -230,7 +232,7 @@ module _ (lim : Limits) (s : List ℕ) (l : Lent) (x : List ℕ) where
         load (Accepted r c) e = read r c e (readSaved x) refl
 
     -- Saved 5 to 9: refused exactly where there is a reason, and then every lent byte is as it was
-    pub demand-1-resume : Refusing 15 (ResumeRefused lim s l x) l w l′
+    pub demand-1-resume : Refusing 18 (ResumeRefused lim s l x) l w l′
     demand-1-resume = refusing w (λ n o y. resume-numbered y) (omega arith) resume-word (go resuming-so) resume-kept
       where
         go : Resuming → Answered (ResumeRefused lim s l x) w

@@ -2,7 +2,7 @@
 use mathlib.Core.Path.{refl}
 use Rattle.parlog.proofs.Opened.{opened}
 use Rattle.parlog.specs.Cases.{emptyGoal}
-use Rattle.refusals.specs.CallInstances.{BytesShown, CountsTested, ImageFirst, NumbersTested, PlacesTested, RoomTold, RowsTested, SizesTested, StepsTold, SuppliesTold, WordsShown}
+use Rattle.refusals.specs.CallInstances.{BytesShown, CountsTested, ImageFirst, NumbersTested, PlacesTested, RoomTold, RowsTested, SizesTested, SplitTested, StepsTold, SuppliesTold, WordsShown}
 use Rattle.refusals.specs.Instances.{BodiesRefused, CutsAndKindsRefused, LongsRefused, ManyRefused, NamesRefused, OrderOfTests, times}
 
 -- ---- refusals 1 to 7
@@ -43,7 +43,7 @@ counts = (refl, refl, refl, refl, refl, refl)
 
 pub numbers : NumbersTested
 unfolding opened
-numbers = (refl, refl, refl, refl, refl, refl, refl, refl, refl)
+numbers = (refl, refl, refl, refl, refl, refl, refl, refl, refl, refl)
 
 pub rows : RowsTested
 unfolding opened
@@ -52,6 +52,10 @@ rows = (refl, refl, refl, refl, refl, refl, refl)
 pub places : PlacesTested
 unfolding opened
 places = (refl, refl, refl, refl, refl, refl, refl, refl, refl, refl, refl)
+
+pub splits : SplitTested
+unfolding opened
+splits = (refl, refl, refl, refl)
 
 pub steps : StepsTold
 unfolding opened

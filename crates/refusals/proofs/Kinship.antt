@@ -14,31 +14,16 @@ use Rattle.parlog.proofs.Coded.{code-tag, tag-code}
 use Rattle.parlog.specs.Codes.{and-par, and-seq, dormant, equate, guard-eval, input-match, isMode, isOneOf, isResult, isTag, kindCode, modeCode, none, or-par, or-search, reporting, resultCode, seq-search, suspended, Tag, tagCode, tagOf, the-goal, try-clause}
 use Rattle.parlog.specs.Notions.{me}
 use Rattle.parlog.specs.Program.{Program, tagOfGoal}
-use Rattle.parlog.specs.TableRules.{allBelow, bindingOk, goalTags, kinOk, literalTags, stageTags, makesTag, notesOk, resultOk}
+use Rattle.parlog.specs.TableRules.{allBelow, bindingOk, goalTags, kinOk, makesTag, notesOk, resultOk, stageTags}
 use Rattle.parlog.specs.Tables.{noted, State}
 use Rattle.parlog.specs.declared.Binding.{Binding}
 use Rattle.parlog.specs.declared.Binding.the-variants.{Bound, Free}
 use Rattle.parlog.specs.declared.Process.{Process}
 use Rattle.parlog.specs.declared.Term.the-variants.{Const, Var}
 use Rattle.refusals.proofs.Tests.{and-too, at-most, Decides, either, equal, if-so, not-that}
-use Rattle.refusals.specs.Ruled.{a-call-tag, an-equality-tag, for-block, for-body, for-guard, for-search, for-stage, goal-sleeps, GoalProcess, GoalTag, HasParent, in-sequence, it-reports, LiteralTag, MakesTag, more-literals, MustTell, one-literal, only-stage, per-clause, per-literal, StageTag, to-guard, to-match}
+use Rattle.refusals.specs.Ruled.{a-call-tag, an-equality-tag, for-block, for-body, for-guard, for-search, for-stage, for-whole-body, goal-sleeps, GoalProcess, GoalTag, HasParent, in-sequence, it-reports, MakesTag, more-literals, MustTell, one-literal, only-stage, per-clause, per-literal, StageTag, to-guard, to-match}
 
 -- ---- which tags a tag makes
-
-literal-tag : (t : Tag) → isOneOf literalTags t ≡ true → LiteralTag t
-literal-tag and-par e = never e
-literal-tag and-seq e = never e
-literal-tag or-par e = a-call-tag
-literal-tag seq-search e = never e
-literal-tag or-search e = never e
-literal-tag try-clause e = never e
-literal-tag input-match e = never e
-literal-tag guard-eval e = never e
-literal-tag equate e = an-equality-tag
-
-tag-literal : {t : Tag} → LiteralTag t → isOneOf literalTags t ≡ true
-tag-literal a-call-tag = refl
-tag-literal an-equality-tag = refl
 
 stage-tag : (t : Tag) → isOneOf stageTags t ≡ true → StageTag t
 stage-tag and-par e = more-literals
@@ -118,8 +103,19 @@ trial-makes input-match e = to-match
 trial-makes guard-eval e = to-guard
 trial-makes equate e = never e
 
+members-make : (t : Tag) → makesTag and-par t ≡ true → MakesTag and-par t
+members-make and-par e = never e
+members-make and-seq e = for-whole-body
+members-make or-par e = per-literal a-call-tag
+members-make seq-search e = never e
+members-make or-search e = never e
+members-make try-clause e = never e
+members-make input-match e = never e
+members-make guard-eval e = never e
+members-make equate e = per-literal an-equality-tag
+
 makes-to : (a t : Tag) → makesTag a t ≡ true → MakesTag a t
-makes-to and-par t e = per-literal (literal-tag t e)
+makes-to and-par t e = members-make t e
 makes-to and-seq t e = for-stage (stage-tag t e)
 makes-to or-par t e = call-makes t e
 makes-to seq-search t e = search-makes t e
@@ -130,7 +126,9 @@ makes-to guard-eval t e = for-guard (goal-tag t e)
 makes-to equate t e = never e
 
 makes-from : {a t : Tag} → MakesTag a t → makesTag a t ≡ true
-makes-from (per-literal l) = tag-literal l
+makes-from (per-literal a-call-tag) = refl
+makes-from (per-literal an-equality-tag) = refl
+makes-from for-whole-body = refl
 makes-from (for-stage g) = tag-stage g
 makes-from for-search = refl
 makes-from (for-body {t} g) = or-right (isTag seq-search (tagCode t)) (isOneOf goalTags t) (tag-goal g)

@@ -8,15 +8,16 @@ use borrow.Author.Tests.{eq-eqb, eqb-false, eqb-true, le-leb, leb-true, lt-ltb, 
 use native.Mathlib.Omega.{arith}
 use Rattle.parlog.proofs.Bools.{and-true, true-and}
 use Rattle.parlog.proofs.Openers.{block-counted, has-block}
-use Rattle.parlog.proofs.Placed.{stage-is, stage-only, works-is, works-only}
+use Rattle.parlog.proofs.Placed.{at-split, at-split-test, stage-is, stage-only, works-is, works-only}
 use Rattle.parlog.proofs.Trying.{vars-are, vars-only}
 use Rattle.parlog.specs.Codes.{and-par, and-seq, equate, guard-eval, input-match, kindOf, or-par, or-search, seq-search, Tag, try-clause}
 use Rattle.parlog.specs.Image.{equality}
-use Rattle.parlog.specs.Program.{blockCount, clauseAt, goalAt, literalAt, Program, stageAt, varsOf}
+use Rattle.parlog.specs.Notions.{AtSplit}
+use Rattle.parlog.specs.Program.{blockCount, clauseAt, goalAt, literalAt, Program, splitAt, stageAt, varsOf}
 use Rattle.parlog.specs.TableRules.{blockIn, callIn, clauseIn, equalityIn, foundIn, goalIn, goalInBy, isEquality, literalIn, placesOk, stageIn, tryIn}
 use Rattle.parlog.specs.declared.Spot.{Spot}
-use Rattle.refusals.proofs.Tests.{and-too, at-most, Decides, less}
-use Rattle.refusals.specs.Ruled.{BlockUsed, CallUsed, ClauseUsed, GoalUsed, LiteralUsed, of-body, of-guard, of-image, Places, StageNamed, TrialUsed}
+use Rattle.refusals.proofs.Tests.{and-too, at-most, Decides, less, not-that}
+use Rattle.refusals.specs.Ruled.{BlockUsed, CallUsed, ClauseUsed, GoalUsed, LiteralUsed, of-body, of-guard, of-image, of-written, Places, StageNamed, TrialUsed}
 
 module _ (pr : Program) (n : ℕ) where
   pub clause-used : (k v : ℕ) → Decides (clauseIn pr n k v) (ClauseUsed pr n k v)
@@ -28,20 +29,22 @@ module _ (pr : Program) (n : ℕ) where
       )
 
   module _ (z : Spot) where
-    goal-used-to : (q : ℕ) → z .kind ≡ q → q < 3 → goalIn pr n z ≡ true → GoalUsed pr n z
+    goal-used-to : (q : ℕ) → z .kind ≡ q → q < 4 → goalIn pr n z ≡ true → GoalUsed pr n z
     unfolding goalIn goalInBy kindOf
     goal-used-to zero e h f =
         let a = and-true (eqb (z .base) 0) (leb (pr .goalVars) n) (rw e at f) in
         of-image e (eqb-true (z .base) 0 (a .0)) (leb-true (pr .goalVars) n (a .1))
     goal-used-to (suc zero) e h f = of-guard e (clause-used (z .clause) (z .base) .0 (rw e at f))
     goal-used-to (suc (suc zero)) e h f = of-body e (clause-used (z .clause) (z .base) .0 (rw e at f))
-    goal-used-to (suc (suc (suc q))) e h f = absurd (omega arith)
+    goal-used-to (suc (suc (suc zero))) e h f = of-written e (clause-used (z .clause) (z .base) .0 (rw e at f))
+    goal-used-to (suc (suc (suc (suc q)))) e h f = absurd (omega arith)
 
     goal-used-from : GoalUsed pr n z → goalIn pr n z ≡ true
     unfolding goalIn goalInBy kindOf
     goal-used-from (of-image e b v) = rw e (true-and (eqb (z .base) 0) (leb (pr .goalVars) n) (eq-eqb (z .base) 0 b) (le-leb (pr .goalVars) n v))
     goal-used-from (of-guard e c) = rw e (clause-used (z .clause) (z .base) .1 c)
     goal-used-from (of-body e c) = rw e (clause-used (z .clause) (z .base) .1 c)
+    goal-used-from (of-written e c) = rw e (clause-used (z .clause) (z .base) .1 c)
 
     literal-relation : {r : ℕ} → LiteralUsed pr n z r → literalAt pr z .rel ≡ r
     unfolding literalAt
@@ -53,7 +56,7 @@ module _ (pr : Program) (n : ℕ) where
         true-and (goalIn pr n z) (ltb (z .literal) (length (stageAt pr z))) (goal-used-from (l .goal))
         (rw (stage-only pr z (l .in-stage)) (lt-ltb (z .literal) (length (l .stage)) (l .there)))
 
-    module _ (known : z .kind < 3) where
+    module _ (known : z .kind < 4) where
       goal-used : Decides (goalIn pr n z) (GoalUsed pr n z)
       goal-used = (goal-used-to (z .kind) refl known, goal-used-from)
 
@@ -68,6 +71,9 @@ module _ (pr : Program) (n : ℕ) where
         λ e. record { goal = goalAt pr z; works = works-is pr z known; there = omega (arith, leb-true (z .stage) (length (goalAt pr z)) e) },
         λ c. let h = c .there in rw (works-only pr z (c .works)) (le-leb (z .stage) (length (c .goal)) (omega arith)),
       )
+
+      unsplit : Decides (not (splitAt pr z)) (AtSplit pr z → ⊥)
+      unsplit = not-that (splitAt pr z) (at-split pr z known, at-split-test pr z)
 
       literal-to : literalIn pr n z ≡ true → LiteralUsed pr n z (literalAt pr z .rel)
       unfolding literalIn literalAt
@@ -124,7 +130,9 @@ module _ (pr : Program) (n : ℕ) where
       pub places-right : (t : Tag) → Decides (placesOk t pr n z) (Places t pr n z)
       unfolding placesOk
       places-right and-par = and-too (goalIn pr n z) (stageIn pr z) goal-used stage-named
-      places-right and-seq = and-too (goalIn pr n z) (leb (z .stage) (length (goalAt pr z))) goal-used stage-or-past
+      places-right and-seq =
+          and-too (goalIn pr n z) (leb (z .stage) (length (goalAt pr z)) && not (splitAt pr z)) goal-used
+          (and-too (leb (z .stage) (length (goalAt pr z))) (not (splitAt pr z)) stage-or-past unsplit)
       places-right or-par = call-used
       places-right seq-search = call-used
       places-right or-search = block-used

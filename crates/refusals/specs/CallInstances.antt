@@ -1,4 +1,4 @@
--- Refusals 8 to 14 computed from bytes: each once at least, table rules broken by one byte (all but 3g and parts of 3h), limits at and past them, a row's bytes and words.
+-- Refusals 8 to 14 computed from bytes: each once at least, table rules broken by one byte (all but parts of 3g and 3h), limits at and past them, a row's bytes and words.
 use mathlib.Core.Path.{_≡_}
 use mathlib.Core.List.{[], _++_, _∷_, List}
 use Prim.Native.Nat.{_*_, _+_, ℕ}
@@ -92,7 +92,8 @@ NumbersTested =
     Breaks (inRow 5 0 9)
     × Breaks (inRow 5 1 6)
     × Breaks (inRow 5 2 3)
-    × Breaks (inRow 5 6 3)
+    × Keeps (inRow 5 6 3) (Var 0)
+    × Breaks (inRow 5 6 4)
     × Breaks (inCell 3 0 0 0)
     × Breaks (inCell 0 1 0 0)
     × Keeps (inCell 1 255 127 0) (Const 32767)
@@ -124,6 +125,28 @@ PlacesTested =
     × Breaks (inRow 4 3 5)
     × Keeps (inRow 4 3 4) (Var 0)
     × Breaks (inRow 4 16 1)
+
+-- mode s(^), s(5) <- 1 = 1 & 1 = 1, goal s(A): a split clause
+abbrev pub splitAsked : List ℕ
+splitAsked =
+    6 ∷ 0 ∷ 1 ∷ 0 ∷ 1 ∷ 1
+    ∷ 26 ∷ 0 ∷ 2 ∷ 0 ∷ 0 ∷ 1 ∷ 0 ∷ 0 ∷ 5 ∷ 0 ∷ 0 ∷ 2 ∷ 1 ∷ 255 ∷ 2 ∷ 1 ∷ 0 ∷ 1 ∷ 0 ∷ 1 ∷ 255 ∷ 2 ∷ 1 ∷ 0 ∷ 1 ∷ 0
+    ∷ 11 ∷ 0 ∷ 3 ∷ 0 ∷ 1 ∷ 1 ∷ 1 ∷ 0 ∷ 1 ∷ 0 ∷ 128 ∷ []
+
+-- its tables when process 6 has just been made for the equations, with another tag and another goal kind there
+abbrev pub spawned : ℕ → ℕ → Lent
+spawned tag kind =
+    lent (runCall tiny splitAsked (begun tiny splitAsked) 13 .lent .head)
+    (set (set (runCall tiny splitAsked (begun tiny splitAsked) 13 .lent .procs) (6 * rowSize) tag) (6 * rowSize + 6) kind)
+    (runCall tiny splitAsked (begun tiny splitAsked) 13 .lent .vars)
+
+-- Tables 3g: an and-par and an equate are there, no and-seq; at the body as it is written an and-seq is
+abbrev pub SplitTested : Type 0
+SplitTested =
+    (valueCall tiny splitAsked (spawned 0 2) 0 ≡ Value (Var 0))
+    × (valueCall tiny splitAsked (spawned 8 2) 0 ≡ Value (Var 0))
+    × (valueCall tiny splitAsked (spawned 1 2) 0 ≡ Unvalued (refusal 8 0))
+    × (valueCall tiny splitAsked (spawned 1 3) 0 ≡ Value (Var 0))
 
 -- ---- 9 to 14
 

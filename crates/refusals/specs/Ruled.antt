@@ -6,9 +6,9 @@ use mathlib.Core.List.{List}
 use Prim.Native.Nat.{_*_, _+_, _<_, _≤_, ℕ}
 use lib.ListN.{getD, length}
 use Rattle.parlog.specs.Clauses.{HasBlock, HasVars}
-use Rattle.parlog.specs.Codes.{and-par, and-seq, dormant, equate, guard-eval, input-match, kindCode, none, or-par, or-search, reporting, resultCode, seq-search, success, suspended, Tag, tagCode, the-body, the-goal, the-guard, try-clause, waiting}
+use Rattle.parlog.specs.Codes.{and-par, and-seq, as-written, dormant, equate, guard-eval, input-match, kindCode, none, or-par, or-search, reporting, resultCode, seq-search, success, suspended, Tag, tagCode, the-body, the-goal, the-guard, try-clause, waiting}
 use Rattle.parlog.specs.Limits.{Limits}
-use Rattle.parlog.specs.Notions.{AtStage, HasMode, HasTag, Is, me, Reports, Works}
+use Rattle.parlog.specs.Notions.{AtSplit, AtStage, HasMode, HasTag, Is, me, Reports, Works}
 use Rattle.parlog.specs.Program.{clauseAt, Goal, Literal, noLiteral, Program, tagOfGoal}
 use Rattle.parlog.specs.Tables.{bindingOf, cellSize, headSize, Lent, noted, numberAt, rank, rowSize, sortAt, State, Tables, tablesIn, varCount}
 use Rattle.parlog.specs.declared.Binding.the-variants.{Bound}
@@ -23,7 +23,7 @@ pub record RowKnown (x : Process) : Type 0 where
   pub tag : x .tag < 9
   pub mode : x .mode < 6
   pub result : x .result < 3
-  pub kind : x .spot .kind < 3
+  pub kind : x .spot .kind < 4
 
 -- Tables 3c: it reports, or is process 0 and dormant
 pub data MustTell (s : State) (i : ℕ) : Type 0 where
@@ -56,6 +56,7 @@ pub data GoalTag : Tag → Type 0 where
 -- Tables 3e: which tags the rules of a tag make
 pub data MakesTag : Tag → Tag → Type 0 where
   per-literal : {t : Tag} → LiteralTag t → MakesTag and-par t
+  for-whole-body : MakesTag and-par and-seq
   for-stage : {t : Tag} → StageTag t → MakesTag and-seq t
   for-search : MakesTag or-par seq-search
   for-body : {t : Tag} → GoalTag t → MakesTag or-par t
@@ -83,11 +84,12 @@ pub record ClauseUsed (pr : Program) (n k v : ℕ) : Type 0 where
   pub has : HasVars pr k vars
   pub used : v + vars ≤ n
 
--- Tables 3j: the goal that z names is there, and its variables: the image's, a guard, or a committed body
+-- Tables 3j: the goal that z names is there, and its variables: the image's, a guard, a committed body, or a body as it is written
 pub data GoalUsed (pr : Program) (n : ℕ) (z : Spot) : Type 0 where
   of-image : z .kind ≡ kindCode the-goal → z .base ≡ 0 → pr .goalVars ≤ n → GoalUsed pr n z
   of-guard : z .kind ≡ kindCode the-guard → ClauseUsed pr n (z .clause) (z .base) → GoalUsed pr n z
   of-body : z .kind ≡ kindCode the-body → ClauseUsed pr n (z .clause) (z .base) → GoalUsed pr n z
+  of-written : z .kind ≡ kindCode as-written → ClauseUsed pr n (z .clause) (z .base) → GoalUsed pr n z
 
 -- Tables 3f, 3j: a stage of that goal, or with `past` the one behind the last too
 pub record StageNamed (pr : Program) (z : Spot) (past : ℕ) : Type 0 where
@@ -124,10 +126,10 @@ pub record TrialUsed (pr : Program) (n : ℕ) (z : Spot) : Type 0 where
   pub clause : ClauseUsed pr n (z .found) (z .first)
   pub same : clauseAt pr (z .found) .rel ≡ relation
 
--- Tables 3f: what the rules of a tag read
+-- Tables 3f, 3g: what the rules of a tag read; no and-seq is at the equations of a split clause
 abbrev pub Places : Tag → Program → ℕ → Spot → Type 0
 Places and-par pr n z = GoalUsed pr n z × StageNamed pr z 0
-Places and-seq pr n z = GoalUsed pr n z × StageNamed pr z 1
+Places and-seq pr n z = GoalUsed pr n z × (StageNamed pr z 1 × (AtSplit pr z → ⊥))
 Places or-par pr n z = CallUsed pr n z
 Places seq-search pr n z = CallUsed pr n z
 Places or-search pr n z = BlockUsed pr n z

@@ -31,7 +31,7 @@ abbrev pub calledCode : ℕ → ℕ → Bool
 calledCode up t = cond (eqb up 2) (eqb t 3 || goalCode t) (cond (eqb up 3) (eqb t 4) (searchedCode up t))
 
 abbrev pub makesCode : ℕ → ℕ → Bool
-makesCode up t = cond (eqb up 0) (literalCode t) (cond (eqb up 1) (literalCode t || eqb t 0) (calledCode up t))
+makesCode up t = cond (eqb up 0) (eqb t 1 || literalCode t) (cond (eqb up 1) (literalCode t || eqb t 0) (calledCode up t))
 
 -- a number from 8 on is none below it
 off : (n k : ℕ) → k < 8 → eqb (suc (suc (suc (suc (suc (suc (suc (suc n)))))))) k ≡ false
@@ -82,7 +82,7 @@ only-tag t k h = tag-test t k h ∙ sym (or-none (eqb (tagCode (tagOf t)) k))
 
 pub makes-code : (up t : ℕ) → makesCode up t ≡ makesTag (tagOf up) (tagOf t)
 unfolding tagOf
-makes-code zero t = literal-code t
+makes-code zero t = ap₂ (λ a b. a || b) (tag-test t 1 (omega arith)) (literal-code t)
 makes-code (suc zero) t = or-comm (literalCode t) (eqb t 0) ∙ ap₂ (λ a b. a || b) (tag-test t 0 (omega arith)) (literal-code t)
 makes-code (suc (suc zero)) t = ap₂ (λ a b. a || b) (tag-test t 3 (omega arith)) (goal-code t)
 makes-code (suc (suc (suc zero))) t = only-tag t 4 (omega arith)

@@ -16,7 +16,7 @@ const MODES: u8 = codes::SUSPENDED + 1;
 
 const RESULTS: u8 = codes::FAILURE + 1;
 
-const KINDS: u8 = codes::THE_BODY + 1;
+const KINDS: u8 = codes::AS_WRITTEN + 1;
 
 const MOST_CONSTANT: usize = codes::MOST_CONSTANT as usize;
 
@@ -31,7 +31,7 @@ pub fn implies(a: bool, b: bool) -> bool
 
 // Every number stands for something.
 pub fn known(tag: u8, mode: u8, result: u8, kind: u8) -> bool
-    ensures { λ r. ⌜ r ≡ (ltb tag 9 && (ltb mode 6 && (ltb result 3 && ltb kind 3))) ⌝ }
+    ensures { λ r. ⌜ r ≡ (ltb tag 9 && (ltb mode 6 && (ltb result 3 && ltb kind 4))) ⌝ }
 {
     basics::and(
         tag < TAGS,
@@ -75,7 +75,7 @@ pub fn makes(up: u8, t: u8) -> bool
     );
     basics::choose(
         up == codes::AND_PAR,
-        literal,
+        basics::or(t == codes::AND_SEQ, literal),
         basics::choose(
             up == codes::AND_SEQ,
             basics::or(literal, t == codes::AND_PAR),

@@ -1,19 +1,22 @@
 -- The ways through the rules: each premise is a fact of the code, the answer is what the definition has.
-use mathlib.Core.Path.{_∙_, _≡_, ap, refl, sym}
+use mathlib.Core.Path.{_∙_, _≡_, ap, ap₂, refl, sym}
 use mathlib.Core.Bool.{Bool, false, true}
-use mathlib.Core.List.{[], _∷_, List}
+use mathlib.Core.List.{[], _++_, _∷_, append-nil, List}
 use Prim.Native.Nat.{_+_, _<_, _≤_, suc, zero, ℕ}
-use lib.ListN.{getD, length}
+use lib.ListN.{getD, length, length-append}
 use borrow.Author.Tests.{le-ltb, lt-ltb}
 use native.Mathlib.Omega.{arith}
 use native.Mathlib.Numerals.{add-one}
 use Rattle.children.specs.Telling.{heardOf}
 use Rattle.children.specs.declared.News.{News}
 use Rattle.children.specs.declared.News.the-variants.{Bad, Good, Silent}
-use Rattle.parlog.specs.Codes.{and-par, and-seq, dormant, failure, guard-eval, input-match, kindCode, kindOf, modeCode, ready, starting, success, tagCode, the-guard, try-clause, waiting}
+use Rattle.move_plan.proofs.Made.{touches}
+use Rattle.move_plan.specs.Plans.{Born, Of, touched}
+use Rattle.parlog.proofs.Scans.{build-length}
+use Rattle.parlog.specs.Codes.{and-par, and-seq, as-written, dormant, failure, guard-eval, input-match, kindCode, kindOf, modeCode, ready, starting, success, tagCode, the-guard, try-clause, waiting}
 use Rattle.parlog.specs.Delta.{atStage, guardSpot, literalSpot, making, only, report, trySpot, withMode, withSpot}
-use Rattle.parlog.specs.Program.{clauseAt, Goal, goalAt, goalBy, Literal, literalAt, noLiteral, Program, stageAt, tagOfGoal, tagOfLiteral, tagOfStage}
-use Rattle.parlog.specs.Rules.{andParStart, andParWait, andSeqStart, andSeqWait, Applied, by-rule, firstMade, guardEvalStart, guardEvalWait, member, members, memberTag, no-rule, ruleIn, startRule, stopRule, tryClauseStart, tryClauseWait, waitRule}
+use Rattle.parlog.specs.Program.{clauseAt, Goal, goalAt, goalBy, Literal, literalAt, noLiteral, Program, splitAt, splitBy, stageAt, tagOfGoal, tagOfLiteral, tagOfStage}
+use Rattle.parlog.specs.Rules.{andParStart, andParWait, andSeqStart, andSeqWait, Applied, bodyBeside, by-rule, firstMade, guardEvalStart, guardEvalWait, member, members, memberTag, no-rule, ruleIn, startRule, stopRule, tryClauseStart, tryClauseWait, waitRule}
 use Rattle.parlog.specs.Scan.{build}
 use Rattle.parlog.specs.Tables.{goalSpot, newProcess, procsOf, State}
 use Rattle.parlog.specs.Tree.{allChildren, anyChild, Heard, heard}
@@ -21,9 +24,8 @@ use Rattle.parlog.specs.declared.Found.the-variants.{At, Nothing}
 use Rattle.parlog.specs.declared.Move.the-variants.{AndParFailure, AndParStart, AndParSuccess, AndSeqFailure, AndSeqNext, AndSeqStart, AndSeqSuccess, GuardEvalEmpty, GuardEvalFailure, GuardEvalStart, GuardEvalSuccess, Ready, Stop, TryClauseFailure, TryClauseStart, TryClauseSuccess}
 use Rattle.parlog.specs.declared.Process.{Process}
 use Rattle.parlog.specs.declared.Spot.{Spot}
-use Rattle.move_plan.specs.Plans.{Born, Of, touched}
-use Rattle.rows.proofs.Tables.{procs-length, procs-none}
-use Rattle.move_plan.proofs.Made.{touches}
+use Rattle.rows.proofs.Tables.{procs-length, procs-none, table-rows}
+use Rattle.rows.specs.Rows.{Table}
 use Rattle.rules_and.specs.Says.{nextStage, Readies, Starts, Waits}
 
 -- ---- ready and stop
@@ -61,12 +63,43 @@ made s p {q} {qs = qs} eq em e =
     let f : q ≡ firstMade s p qs = eq ∙ ap (firstMade s p) e in
     λ i. by-rule (AndParStart (f i)) (making (em i) Nothing (e i) 0)
 
-pub par-starts : (pr : Program) (n p : ℕ) (x : Process) (rows : List ℕ) {me : Process} {q k : ℕ} {a : Applied}
-    → k ≡ length (stageAt pr (x .spot)) → procsOf rows k ≡ build (member pr p (x .spot)) k → me ≡ withMode waiting x → q ≡ touched n p k
-    → a ≡ by-rule (AndParStart q) (making me Nothing (procsOf rows k) 0) → Starts and-par pr n p x a
-unfolding startRule andParStart members
-par-starts pr n p x rows {k = k} ek er em eq ea s es =
-    ea ∙ made s p (eq ∙ touches s n p k (procsOf rows k) es (procs-length rows k)) em (er ∙ ap (build (member pr p (x .spot))) ek)
+-- room for the members, and for the body beside them
+module _ (pr : Program) (p : ℕ) (z : Spot) (few : length (members pr p z) ≤ 12) {k : ℕ} (ek : k ≡ length (stageAt pr z)) where
+  beside-few : length (build (member pr p z) (length (stageAt pr z))) + length (bodyBeside (splitAt pr z) p z) ≤ 12
+  unfolding members
+  beside-few = rw (← length-append (build (member pr p z) (length (stageAt pr z))) (bodyBeside (splitAt pr z) p z)) few
+
+  pub literals-few : k ≤ 12
+  literals-few = let l = build-length (member pr p z) (length (stageAt pr z)) in let h = beside-few in omega arith
+
+  pub body-fits : {b : Bool} → b ≡ splitBy (kindOf (z .kind)) pr (z .clause) → b ≡ true → k < 12
+  unfolding splitAt bodyBeside
+  body-fits eb e =
+      let l = build-length (member pr p z) (length (stageAt pr z)) in
+      let h : length (build (member pr p z) (length (stageAt pr z))) + 1 ≤ 12 = rw (sym eb ∙ e) at beside-few in
+      omega arith
+
+-- with_body
+pub body-none : (p : ℕ) (z : Spot) (rows : List ℕ) (k : ℕ) {b : Bool} → b ≡ false → procsOf rows k ≡ procsOf rows k ++ bodyBeside b p z
+unfolding bodyBeside
+body-none p z rows k e = rw e (sym (append-nil (procsOf rows k)))
+
+pub body-some : (p : ℕ) (z : Spot) (rows new : List ℕ) (k : ℕ) {b : Bool} → b ≡ true → {y : Spot} {x : Process} → Of kindCode 3 (λ w. goalSpot w (z .clause) (z .base)) y → Born 1 1 p y x
+    → Table rows new (procsOf rows k ++ (x ∷ [])) → procsOf new (k + 1) ≡ procsOf rows k ++ bodyBeside b p z
+unfolding bodyBeside
+body-some p z rows new k e {y} {x} ey ex t =
+    let w : x ≡ newProcess and-seq ready p (goalSpot as-written (z .clause) (z .base)) = ex and-seq refl ready refl ∙ ap (newProcess and-seq ready p) (ey as-written refl) in
+    let n : length (procsOf rows k ++ (x ∷ [])) ≡ k + 1 = length-append (procsOf rows k) (x ∷ []) ∙ omega (arith, procs-length rows k) in
+    rw e (table-rows (k + 1) t n ∙ ap (λ (o : Process). procsOf rows k ++ (o ∷ [])) w)
+
+pub par-starts : (pr : Program) (n p : ℕ) (x : Process) (rows new : List ℕ) (m : ℕ) {me : Process} {q k : ℕ} {b : Bool} {a : Applied}
+    → k ≡ length (stageAt pr (x .spot)) → b ≡ splitBy (kindOf (x .spot .kind)) pr (x .spot .clause) → procsOf rows k ≡ build (member pr p (x .spot)) k
+    → procsOf new m ≡ procsOf rows k ++ bodyBeside b p (x .spot) → me ≡ withMode waiting x → q ≡ touched n p m
+    → a ≡ by-rule (AndParStart q) (making me Nothing (procsOf new m) 0) → Starts and-par pr n p x a
+unfolding startRule andParStart members splitAt
+par-starts pr n p x rows new m {k = k} ek eb er ew em eq ea s es =
+    let f : procsOf rows k ≡ build (member pr p (x .spot)) (length (stageAt pr (x .spot))) = er ∙ ap (build (member pr p (x .spot))) ek in
+    ea ∙ made s p (eq ∙ touches s n p m (procsOf new m) es (procs-length new m)) em (ew ∙ ap₂ (λ ys c. ys ++ bodyBeside c p (x .spot)) f eb)
 
 module _ (ps : List Process) (p : ℕ) (x : Process) {a : Applied} {b : Bool} (eb : b ≡ anyChild failure ps p) where
   pub par-fails : b ≡ true → a ≡ by-rule (AndParFailure p) (report failure x) → Waits and-par ps p x a

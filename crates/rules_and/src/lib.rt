@@ -1,14 +1,15 @@
 // The rules of the conjunctions, of a tried clause and of its guard, with ready and stop: each only reads, and answers a plan.
 ghost use Rattle.program_index.specs.Indexed.{Indexed};
 ghost use mathlib.Core.Path.{_≡_};
-ghost use mathlib.Core.List.{[], _∷_, List};
+ghost use mathlib.Core.Bool.{true};
+ghost use mathlib.Core.List.{[], _++_, _∷_, List};
 ghost use Prim.Native.Nat.{_≤_, _<_};
 ghost use lib.ListN.{length};
 ghost use Rattle.children.specs.Telling.{Tells};
 ghost use Rattle.parlog.specs.Codes.{and-par, and-seq, guard-eval, try-clause};
 ghost use Rattle.parlog.specs.Delta.{making};
-ghost use Rattle.parlog.specs.Program.{Program, programOf, stageAt};
-ghost use Rattle.parlog.specs.Rules.{by-rule, member, stopRule};
+ghost use Rattle.parlog.specs.Program.{Program, programOf};
+ghost use Rattle.parlog.specs.Rules.{bodyBeside, by-rule, member, members, stopRule};
 ghost use Rattle.parlog.specs.Scan.{build};
 ghost use Rattle.parlog.specs.Tables.{procsOf};
 ghost use Rattle.parlog.specs.declared.Found.the-variants.{At, Nothing};
@@ -96,6 +97,20 @@ fn members(
     }
 }
 
+// Behind k rows that for the body of a split clause, which runs beside its equations; how many rows there are.
+fn with_body(apart: bool, p: usize, z: Spot, k: usize, new: &mut [u8]) -> usize
+    requires { ⌜ (p ≤ 65535) × (k ≤ newMost) × (apart ≡ true → k < newMost) × (newSize ≤ length (now new)) ⌝ }
+    ensures { λ r. ⌜ (procsOf (now (new .exit)) r ≡ procsOf (now (new .entry)) k ++ bodyBeside apart p z) × (r ≤ newMost) ⌝ }
+{
+    if !apart {
+        return k;
+    }
+    let y = move_plan::goal_spot(codes::AS_WRITTEN, z.clause, z.base);
+    let body = move_plan::new_process(codes::AND_SEQ, codes::READY, p, y);
+    rows::append(new, k, body);
+    k + 1
+}
+
 // Starts every member of the stage.
 pub fn start_and_par(
     image: &[u8],
@@ -106,15 +121,17 @@ pub fn start_and_par(
     p: usize,
     x: Process,
 ) -> Plan
-    requires { ⌜ (rels ≤ 32) × (clauses ≤ 64) × (n ≤ 65535) × (p < n) × (length (stageAt (programOf (now image) rels clauses) (x .spot)) ≤ newMost) × Indexed (now image) rels clauses (now ix) ⌝ }
+    requires { ⌜ (rels ≤ 32) × (clauses ≤ 64) × (n ≤ 65535) × (p < n) × (length (members (programOf (now image) rels clauses) p (x .spot)) ≤ newMost) × Indexed (now image) rels clauses (now ix) ⌝ }
     ensures { λ r. ⌜ Starts and-par (programOf (now (image .entry)) rels clauses) n p x (appliedOf r) × (r .count ≤ newMost) × (r .changes .count ≡ 0) ⌝ }
 {
     let k = program_goal::stage_size(image, rels, clauses, ix, x.spot);
+    let apart = program_goal::split_by(image, rels, clauses, ix, x.spot.kind, x.spot.clause);
     let mut new = [0u8; move_plan::NEW_SIZE];
     members(image, rels, clauses, ix, p, x.spot, k, &mut new);
+    let count = with_body(apart, p, x.spot, k, &mut new);
     let me = move_plan::with_mode(x, codes::WAITING);
-    let q = move_plan::touched(n, p, k);
-    move_plan::make(Move::AndParStart(q), me, Found::Nothing, k, new, 0)
+    let q = move_plan::touched(n, p, count);
+    move_plan::make(Move::AndParStart(q), me, Found::Nothing, count, new, 0)
 }
 
 // One failure decides, else all must succeed.

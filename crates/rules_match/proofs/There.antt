@@ -23,7 +23,8 @@ use Rattle.parlog.specs.TableRules.{callIn, equalityIn, foundIn, goalIn, isEqua
 use Rattle.parlog.specs.Tables.{State}
 use Rattle.parlog.specs.Unify.{binds, Decided, equateOf, fails, suspends}
 use Rattle.parlog.specs.declared.Spot.{Spot}
-use Rattle.rules_match.specs.Starts.{EquateThere, Headed, MatchThere}
+use Rattle.program_index.specs.Indexed.{Headed}
+use Rattle.rules_match.specs.Starts.{EquateThere, MatchThere}
 use Rattle.unify.proofs.Bounds.{in-writable}
 use Rattle.unify.specs.Pending.{Writable}
 

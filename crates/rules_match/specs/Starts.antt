@@ -7,7 +7,7 @@ use lib.ListN.{getD, length}
 use Rattle.decide.specs.Decision.{changesOf, Shifted}
 use Rattle.parlog.specs.Codes.{failure, success}
 use Rattle.parlog.specs.Delta.{only, report, reporting-with, withNotes}
-use Rattle.parlog.specs.Program.{argument, callModes, clauseAt, literalAt, modesAt, outCount, Program}
+use Rattle.parlog.specs.Program.{argument, callModes, clauseAt, literalAt, outCount, Program}
 use Rattle.parlog.specs.Rules.{Applied, by-rule, matchAt}
 use Rattle.parlog.specs.Unify.{binds, Decided, equateOf, fails, suspends}
 use Rattle.parlog.specs.declared.Binding.{Binding}
@@ -17,10 +17,6 @@ use Rattle.parlog.specs.declared.Spot.{Spot}
 use Rattle.unify.specs.Pending.{top, Writable}
 
 -- ---- places
-
--- every clause's head has a term for each argument of its relation
-abbrev pub Headed : Program → Type 0
-Headed pr = (k : ℕ) → length (modesAt pr (clauseAt pr k .rel)) ≤ length (clauseAt pr k .head)
 
 -- the terms of the call and of the head that z names, in the run's numbering, are below the count, and so are the new variables;
 -- the head is no shorter than the modes; what the match binds can be written

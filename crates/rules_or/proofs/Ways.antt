@@ -12,9 +12,9 @@ use Rattle.children.specs.Telling.{heardOf}
 use Rattle.children.specs.declared.News.{News}
 use Rattle.children.specs.declared.News.the-variants.{Bad, Good, Silent}
 use Rattle.move_plan.specs.Plans.{Born, Of}
-use Rattle.parlog.specs.Codes.{failure, isTag, kindCode, kindOf, modeCode, or-par, or-search, reporting, resultCode, seq-search, starting, success, tagCode, the-body, waiting}
+use Rattle.parlog.specs.Codes.{failure, isTag, kindCode, modeCode, or-par, or-search, reporting, resultCode, seq-search, starting, success, tagCode, the-body, waiting}
 use Rattle.parlog.specs.Delta.{atBlock, blockSpot, callSpot, literalSpot, making, report, withClause, withMode, withSpot}
-use Rattle.parlog.specs.Program.{blockCount, clauseAt, committedBody, goalBy, literalAt, Program, tagOfGoal}
+use Rattle.parlog.specs.Program.{blockCount, bodyTag, clauseAt, committedBody, isSplit, literalAt, Program}
 use Rattle.parlog.specs.Rules.{Applied, bodyChild, by-rule, no-rule, orParHeard, orParStart, orParWait, orSearchWait, searching, seqSearchNext, seqSearchStart, seqSearchWait, startRule, waitRule, withFound}
 use Rattle.parlog.specs.Tables.{at, goalSpot, newProcess, procsOf, State}
 use Rattle.parlog.specs.Tree.{allChildren, heard, lowestChild}
@@ -57,11 +57,11 @@ or-par-starts pr s p x {n} {z} {y} {me} ez ey em ea en =
     rw (en, ← ez, ← b, ← m) ea
 
 pub body-made : (pr : Program) (p k v : ℕ) {t : ℕ} {z : Spot} {y : Process}
-    → t ≡ tagCode (tagOfGoal (goalBy (kindOf 2) pr k)) → Of kindCode 2 (λ w. goalSpot w k v) z → Born t 2 p z y → y ≡ bodyChild pr p k v
-unfolding bodyChild goalBy kindOf
+    → t ≡ tagCode (bodyTag (isSplit pr (clauseAt pr k)) (committedBody pr (clauseAt pr k))) → Of kindCode 2 (λ w. goalSpot w k v) z → Born t 2 p z y → y ≡ bodyChild pr p k v
+unfolding bodyChild
 body-made pr p k v et ez ey =
-    ey (tagOfGoal (committedBody pr (clauseAt pr k))) (sym et) starting refl
-    ∙ ap (newProcess (tagOfGoal (committedBody pr (clauseAt pr k))) starting p) (ez the-body refl)
+    ey (bodyTag (isSplit pr (clauseAt pr k)) (committedBody pr (clauseAt pr k))) (sym et) starting refl
+    ∙ ap (newProcess (bodyTag (isSplit pr (clauseAt pr k)) (committedBody pr (clauseAt pr k))) starting p) (ez the-body refl)
 
 module _ (pr : Program) (l : List ℕ) (n : ℕ) (vs : List Binding) (p : ℕ) (x : Process) where
   module _ (c : ℕ) {y : Process} (ey : y ≡ at (procsOf l n) c) {a : Applied} where

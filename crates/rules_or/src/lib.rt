@@ -78,7 +78,7 @@ fn body_child(
     requires { ⌜ (rels ≤ 32) × (clauses ≤ 64) × (p ≤ 65535) × Indexed (now image) rels clauses (now ix) ⌝ }
     ensures { λ r. ⌜ r ≡ bodyChild (programOf (now (image .entry)) rels clauses) p k v ⌝ }
 {
-    let t = program_goal::tag_of_goal(image, rels, clauses, ix, codes::THE_BODY, k);
+    let t = program_goal::tag_of_body(image, rels, clauses, ix, k);
     let z = move_plan::goal_spot(codes::THE_BODY, k, v);
     move_plan::new_process(t, codes::STARTING, p, z)
 }

@@ -12,7 +12,7 @@ use Rattle.parlog.proofs.Rows.{build-cong, build-snoc, rows-byte, rows-length}
 use Rattle.parlog.proofs.Scans.{build-at, build-length}
 use Rattle.parlog.specs.Scan.{build}
 use Rattle.parlog.specs.Tables.{cellAt, cellSize, headSize, Lent, procCount, rowAt, rowsBytes, rowSize, varCount}
-use Rattle.saved.specs.Form.{bytesFrom, headLength, headRecord, numbers, processLength, processRecord, savedBytes, savedSize, variableLength, variableRecord}
+use Rattle.saved.specs.Form.{bytesFrom, currentRule, headKind, headLength, headRecord, numbers, processLength, processRecord, recordOf, savedBytes, savedSize, variableLength, variableRecord}
 
 -- ---- bytes from a place
 
@@ -80,7 +80,8 @@ module _ (f : ℕ → List ℕ) (size : ℕ) (sized : (i : ℕ) → length (f i)
 
 pub head-record-length : (h : List ℕ) (image : ℕ) → length (headRecord h image) ≡ headLength
 unfolding headRecord
-head-record-length h image = omega (arith, length-append (bytesFrom h 0 headSize) (two image), from-length h 0 headSize)
+head-record-length h image =
+    omega (arith, length-append (recordOf headLength headKind (bytesFrom h 0 headSize) ++ two image) (two currentRule), length-append (recordOf headLength headKind (bytesFrom h 0 headSize)) (two image), from-length h 0 headSize)
 
 pub process-record-length : (procs : List ℕ) (i : ℕ) → length (processRecord procs i) ≡ processLength
 unfolding processRecord

@@ -13,7 +13,7 @@ use Rattle.parlog.specs.Load.{refusal}
 use Rattle.parlog.specs.Records.{cut, kindAt, recordEnd, wordAt}
 use Rattle.saved.proofs.Faults.{begun, long-is, Passes, passes}
 use Rattle.saved.specs.Form.{lengthOf, processKind, variableKind}
-use Rattle.saved.specs.Reading.{cutAt, faultAt, kindWrong, lengthWrong, readEnd, readOne, reads, readSaved, seenWith}
+use Rattle.saved.specs.Reading.{cutAt, faultAt, formFault, kindWrong, readEnd, readOne, reads, readSaved, seenWith}
 use Rattle.saved.specs.declared.Reading.{Reading}
 use Rattle.saved.specs.declared.Reading.the-variants.{Broken, Whole}
 use Rattle.saved.specs.declared.Seen.{Seen}
@@ -24,33 +24,31 @@ seen-small g k t et = (rw et (split (eqb k processKind) (λ e. rw e (omega arith
 
 module _ (s : List ℕ) (at : ℕ) (g : Seen) (more : at < length s) where
   pub goes : Passes s (g .kind) at → reads s (length s) at g ≡ reads s (length s) (recordEnd s at) (seenWith g (kindAt s at))
-  goes p = rw (p .kind, p .long) at (walk-one s cutAt (readOne s) readEnd (length s) at g (omega arith) more (p .uncut))
+  goes p = rw (p .kind, p .form) at (walk-one s cutAt (readOne s) readEnd (length s) at g (omega arith) more (p .uncut))
 
   pub stops : {n : ℕ} → n ≡ faultAt s (g .kind) at → (n ≡ 0 → ⊥) → reads s (length s) at g ≡ Broken (refusal n at)
-  stops {n} e some = go (cut s at) refl (kindWrong (g .kind) (kindAt s at)) refl (lengthWrong s at) refl (unfold faultAt in e)
+  stops {n} e some = go (cut s at) refl (kindWrong (g .kind) (kindAt s at)) refl (unfold faultAt in e)
     where
       whole : cut s at ≡ false → reads s (length s) at g ≡ readOne s (reads s (length s) (recordEnd s at)) at g
       whole eb = walk-one s cutAt (readOne s) readEnd (length s) at g (omega arith) more eb
 
-      go : (b : Bool) → cut s at ≡ b → (k : Bool) → kindWrong (g .kind) (kindAt s at) ≡ k → (q : Bool) → lengthWrong s at ≡ q → n ≡ cond b 2 (cond k 3 (cond q 4 0))
-          → reads s (length s) at g ≡ Broken (refusal n at)
-      go true eb k ek q eq z = rw z (walk-cut s cutAt (readOne s) readEnd (length s) at g (omega arith) more eb)
-      go false eb true ek q eq z = rw z (whole eb ∙ rw ek)
-      go false eb false ek true eq z = rw z (whole eb ∙ rw (ek, eq))
-      go false eb false ek false eq z = absurd (some z)
+      go : (b : Bool) → cut s at ≡ b → (k : Bool) → kindWrong (g .kind) (kindAt s at) ≡ k → n ≡ cond b 2 (cond k 3 (formFault s at)) → reads s (length s) at g ≡ Broken (refusal n at)
+      go true eb k ek z = rw z (walk-cut s cutAt (readOne s) readEnd (length s) at g (omega arith) more eb)
+      go false eb true ek z = rw z (whole eb ∙ rw ek)
+      go false eb false ek z = rw z (whole eb ∙ rw (ek, ne-eqb (formFault s at) 0 (λ y. some (z ∙ y))))
 
   -- the loop's step: the length of the kind leads to the next record
   loop-goes : {k z : ℕ} {t : Seen} → 0 ≡ faultAt s (g .kind) at → k ≡ kindAt s at → t ≡ seenWith g k → z ≡ lengthOf k → reads s (length s) at g ≡ reads s (length s) (at + z) t
   loop-goes {k} {z} {t} e ek et ez =
       let p = passes s (g .kind) at (sym e) in
-      let w : wordAt s at ≡ z = long-is s at (p .long) ∙ sym (ez ∙ rw ek) in
+      let w : wordAt s at ≡ z = long-is s at (p .form) ∙ sym (ez ∙ rw ek) in
       let x : t ≡ seenWith g (kindAt s at) = rw ek at et in
       goes p ∙ rw (w, x)
 
   pub loop-inside : {k z : ℕ} → 0 ≡ faultAt s (g .kind) at → k ≡ kindAt s at → z ≡ lengthOf k → (at + z ≤ length s) × (4 ≤ z)
   loop-inside {k} {z} e ek ez =
       let p = passes s (g .kind) at (sym e) in
-      let w : wordAt s at ≡ z = long-is s at (p .long) ∙ sym (ez ∙ rw ek) in
+      let w : wordAt s at ≡ z = long-is s at (p .form) ∙ sym (ez ∙ rw ek) in
       let a = whole s at (p .uncut) in
       (omega arith, omega arith)
 

@@ -24,7 +24,15 @@ variableKind = 18
 
 -- Saved 2: of the head's record
 abbrev pub headLength : ℕ
-headLength = 16
+headLength = 18
+
+-- Saved 13: of that record as long as it had no rule number
+abbrev pub formerLength : ℕ
+formerLength = 16
+
+-- Saved 13: the number of the rules by which runs are made
+abbrev pub currentRule : ℕ
+currentRule = 2
 
 -- Saved 3: of a process's record
 abbrev pub processLength : ℕ
@@ -52,9 +60,9 @@ numbers n = build (λ i. i) n
 abbrev pub recordOf : ℕ → ℕ → List ℕ → List ℕ
 recordOf size kind body = two size ++ two kind ++ body
 
--- Saved 2: the ten bytes of the head, and the image's length
+-- Saved 2: the ten bytes of the head, the image's length, and the rule number
 unfoldable pub headRecord : List ℕ → ℕ → List ℕ
-headRecord head image = recordOf headLength headKind (bytesFrom head 0 headSize) ++ two image
+headRecord head image = recordOf headLength headKind (bytesFrom head 0 headSize) ++ two image ++ two currentRule
 
 -- Saved 3: the row of process i, as it stands
 unfoldable pub processRecord : List ℕ → ℕ → List ℕ

@@ -2,14 +2,16 @@
 use parlog::Refusal;
 use parlog::codes;
 ghost use mathlib.Core.Path.{_≡_};
+ghost use mathlib.Core.Bool.{cond, false, not};
 ghost use Prim.Native.Nat.{_+_, _*_, _≤_, _<_};
+ghost use lib.Dec.{eqb};
 ghost use lib.ListN.{length};
 ghost use Rattle.parlog.specs.Load.{refusal};
-ghost use Rattle.parlog.specs.Records.{cut, wordAt};
+ghost use Rattle.parlog.specs.Records.{cut, kindAt, wordAt};
 ghost use Rattle.parlog.specs.Tables.{cellSize, headSize, lent, procCount, rowsBytes, rowSize, varCount};
 ghost use Rattle.lay.specs.Lay.{Lays};
 ghost use Rattle.saved.specs.Form.{bytesFrom, headRecord, lengthOf, numbers, processRecord, recordOf, savedBytes, savedSize, variableRecord};
-ghost use Rattle.saved.specs.Reading.{faultAt, kindWrong, readSaved, refusalIn, seenWith};
+ghost use Rattle.saved.specs.Reading.{faultAt, formFault, kindWrong, readSaved, refusalIn, seenWith};
 ghost use Rattle.saved.specs.Restored.{cellsIn, countsAgree, imageLength, RestoreSays, rowsIn};
 ghost use Rattle.saved.specs.declared.Reading.the-variants.{Broken};
 
@@ -23,18 +25,29 @@ pub const PROCESS_KIND: usize = 17;
 pub const VARIABLE_KIND: usize = 18;
 
 // The one length of each kind.
-pub const HEAD_LENGTH: usize = 16;
+pub const HEAD_LENGTH: usize = 18;
 
 pub const PROCESS_LENGTH: usize = 28;
 
 pub const VARIABLE_LENGTH: usize = 8;
 
-// Where the head's counts and the image's length stand.
+// The length of the head's record as long as it had no rule number.
+const FORMER_LENGTH: usize = 16;
+
+// The number of the rules by which runs are made.
+pub const RULE: usize = 2;
+
+// 18, OLDRULE: the saved run was made by other rules.
+pub const OLDRULE: u8 = 18;
+
+// Where the head's counts, the image's length and the rule number stand.
 const HEAD_PROCS: usize = codes::RECORD_BODY + codes::HEAD_PROCS;
 
 const HEAD_VARS: usize = codes::RECORD_BODY + codes::HEAD_VARS;
 
 const IMAGE_LENGTH: usize = codes::RECORD_BODY + codes::HEAD_SIZE;
+
+const RULE_AT: usize = IMAGE_LENGTH + 2;
 
 // What is known of a saved run between two records: the kind of the one before, 0 where there is none, and how many processes and variables were read.
 pub struct Seen {
@@ -97,7 +110,8 @@ fn put_head(out: &mut [u8], head: &[u8], image: usize) -> usize
     ensures { λ r. ⌜ Lays (now (out .entry)) (now (out .exit)) 0 (headRecord (now (head .entry)) image) r ⌝ }
 {
     let last = put_record(out, 0, HEAD_LENGTH, HEAD_KIND, head, 0, codes::HEAD_SIZE);
-    lay::put2(out, last, image)
+    let rule = lay::put2(out, last, image);
+    lay::put2(out, rule, RULE)
 }
 
 // The records of the first n processes.
@@ -201,7 +215,33 @@ fn length_of(kind: usize) -> usize
     VARIABLE_LENGTH
 }
 
-// The tests of a record, 2, 3, 4: the refusal, or 0.
+// 18 where the rule number is another than the current one, or 0.
+fn rule_fault(rule: usize) -> u8
+    ensures { λ r. ⌜ r ≡ cond (not (eqb rule 2)) 18 0 ⌝ }
+{
+    if rule == RULE { 0 } else { OLDRULE }
+}
+
+// The form of a whole record of this kind: 18 for the head's in its former length, 4 for another length, 18 for another rule number, or 0.
+fn form_fault(s: &[u8], at: usize, kind: usize) -> u8
+    requires { ⌜ (cut (now s) at ≡ false) × (kind ≡ kindAt (now s) at) ⌝ }
+    ensures { λ r. ⌜ r ≡ formFault (now (s .entry)) at ⌝ }
+{
+    let size = word(s, at);
+    if basics::and(kind == HEAD_KIND, size == FORMER_LENGTH) {
+        return OLDRULE;
+    }
+    if size != length_of(kind) {
+        return codes::BODY;
+    }
+    if kind != HEAD_KIND {
+        return 0;
+    }
+    let rule = word(s, at + RULE_AT);
+    rule_fault(rule)
+}
+
+// The tests of a record, 2, 3, then those of its form: the refusal, or 0.
 fn fault(s: &[u8], at: usize, before: usize) -> u8
     requires { ⌜ at < length (now s) ⌝ }
     ensures { λ r. ⌜ r ≡ faultAt (now (s .entry)) before at ⌝ }
@@ -213,10 +253,7 @@ fn fault(s: &[u8], at: usize, before: usize) -> u8
     if kind_wrong(before, kind) {
         return codes::KIND;
     }
-    if word(s, at) != length_of(kind) {
-        return codes::BODY;
-    }
-    0
+    form_fault(s, at, kind)
 }
 
 // What is known behind a record of this kind.
@@ -316,7 +353,7 @@ pub fn counts_agree(s: &[u8], a: usize, b: usize) -> bool
 
 // The rows of the first n processes, and zeros behind them.
 fn take_processes(s: &[u8], n: usize, procs: &mut [u8])
-    requires { ⌜ (n ≤ 65535) × (16 + n * 28 ≤ length (now s)) × (n * rowSize ≤ length (now procs)) × (length (now procs) ≤ 4194304) ⌝ }
+    requires { ⌜ (n ≤ 65535) × (18 + n * 28 ≤ length (now s)) × (n * rowSize ≤ length (now procs)) × (length (now procs) ≤ 4194304) ⌝ }
     ensures { λ _. ⌜ now (procs .exit) ≡ rowsIn (now (s .entry)) n (length (now (procs .entry))) ⌝ }
 {
     rows::wipe(procs, 0, procs.len());
@@ -330,7 +367,7 @@ fn take_processes(s: &[u8], n: usize, procs: &mut [u8])
 
 // The rows of the first n variables, behind a processes, and zeros behind them.
 fn take_variables(s: &[u8], a: usize, n: usize, vars: &mut [u8])
-    requires { ⌜ (a ≤ 65535) × (n ≤ 65535) × (16 + a * 28 + n * 8 ≤ length (now s)) × (n * cellSize ≤ length (now vars)) × (length (now vars) ≤ 4194304) ⌝ }
+    requires { ⌜ (a ≤ 65535) × (n ≤ 65535) × (18 + a * 28 + n * 8 ≤ length (now s)) × (n * cellSize ≤ length (now vars)) × (length (now vars) ≤ 4194304) ⌝ }
     ensures { λ _. ⌜ now (vars .exit) ≡ cellsIn (now (s .entry)) a n (length (now (vars .entry))) ⌝ }
 {
     rows::wipe(vars, 0, vars.len());
@@ -344,7 +381,7 @@ fn take_variables(s: &[u8], a: usize, n: usize, vars: &mut [u8])
 
 // A saved run of a processes and b variables into tables, every byte of them.
 pub fn restore(s: &[u8], a: usize, b: usize, head: &mut [u8], procs: &mut [u8], vars: &mut [u8])
-    requires { ⌜ (a ≤ 65535) × (b ≤ 65535) × (16 + a * 28 + b * 8 ≤ length (now s)) × (length (now head) ≡ headSize) × (a * rowSize ≤ length (now procs)) × (length (now procs) ≤ 4194304) × (b * cellSize ≤ length (now vars)) × (length (now vars) ≤ 4194304) ⌝ }
+    requires { ⌜ (a ≤ 65535) × (b ≤ 65535) × (18 + a * 28 + b * 8 ≤ length (now s)) × (length (now head) ≡ headSize) × (a * rowSize ≤ length (now procs)) × (length (now procs) ≤ 4194304) × (b * cellSize ≤ length (now vars)) × (length (now vars) ≤ 4194304) ⌝ }
     ensures { λ _. ⌜ RestoreSays (now (s .entry)) a b (length (now (procs .entry))) (length (now (vars .entry))) (now (head .exit)) (now (procs .exit)) (now (vars .exit)) ⌝ }
 {
     put_bytes(head, 0, s, codes::RECORD_BODY, codes::HEAD_SIZE);

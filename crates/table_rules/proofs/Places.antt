@@ -9,7 +9,7 @@ use borrow.Author.Tests.{eq-eqb, le-leb, le-ltb, lt-ltb, ltb-true, ne-eqb}
 use native.Mathlib.Omega.{arith}
 use Rattle.parlog.proofs.Bools.{split}
 use Rattle.parlog.specs.Codes.{kindOf, tagOf}
-use Rattle.parlog.specs.Program.{blockCount, clauseAt, goalAt, goalBy, literalAt, Program, programOf, stageAt, varsOf}
+use Rattle.parlog.specs.Program.{blockCount, clauseAt, goalAt, goalBy, literalAt, Program, programOf, splitAt, splitBy, stageAt, varsOf}
 use Rattle.parlog.specs.Scan.{implies}
 use Rattle.parlog.specs.TableRules.{blockIn, callIn, clauseIn, equalityIn, foundIn, goalIn, goalInBy, goingOk, isEquality, literalIn, placesOk, succeeds, tryIn}
 use Rattle.parlog.specs.declared.Process.{Process}
@@ -40,7 +40,8 @@ module _ (pr : Program) (n : ℕ) (z : Spot) where
   unfolding goalInBy kindOf
   by-kind zero h = absurd (h refl)
   by-kind (suc zero) h = refl
-  by-kind (suc (suc k)) h = refl
+  by-kind (suc (suc zero)) h = refl
+  by-kind (suc (suc (suc k))) h = refl
 
   pub goal-clause : (z .kind ≡ 0 → ⊥) → {b : Bool} → b ≡ clauseIn pr n (z .clause) (z .base) → b ≡ goalIn pr n z
   unfolding goalIn
@@ -75,9 +76,10 @@ module _ (pr : Program) (n : ℕ) (z : Spot) (rel : ℕ) (waits : Bool) (t : ℕ
   literal-call h o e = rw (le-ltb 7 t h, ne-eqb rel 255 o, e)
 
 module _ (pr : Program) (n : ℕ) (z : Spot) (waits : Bool) (t : ℕ) where
-  pub goal-stage : t < 2 → {m : ℕ} {a b : Bool} → m ≡ length (goalBy (kindOf (z .kind)) pr (z .clause)) → a ≡ (eqb t 0 || waits) → b ≡ cond a (ltb (z .stage) m) (leb (z .stage) m) → b ≡ behindGoal t waits pr n z
-  unfolding behindGoal goalAt
-  goal-stage h em ea e = rw (lt-ltb t 2 h, e, ea, em)
+  pub goal-stage : t < 2 → {m : ℕ} {a d u v b : Bool} → m ≡ length (goalBy (kindOf (z .kind)) pr (z .clause)) → a ≡ (eqb t 0 || waits) → d ≡ cond a (ltb (z .stage) m) (leb (z .stage) m)
+      → u ≡ splitBy (kindOf (z .kind)) pr (z .clause) → v ≡ (eqb t 0 || not u) → b ≡ (d && v) → b ≡ behindGoal t waits pr n z
+  unfolding behindGoal goalAt splitAt
+  goal-stage h em ea ed eu ev e = rw (lt-ltb t 2 h, e, ed, ev, eu, ea, em)
 
   module _ (h : 2 ≤ t) {m : ℕ} (em : m ≡ length (stageAt pr z)) where
     pub goal-none : m ≤ z .literal → false ≡ behindGoal t waits pr n z
@@ -108,10 +110,11 @@ and-more false b c = refl
 below-most : (a b : ℕ) → ltb a b ≡ (leb a b && ltb a b)
 below-most a b = split (ltb a b) (λ e. rw (e, le-leb a b (let h : a < b = ltb-true a b e in omega arith))) (λ e. rw (e, and-none))
 
-stage-order : (g w : Bool) (a b : ℕ) → ((g && true) && cond w (ltb a b) (leb a b)) ≡ ((g && leb a b) && implies w (ltb a b))
-stage-order false w a b = refl
-stage-order true true a b = below-most a b
-stage-order true false a b = sym (and-one (leb a b))
+stage-order : (g w u : Bool) (a b : ℕ) → ((g && true) && (cond w (ltb a b) (leb a b) && u)) ≡ ((g && (leb a b && u)) && implies w (ltb a b))
+stage-order false w u a b = refl
+stage-order true true true a b = rw (and-one (ltb a b), and-one (leb a b)) (below-most a b)
+stage-order true true false a b = rw (and-none (ltb a b), and-none (leb a b))
+stage-order true false u a b = sym (and-one (leb a b && u))
 
 block-order : (g f l e b : Bool) → ((g && f) && (l && (e && b))) ≡ (((g && l) && e) && (b && f))
 block-order false f l e b = refl
@@ -136,7 +139,7 @@ module _ (pr : Program) (n : ℕ) (x : Process) where
       ≡ (placesOk (tagOf t) pr n z && goingOk (tagOf t) pr n x)
   unfolding behindGoal behindLiteral behindCall placesOk goingOk tagOf callIn equalityIn literalIn tryIn
   placed-code zero h = simp and-one
-  placed-code (suc zero) h = stage-order (goalIn pr n z) (eqb (x .mode) 3) (z .stage) (length (goalAt pr z))
+  placed-code (suc zero) h = stage-order (goalIn pr n z) (eqb (x .mode) 3) (not (splitAt pr z)) (z .stage) (length (goalAt pr z))
   placed-code (suc (suc zero)) h = simp (and-one, and-more)
   placed-code (suc (suc (suc zero))) h =
       wait-order (goalIn pr n z) (implies (succeeds x) (foundIn pr n z)) (ltb (z .literal) (length (stageAt pr z))) (not (isEquality (literalAt pr z))) (eqb (x .mode) 3) (blockIn pr z)

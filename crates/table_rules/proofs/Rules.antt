@@ -34,7 +34,7 @@ module _ (pr : Program) (ps : List Process) (x : Process) {i : ℕ} where
 
 -- ---- the row
 
-pub own-is : (n i : ℕ) (x : Process) {k r t a b : Bool} → k ≡ (ltb (x .tag) 9 && (ltb (x .mode) 6 && (ltb (x .result) 3 && ltb (x .spot .kind) 3)))
+pub own-is : (n i : ℕ) (x : Process) {k r t a b : Bool} → k ≡ (ltb (x .tag) 9 && (ltb (x .mode) 6 && (ltb (x .result) 3 && ltb (x .spot .kind) 4)))
     → r ≡ implies (isMode reporting (x .mode) || (eqb i 0 && isMode dormant (x .mode))) (not (isResult none (x .result)))
     → t ≡ implies (isMode suspended (x .mode)) (leb (x .count) 4 && allBelow n (take (x .count) (x .notes)))
     → a ≡ (r && t) → b ≡ (k && a) → b ≡ (known x && (resultOk i x && notesOk n x))

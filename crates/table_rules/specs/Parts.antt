@@ -5,7 +5,7 @@ use Prim.Native.Nat.{ℕ}
 use lib.Dec.{eqb, leb, ltb}
 use lib.ListN.{length}
 use Rattle.parlog.specs.Image.{equality}
-use Rattle.parlog.specs.Program.{blockCount, clauseAt, goalAt, literalAt, Program, stageAt}
+use Rattle.parlog.specs.Program.{blockCount, clauseAt, goalAt, literalAt, Program, splitAt, stageAt}
 use Rattle.parlog.specs.TableRules.{cellKnown, foundIn, stageIn, varOk}
 use Rattle.parlog.specs.Tables.{varsIn}
 use Rattle.parlog.specs.declared.Spot.{Spot}
@@ -23,7 +23,7 @@ behindLiteral t waits pr n z rel = cond (ltb 7 t) (eqb rel equality) (not (eqb r
 -- what a tag asks besides a goal
 unfoldable pub behindGoal : ℕ → Bool → Program → ℕ → Spot → Bool
 behindGoal t waits pr n z =
-    cond (ltb t 2) (cond (eqb t 0 || waits) (stageIn pr z) (leb (z .stage) (length (goalAt pr z))))
+    cond (ltb t 2) (cond (eqb t 0 || waits) (stageIn pr z) (leb (z .stage) (length (goalAt pr z))) && (eqb t 0 || not (splitAt pr z)))
     (ltb (z .literal) (length (stageAt pr z)) && behindLiteral t waits pr n z (literalAt pr z .rel))
 
 -- both tests of the row of variable v

@@ -146,11 +146,13 @@ fn behind_goal(
     if t < codes::OR_PAR {
         let stages = program_goal::goal_size(image, rels, clauses, ix, z.kind, z.clause);
         let stage = z.stage as usize;
-        return basics::choose(
+        let there = basics::choose(
             basics::or(t == codes::AND_PAR, waits),
             stage < stages,
             stage <= stages,
         );
+        let split = program_goal::split_by(image, rels, clauses, ix, z.kind, z.clause);
+        return basics::and(there, basics::or(t == codes::AND_PAR, !split));
     }
     let x = program_goal::called(image, rels, clauses, ix, z);
     let size = x.size;

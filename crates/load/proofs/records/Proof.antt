@@ -1,6 +1,6 @@
 use borrow.Author.Needs.{needs}
 use native.Mathlib.Omega.{arith}
-use mathlib.Core.Path.{_≡_, refl}
+use mathlib.Core.Path.{_≡_, refl, sym}
 use Prim.Native.Nat.{_-_}
 use lib.ListN.{length}
 use borrow.Author.Tests.{eq-eqb, ne-eqb}
@@ -11,6 +11,7 @@ use Rattle.parlog.proofs.Walk.{whole}
 use Rattle.load_names.specs.Reading.{Arities}
 use Rattle.load.proofs.Turn.{ends, goes, passed, stops}
 use Rattle.load.proofs.Indexing.{Holds, holds-end, holds-fits, holds-next, holds-start}
+use Rattle.load.proofs.Heads.{passed-heads}
 use Rattle.load.proofs.Accepted.{Reached, all-passed, reached, kept, nothing-reached}
 use Rattle.load.proofs.records.Statement.{statement}
 use Rattle.load.proofs.records.Tie as tie
@@ -67,7 +68,9 @@ loop-again c = let l = (c .before .before .before .before .before .before .befor
 -- src/lib.rt:182:1
 returns-2 : tie.Need-returns-2 Inv-loop μ-loop
 returns-2 c = let l = (c .before .before .before .loop) in
-    (rw (ends (c .before .before .before .before .before .args .s .now) (l .g) (l .at) (c .before .before .loop-test .left), eq-eqb _ _ (c .if1 .taken)) at (l .inv .0), ((l .inv .1 .relations, l .inv .1 .clauses, omega arith), holds-end (c .before .before .before .before .before .args .s .now) (l .g) (l .inv .1 .relations) (l .inv .1 .clauses) (l .inv .5) (c .if1 .taken)))
+    let s = (c .before .before .before .before .before .args .s .now) in
+    let e = rw (ends s (l .g) (l .at) (c .before .before .loop-test .left), eq-eqb _ _ (c .if1 .taken)) at (l .inv .0) in
+    (e, ((l .inv .1 .relations, l .inv .1 .clauses, omega arith), holds-end s (l .g) (l .inv .1 .relations) (l .inv .1 .clauses) (l .inv .5) (c .if1 .taken) (passed-heads s _ _ (c .before .before .before .before .before .pre .0) (sym e))))
 
 -- src/lib.rt:182:1
 returns-3 : tie.Need-returns-3 Inv-loop μ-loop

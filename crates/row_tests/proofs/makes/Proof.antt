@@ -19,4 +19,5 @@ makes-spec =
     (λ c κs. search needs)
     (λ c κs. search needs)
     (λ c κs. search needs)
-    (λ c. let s = c .before .before .before .before .before .before .before .before .before .before .before .before in rw (← makes-code (s .args .up) (s .args .t)) cc))
+    (λ c κs. search needs)
+    (λ c. let s = c .before .before .before .before .before .before .before .before .before .before .before .before .before in rw (← makes-code (s .args .up) (s .args .t)) cc))
