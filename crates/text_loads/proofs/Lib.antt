@@ -1,0 +1,4 @@
+-- Programs and their bytes, each read from the other.
+pub mod Stands
+pub mod Decoded
+pub mod Encoded

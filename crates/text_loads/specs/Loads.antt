@@ -1,0 +1,53 @@
+-- An image and its program have the same in them.
+use mathlib.Core.List.{[], _∷_, List}
+use mathlib.Core.Path.{_≡_}
+use Prim.Native.Nat.{_<_, _≤_, ℕ}
+use lib.ListN.{getD, length}
+use Rattle.parlog.specs.Image.{firstVariable}
+use Rattle.parlog.specs.Load.{loadOf}
+use Rattle.parlog.specs.Program.{Clause, Goal, Literal, Program, programOf}
+use Rattle.parlog.specs.declared.Loaded.the-variants.{Accepted}
+use Rattle.parlog.specs.declared.Term.{Term}
+use Rattle.parlog.specs.declared.Term.the-variants.{Const, Var}
+use Rattle.text_program.specs.Encoded.{programBytes}
+
+-- each item of a list has the property
+abbrev pub Each : {A : Type 0} → (A → Type 0) → List A → Type 0
+Each P [] = Unit
+Each P (x ∷ xs) = P x × Each P xs
+
+-- Image 2: bytes are below 256
+abbrev pub AreBytes : List ℕ → Type 0
+AreBytes s = (j : ℕ) → getD s j 0 < 256
+
+-- Image 9: a constant has one of the numbers that are no variables
+abbrev pub TermFits : Term → Type 0
+TermFits (Const c) = c < firstVariable
+TermFits (Var v) = Unit
+
+-- so have the constants of a literal
+abbrev pub LiteralFits : Literal → Type 0
+LiteralFits l = Each TermFits (l .args)
+
+-- of a goal
+abbrev pub GoalFits : Goal → Type 0
+GoalFits g = Each (Each LiteralFits) g
+
+-- of a clause
+pub record ClauseFits (c : Clause) : Type 0 where
+  pub head : Each TermFits (c .head)
+  pub guard : GoalFits (c .guard)
+  pub body : GoalFits (c .body)
+
+-- of a program
+pub record ProgramFits (pr : Program) : Type 0 where
+  pub clauses : Each ClauseFits (pr .clauses)
+  pub goal : GoalFits (pr .goal)
+
+-- Text 14: the program of the bytes of a program is that program
+abbrev pub DecodeEncode : Type 0
+DecodeEncode = (pr : Program) → ProgramFits pr → programOf (programBytes pr) (length (pr .relations)) (length (pr .clauses)) ≡ pr
+
+-- Text 14: the bytes of the program of an accepted image are that image
+abbrev pub EncodeDecode : Type 0
+EncodeDecode = (s : List ℕ) (r c : ℕ) → AreBytes s → loadOf s ≡ Accepted r c → programBytes (programOf s r c) ≡ s
