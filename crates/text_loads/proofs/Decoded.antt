@@ -17,6 +17,12 @@ use Rattle.text_loads.specs.Loads.{ClauseFits, DecodeEncode, Each, GoalF
 use Rattle.text_program.specs.Encoded.{askBytes, clauseBytes, goalBytes, literalBytes, programBytes, recordBytes, relationBytes, stageBytes, termBytes, wordBytes}
 use Rattle.text_program.specs.Numbered.{joined}
 
+pub terms-long : (ts : List Term) → length (joined termBytes ts) ≡ 2 * length ts
+unfolding joined termBytes
+terms-long [] = refl
+terms-long (Const c ∷ ts) = let i = terms-long ts in omega arith
+terms-long (Var v ∷ ts) = let i = terms-long ts in omega arith
+
 module _ (s : List ℕ) where
   -- ---- terms
 
@@ -34,12 +40,6 @@ module _ (s : List ℕ) where
 
   pub terms : Decodes s termBytes (termAt s) termEnd TermFits
   terms = record { item = term-is; end = term-end }
-
-  terms-long : (ts : List Term) → length (joined termBytes ts) ≡ 2 * length ts
-  unfolding joined termBytes
-  terms-long [] = refl
-  terms-long (Const c ∷ ts) = let i = terms-long ts in omega arith
-  terms-long (Var v ∷ ts) = let i = terms-long ts in omega arith
 
   -- ---- literals
 
@@ -210,14 +210,14 @@ module _ (pr : Program) where
   abbrev last : List ℕ
   last = askBytes (pr .goalVars) (pr .goal)
 
-  from-start : drop 0 s ≡ front ++ (middle ++ last)
+  pub from-start : drop 0 s ≡ front ++ (middle ++ last)
   unfolding programBytes
   from-start = refl
 
   pub clauses-place : recordAt s (length (pr .relations)) ≡ length front
   clauses-place = let z : 0 + length front ≡ length front = omega arith in (rw z at (row-end s relationBytes (modesOf s) (recordEnd s) (λ ms. Unit) (relations s) (pr .relations) 0 (middle ++ last) from-start))
 
-  clauses-at : drop (length front) s ≡ middle ++ last
+  pub clauses-at : drop (length front) s ≡ middle ++ last
   clauses-at = let z : 0 + length front ≡ length front = omega arith in (rw z at (behind s 0 front (middle ++ last) from-start))
 
   pub goal-place : recordAt s (length (pr .relations) + length (pr .clauses)) ≡ length front + length middle

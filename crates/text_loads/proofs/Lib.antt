@@ -2,3 +2,7 @@
 pub mod Stands
 pub mod Decoded
 pub mod Encoded
+pub mod Walked
+pub mod Counted
+pub mod Fitting
+pub mod Parsed

@@ -1,8 +1,8 @@
 -- An image and its program have the same in them.
-use mathlib.Core.List.{[], _∷_, List}
 use mathlib.Core.Path.{_≡_}
-use Prim.Native.Nat.{_<_, _≤_, ℕ}
-use lib.ListN.{getD, length}
+use mathlib.Core.List.{[], _∷_, List}
+use Prim.Native.Nat.{_<_, ℕ}
+use lib.ListN.{getD, length, take}
 use Rattle.parlog.specs.Image.{firstVariable}
 use Rattle.parlog.specs.Load.{loadOf}
 use Rattle.parlog.specs.Program.{Clause, Goal, Literal, Program, programOf}
@@ -10,6 +10,10 @@ use Rattle.parlog.specs.declared.Loaded.the-variants.{Accepted}
 use Rattle.parlog.specs.declared.Term.{Term}
 use Rattle.parlog.specs.declared.Term.the-variants.{Const, Var}
 use Rattle.text_program.specs.Encoded.{programBytes}
+use Rattle.text_program.specs.Numbered.{programIn}
+use Rattle.text_program.specs.Parsing.{parseCall}
+use Rattle.text_program.specs.Source.{Source, sourceOf}
+use Rattle.text_program.specs.declared.Parsed.the-variants.{Read}
 
 -- each item of a list has the property
 abbrev pub Each : {A : Type 0} → (A → Type 0) → List A → Type 0
@@ -51,3 +55,12 @@ DecodeEncode = (pr : Program) → ProgramFits pr → programOf (programBytes pr)
 -- Text 14: the bytes of the program of an accepted image are that image
 abbrev pub EncodeDecode : Type 0
 EncodeDecode = (s : List ℕ) (r c : ℕ) → AreBytes s → loadOf s ≡ Accepted r c → programBytes (programOf s r c) ≡ s
+
+-- Text 14, 21: the image of a text loads, with as many relations as there are mode lines and as many clauses as there are, and holds the program that the text means
+pub record TextLoads (s : List ℕ) (p : Source) : Type 0 where
+  pub loads : loadOf s ≡ Accepted (length (p .modes)) (length (p .clauses))
+  pub means : programOf s (length (p .modes)) (length (p .clauses)) ≡ programIn p
+
+-- Text 14, 21: where a text is parsed, the first n bytes of the image row do so
+abbrev pub ParseLoads : Type 0
+ParseLoads = (image names text : List ℕ) (n m : ℕ) → parseCall image names text .answer ≡ Read n m → TextLoads (take n (parseCall image names text .image)) (sourceOf text)
