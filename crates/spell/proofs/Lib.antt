@@ -1,5 +1,5 @@
 mod Language
-mod Exact
+pub mod Exact
 mod Same
 mod Alike
 mod Ways

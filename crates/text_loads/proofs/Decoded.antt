@@ -7,13 +7,14 @@ use borrow.Author.Tests.{le-ltb, lt-ltb}
 use native.Mathlib.Omega.{arith}
 use Rattle.parlog.proofs.Along.{along-add}
 use Rattle.parlog.specs.Image.{bodyAt, goalEnd, guardAt, literalEnd, modeEnd, stageEnd, termAt, termEnd}
+use Rattle.parlog.specs.Orders.{Each}
 use Rattle.parlog.specs.Program.{Clause, clauseOf, Goal, goalOf, Literal, literalOf, modesOf, Program, programOf, stageOf}
 use Rattle.parlog.specs.Records.{byteAt, kindAt, recordAt, recordEnd}
 use Rattle.parlog.specs.Scan.{along, listOf}
 use Rattle.parlog.specs.declared.Term.{Term}
 use Rattle.parlog.specs.declared.Term.the-variants.{Const, Var}
 use Rattle.text_loads.proofs.Stands.{behind, byte-first, byte-in, Decodes, further, row-end, row-is, word-in}
-use Rattle.text_loads.specs.Loads.{ClauseFits, DecodeEncode, Each, GoalFits, LiteralFits, ProgramFits, TermFits}
+use Rattle.text_loads.specs.Loads.{ClauseFits, DecodeEncode, GoalFits, LiteralFits, ProgramFits, TermFits}
 use Rattle.text_program.specs.Encoded.{askBytes, clauseBytes, goalBytes, literalBytes, programBytes, recordBytes, relationBytes, stageBytes, termBytes, wordBytes}
 use Rattle.text_program.specs.Numbered.{joined}
 

@@ -5,10 +5,11 @@ use mathlib.Core.List.{[], _++_, _∷_, List, map}
 use Prim.Native.Nat.{_*_, _+_, _<_, _≤_, suc, ℕ}
 use lib.ListN.{length, length-append, length-map}
 use native.Mathlib.Omega.{arith}
+use Rattle.parlog.specs.Orders.{Each}
 use Rattle.parlog.specs.Program.{Goal}
 use Rattle.parlog.specs.declared.Term.the-variants.{Const, Var}
 use Rattle.text_loads.proofs.Decoded.{terms-long}
-use Rattle.text_loads.specs.Loads.{ClauseFits, Each, GoalFits, LiteralFits, ProgramFits, TermFits}
+use Rattle.text_loads.specs.Loads.{ClauseFits, GoalFits, LiteralFits, ProgramFits, TermFits}
 use Rattle.text_names.specs.Names.{add, adds, known, look, Name, sameName}
 use Rattle.text_program.specs.Encoded.{askBytes, clauseBytes, goalBytes, literalBytes, programBytes, recordBytes, relationBytes, stageBytes, termBytes}
 use Rattle.text_program.specs.Numbered.{clauseNumbered, clausesBehind, clausesNumbered, clauseTerms, constantNames, goalNumbered, goalTerms, isUpper, joined, literalNumbered, lowers, markBy, Numbering, numberingFor, programIn, relationNames, saidTerms, termNumbered}

@@ -6,9 +6,9 @@ use lib.ListN.{drop, getD, length, length-append, length-drop}
 use lib.Seq.{drop-append-seam, drop-cons, drop-drop, getD-drop}
 use native.Mathlib.Omega.{arith}
 use native.Mathlib.Numerals.{add-one}
+use Rattle.parlog.specs.Orders.{Each}
 use Rattle.parlog.specs.Records.{byteAt, wordAt}
 use Rattle.parlog.specs.Scan.{along, listOf}
-use Rattle.text_loads.specs.Loads.{Each}
 use Rattle.text_program.specs.Encoded.{wordBytes}
 use Rattle.text_program.specs.Numbered.{joined}
 

@@ -1,10 +1,11 @@
 -- An image and its program have the same in them.
 use mathlib.Core.Path.{_≡_}
-use mathlib.Core.List.{[], _∷_, List}
+use mathlib.Core.List.{List}
 use Prim.Native.Nat.{_<_, ℕ}
 use lib.ListN.{getD, length, take}
 use Rattle.parlog.specs.Image.{firstVariable}
 use Rattle.parlog.specs.Load.{loadOf}
+use Rattle.parlog.specs.Orders.{Each}
 use Rattle.parlog.specs.Program.{Clause, Goal, Literal, Program, programOf}
 use Rattle.parlog.specs.declared.Loaded.the-variants.{Accepted}
 use Rattle.parlog.specs.declared.Term.{Term}
@@ -14,11 +15,6 @@ use Rattle.text_program.specs.Numbered.{programIn}
 use Rattle.text_program.specs.Parsing.{parseCall}
 use Rattle.text_program.specs.Source.{Source, sourceOf}
 use Rattle.text_program.specs.declared.Parsed.the-variants.{Read}
-
--- each item of a list has the property
-abbrev pub Each : {A : Type 0} → (A → Type 0) → List A → Type 0
-Each P [] = Unit
-Each P (x ∷ xs) = P x × Each P xs
 
 -- Image 2: bytes are below 256
 abbrev pub AreBytes : List ℕ → Type 0

@@ -1,0 +1,4 @@
+-- What was written is read back.
+pub mod Begin
+pub mod Rows
+pub mod Items
