@@ -111,7 +111,7 @@ module _ (r : ℕ) (nm : List ℕ) where
   pair-back (a ∷ b ∷ []) rest l o h =
       pair-read (termText r nm a) _ (termText r nm b) rest (term-spelt a (o .0)) (term-spelt b (o .1 .0)) (h .name) (equality-text a b rest)
 
-  open-no-name : isName 40 ≡ false
+  pub open-no-name : isName 40 ≡ false
   unfolding isName isSmall isCapital
   open-no-name = refl
 

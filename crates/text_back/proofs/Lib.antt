@@ -2,3 +2,4 @@
 pub mod Begin
 pub mod Rows
 pub mod Items
+pub mod Lines
