@@ -99,7 +99,7 @@ module _ (r : ℕ) (nm : List ℕ) where
       (is-equation (a ++ t) (ap (λ (u : List ℕ). first u) f)
       ∙ rw (front-of a t (p .all) refl, k, name-read b rest q h))
 
-  equality-text : (a b : Term) (rest : List ℕ) → rowText (termText r nm) equalsMark (a ∷ b ∷ []) ++ rest ≡ termText r nm a ++ (32 ∷ 61 ∷ 32 ∷ (termText r nm b ++ rest))
+  pub equality-text : (a b : Term) (rest : List ℕ) → rowText (termText r nm) equalsMark (a ∷ b ∷ []) ++ rest ≡ termText r nm a ++ (32 ∷ 61 ∷ 32 ∷ (termText r nm b ++ rest))
   unfolding joined
   equality-text a b rest = row-split (termText r nm) equalsMark a (b ∷ []) rest ∙ ap (λ (s : List ℕ). termText r nm a ++ s) (rest-more (termText r nm) equalsMark b [] rest)
 

@@ -3,3 +3,4 @@ pub mod Begin
 pub mod Rows
 pub mod Items
 pub mod Lines
+pub mod Spelling

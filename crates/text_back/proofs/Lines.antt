@@ -34,7 +34,7 @@ pub record Stops (q : ℕ) : Type 0 where
 abbrev pub stopOf : ℕ → ℕ
 stopOf m = cond (eqb m 1) 59 46
 
-stops-46 : Stops 46
+pub stops-46 : Stops 46
 unfolding isName isSmall isCapital isBlank
 stops-46 = record { name = refl; blank = refl; low = omega arith; mark = refl; none = (λ e. omega arith, λ e. omega arith, λ e. omega arith) }
 
@@ -86,10 +86,10 @@ lines-one is read n s t x e f = rw (e, f)
 abbrev modeValue : ℕ → ℕ
 modeValue m = cond (isInput m) 0 1
 
-abbrev Anything : {A : Type 0} → A → Type 0
+abbrev pub Anything : {A : Type 0} → A → Type 0
 Anything x = Unit {0}
 
-abbrev modeWay : Way ℕ ℕ
+abbrev pub modeWay : Way ℕ ℕ
 modeWay = record { read = readMode; text = modeText; value = modeValue; Ok = Anything; Shut = Anything }
 
 mode-item : (m : ℕ) (rest : List ℕ) → readMode (modeText m ++ rest) ≡ got (modeValue m) (skip rest)
@@ -106,10 +106,10 @@ mode-begins m rest = go (isInput m)
     go true = unfold skip in unfold isBlank in refl
     go false = unfold skip in unfold isBlank in refl
 
-modes-way : Back modeWay
+pub modes-way : Back modeWay
 modes-way = record { item = λ m rest o h. mode-item m rest; begins = λ m rest o. mode-begins m rest; some = λ m o. omega arith }
 
-mode-commas : Between modeWay 44 (44 ∷ [])
+pub mode-commas : Between modeWay 44 (44 ∷ [])
 unfolding skip isBlank
 mode-commas = record { shut = λ s. tt; there = λ s. refl; past-it = λ s. refl }
 
@@ -125,7 +125,7 @@ modes-same : (ms : List ℕ) → Each ModeOk ms → map modeValue ms ≡ ms
 modes-same [] o = refl
 modes-same (m ∷ ms) o = rw (mode-same m (o .0), modes-same ms (o .1))
 
-anything : {A : Type 0} (xs : List A) → Each {A = A} Anything xs
+pub anything : {A : Type 0} (xs : List A) → Each {A = A} Anything xs
 anything [] = tt
 anything (x ∷ xs) = (tt, anything xs)
 
@@ -168,15 +168,15 @@ module _ (r : ℕ) (nm : List ℕ) where
   unfolding readHalves
   arrow-read t g b e f = rw (e, f)
 
-  arrow-skip : (s : List ℕ) → skip (arrowMark ++ s) ≡ 60 ∷ 45 ∷ 32 ∷ s
+  pub arrow-skip : (s : List ℕ) → skip (arrowMark ++ s) ≡ 60 ∷ 45 ∷ 32 ∷ s
   unfolding skip isBlank
   arrow-skip s = refl
 
-  blank-skip : (s : List ℕ) → skip (32 ∷ s) ≡ skip s
+  pub blank-skip : (s : List ℕ) → skip (32 ∷ s) ≡ skip s
   unfolding skip isBlank
   blank-skip s = refl
 
-  colon-skip : (s : List ℕ) → skip (guardMark ++ s) ≡ 58 ∷ 32 ∷ s
+  pub colon-skip : (s : List ℕ) → skip (guardMark ++ s) ≡ 58 ∷ 32 ∷ s
   unfolding skip isBlank
   colon-skip s = refl
 
@@ -184,7 +184,7 @@ module _ (r : ℕ) (nm : List ℕ) where
   unfolding halvesText
   guard-split st g b rest = ap (λ (z : List ℕ). arrowMark ++ z) (append-assoc (goalText r nm (st ∷ g)) (guardMark ++ goalText r nm b) rest)
 
-  plain-skip : (st : List Literal) (b : Goal) (rest : List ℕ) → skip (halvesText r nm [] (st ∷ b) ++ rest) ≡ 60 ∷ 45 ∷ 32 ∷ (goalText r nm (st ∷ b) ++ rest)
+  pub plain-skip : (st : List Literal) (b : Goal) (rest : List ℕ) → skip (halvesText r nm [] (st ∷ b) ++ rest) ≡ 60 ∷ 45 ∷ 32 ∷ (goalText r nm (st ∷ b) ++ rest)
   unfolding halvesText
   plain-skip st b rest = arrow-skip (goalText r nm (st ∷ b) ++ rest)
 
@@ -336,7 +336,7 @@ module _ (r : ℕ) (nm : List ℕ) where
         length-append (clausesText r nm cs) rest,
       )
 
-  clauses-solid : (cs : List Clause) (rest : List ℕ) → Each ClauseOk cs → skip rest ≡ rest → skip (clausesText r nm cs ++ rest) ≡ clausesText r nm cs ++ rest
+  pub clauses-solid : (cs : List Clause) (rest : List ℕ) → Each ClauseOk cs → skip rest ≡ rest → skip (clausesText r nm cs ++ rest) ≡ clausesText r nm cs ++ rest
   unfolding clausesText
   clauses-solid [] rest o h = h
   clauses-solid (c ∷ cs) rest o h = rw (append-assoc (clauseText r nm c (nextMark cs)) (clausesText r nm cs) rest) (clause-solid c (nextMark cs) (clausesText r nm cs ++ rest) (o .0))
@@ -417,7 +417,7 @@ module _ (r : ℕ) (nm : List ℕ) where
         length-append (modeLinesText r nm (suc k) mss) rest,
       )
 
-  modes-solid : (k : ℕ) (mss : List (List ℕ)) (rest : List ℕ) → skip rest ≡ rest → skip (modeLinesText r nm k mss ++ rest) ≡ modeLinesText r nm k mss ++ rest
+  pub modes-solid : (k : ℕ) (mss : List (List ℕ)) (rest : List ℕ) → skip rest ≡ rest → skip (modeLinesText r nm k mss ++ rest) ≡ modeLinesText r nm k mss ++ rest
   unfolding modeLinesText modeLineText skip isBlank
   modes-solid k [] rest h = h
   modes-solid k (ms ∷ mss) rest h = refl
@@ -437,7 +437,7 @@ module _ (r : ℕ) (nm : List ℕ) where
 
   -- ---- the goal line
 
-  goal-line-solid : (g : Goal) → skip (goalLineText r nm g) ≡ goalLineText r nm g
+  pub goal-line-solid : (g : Goal) → skip (goalLineText r nm g) ≡ goalLineText r nm g
   unfolding goalLineText skip isBlank
   goal-line-solid g = refl
 
