@@ -4,3 +4,5 @@ pub mod Rows
 pub mod Items
 pub mod Lines
 pub mod Spelling
+pub mod Firsts
+pub mod Numbers
