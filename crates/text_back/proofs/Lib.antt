@@ -6,3 +6,5 @@ pub mod Lines
 pub mod Spelling
 pub mod Firsts
 pub mod Numbers
+pub mod Made
+pub mod Again

@@ -76,7 +76,7 @@ row-each : {A : Type 0} (P : A → Type 0) (xs : List A) → RowOk P xs → Each
 row-each P [] o = absurd o
 row-each P (x ∷ xs) o = o
 
-rows-each : {A : Type 0} (P : A → Type 0) (xss : List (List A)) → Each (RowOk P) xss → Each (Each P) xss
+pub rows-each : {A : Type 0} (P : A → Type 0) (xss : List (List A)) → Each (RowOk P) xss → Each (Each P) xss
 rows-each P [] o = tt
 rows-each P (xs ∷ xss) o = (row-each P xs (o .0), rows-each P xss (o .1))
 
