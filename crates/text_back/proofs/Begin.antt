@@ -88,12 +88,12 @@ pub spelt-some : (x : Name) → Spelt x → 0 < length x
 spelt-some [] p = let h = letter-high 0 (p .letter) in absurd (omega arith)
 spelt-some (b ∷ x) p = omega arith
 
-front-none : (s : List ℕ) → isName (first s) ≡ false → front s ≡ []
+pub front-none : (s : List ℕ) → isName (first s) ≡ false → front s ≡ []
 unfolding front
 front-none [] e = refl
 front-none (b ∷ s) e = rw e
 
-back-none : (s : List ℕ) → isName (first s) ≡ false → back s ≡ s
+pub back-none : (s : List ℕ) → isName (first s) ≡ false → back s ≡ s
 unfolding back
 back-none [] e = refl
 back-none (b ∷ s) e = rw e
@@ -122,7 +122,7 @@ spelt-begins x s p = skip-at (x ++ s) (rw (first-of x s p) (name-solid (first x)
 
 -- ---- entries
 
-front-all : (s : List ℕ) → allName (front s) ≡ true
+pub front-all : (s : List ℕ) → allName (front s) ≡ true
 unfolding front allName
 front-all [] = refl
 front-all (b ∷ s) = go (isName b) refl (front-all s)
@@ -131,7 +131,7 @@ front-all (b ∷ s) = go (isName b) refl (front-all s)
     go true e i = rw e i
     go false e i = refl
 
-first-front : (s : List ℕ) → isName (first s) ≡ true → first (front s) ≡ first s
+pub first-front : (s : List ℕ) → isName (first s) ≡ true → first (front s) ≡ first s
 unfolding front
 first-front [] e = refl
 first-front (b ∷ s) e = rw e

@@ -38,7 +38,7 @@ pub stops-46 : Stops 46
 unfolding isName isSmall isCapital isBlank
 stops-46 = record { name = refl; blank = refl; low = omega arith; mark = refl; none = (λ e. omega arith, λ e. omega arith, λ e. omega arith) }
 
-stops-59 : Stops 59
+pub stops-59 : Stops 59
 unfolding isName isSmall isCapital isBlank
 stops-59 = record { name = refl; blank = refl; low = omega arith; mark = refl; none = (λ e. omega arith, λ e. omega arith, λ e. omega arith) }
 
