@@ -100,7 +100,7 @@ appear-up no-more = omega arith
 appear-up (met-before h a) = appear-up a
 appear-up (first-time a) = let h = appear-up a in omega arith
 
-abbrev Below : ℕ → ℕ → Type 0
+abbrev pub Below : ℕ → ℕ → Type 0
 Below n k = k < n
 
 pub appear-below : {m n : ℕ} {ks : List ℕ} → Appear m n ks → Each (Below n) ks

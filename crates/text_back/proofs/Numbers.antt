@@ -67,12 +67,12 @@ map-twice g f (x ∷ xs) = ap (λ (zs : List _). g (f x) ∷ zs) (map-twice g f 
 pub map-back : {A B : Type 0} (g : B → A) (f : A → B) (xs : List A) → Each (λ x. g (f x) ≡ x) xs → map g (map f xs) ≡ xs
 map-back g f xs e = map-twice g f xs ∙ map-same (λ x. g (f x)) xs e
 
-joined-map : {A B C D : Type 0} (P : A → Type 0) (f : B → List D) (g : A → B) (h : C → D) (k : A → List C) → ((x : A) → P x → f (g x) ≡ map h (k x)) → (xs : List A) → Each P xs → joined f (map g xs) ≡ map h (joined k xs)
+pub joined-map : {A B C D : Type 0} (P : A → Type 0) (f : B → List D) (g : A → B) (h : C → D) (k : A → List C) → ((x : A) → P x → f (g x) ≡ map h (k x)) → (xs : List A) → Each P xs → joined f (map g xs) ≡ map h (joined k xs)
 unfolding joined
 joined-map P f g h k e [] p = refl
 joined-map P f g h k e (x ∷ xs) p = rw (e x (p .0), joined-map P f g h k e xs (p .1)) (sym (map-append h (k x) (joined k xs)))
 
-row-each : {A : Type 0} (P : A → Type 0) (xs : List A) → RowOk P xs → Each P xs
+pub row-each : {A : Type 0} (P : A → Type 0) (xs : List A) → RowOk P xs → Each P xs
 row-each P [] o = absurd o
 row-each P (x ∷ xs) o = o
 
@@ -262,7 +262,7 @@ terms-below n v [] a b = tt
 terms-below n v (Const c ∷ ts) a b = (a .0, terms-below n v ts (a .1) b)
 terms-below n v (Var w ∷ ts) a b = (b .0, terms-below n v ts a (b .1))
 
-constants-append : (ts us : List Term) → constantsIn (ts ++ us) ≡ constantsIn ts ++ constantsIn us
+pub constants-append : (ts us : List Term) → constantsIn (ts ++ us) ≡ constantsIn ts ++ constantsIn us
 unfolding constantsIn
 constants-append [] us = refl
 constants-append (Const c ∷ ts) us = ap (λ (zs : List ℕ). c ∷ zs) (constants-append ts us)

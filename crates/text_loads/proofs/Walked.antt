@@ -1,10 +1,11 @@
 -- The tests of a text's records are the loader's, and one more.
-use mathlib.Core.Path.{_≡_, refl}
+use mathlib.Core.Path.{_∙_, _≡_, refl, sym}
 use mathlib.Core.Bool.{_&&_, Bool, cond, false, true}
 use mathlib.Core.List.{List}
-use Prim.Native.Nat.{_<_, _≤_, suc, zero, ℕ}
-use lib.Dec.{eqb, ltb}
+use Prim.Native.Nat.{_+_, _<_, _≤_, suc, zero, ℕ}
+use lib.Dec.{eqb, leb, ltb}
 use lib.ListN.{length}
+use borrow.Author.Tests.{leb-false, leb-true}
 use native.Mathlib.Omega.{arith}
 use Rattle.load.proofs.Accepted.{all-passed}
 use Rattle.parlog.proofs.Bools.{never, split}
@@ -28,13 +29,21 @@ step true false true (Goes t) f h at r c end i e = absurd (let z : _≡_ {A = �
 step true false false (Goes t) f h at r c end i e = i t e
 
 -- how many relations are known behind a record
-more-relations : (s : List ℕ) (g : Progress) (at kind : ℕ) → (g .relations ≤ progressed s g at kind .relations) × (eqb kind 1 ≡ true → g .relations < progressed s g at kind .relations)
+record Known-more (g : Progress) (kind m : ℕ) : Type 0 where
+  pub least : g .relations ≤ m
+  pub most : m ≤ g .relations + 1
+  pub yes : eqb kind 1 ≡ true → g .relations < m
+  pub back : g .relations < m → eqb kind 1 ≡ true
+
+more-relations : (s : List ℕ) (g : Progress) (at kind : ℕ) → Known-more g kind (progressed s g at kind .relations)
 unfolding progressed
 more-relations s g at kind =
-    split (eqb kind 1) (λ e. rw e (omega arith, λ z. omega arith))
-    (λ e. split (eqb kind 2) (λ f. rw (e, f) (omega arith, λ z. never z)) (λ f. rw (e, f) (omega arith, λ z. never z)))
+    split (eqb kind 1) (λ e. rw e (record { least = omega arith; most = omega arith; yes = λ z. omega arith; back = λ z. e }))
+    (λ e. split (eqb kind 2)
+    (λ f. rw (e, f) (record { least = omega arith; most = omega arith; yes = λ z. never (sym e ∙ z); back = λ z. absurd (omega arith) }))
+    (λ f. rw (e, f) (record { least = omega arith; most = omega arith; yes = λ z. never (sym e ∙ z); back = λ z. absurd (omega arith) })))
 
-goes-more : (s : List ℕ) (g t : Progress) (at : ℕ) → cut s at ≡ false → verdict s g at ≡ Goes t → (g .relations ≤ t .relations) × (eqb (kindAt s at) 1 ≡ true → g .relations < t .relations)
+goes-more : (s : List ℕ) (g t : Progress) (at : ℕ) → cut s at ≡ false → verdict s g at ≡ Goes t → Known-more g (kindAt s at) (t .relations)
 goes-more s g t at e v = let p = all-passed s g t at e v in (rw (p .next) at (more-relations s g at (kindAt s at)))
 
 module _ (rels : List Name) (s : List ℕ) where
@@ -88,8 +97,8 @@ module _ (rels : List Name) (s : List ℕ) where
             let i = more t e in
             let m = goes-more s g t at f d in
             let l = i .0 in
-            let u = m .0 in
-            (omega arith, rw (not-again g at (λ x. let y = m .1 x in omega arith)) (i .1))
+            let u = m .least in
+            (omega arith, rw (not-again g at (λ x. let y = m .yes x in omega arith)) (i .1))
 
     pub loads-text : loadOf s ≡ Accepted r c → recordsIn rels s ≡ Accepted r c
     unfolding recordsIn loadOf
@@ -98,3 +107,43 @@ module _ (rels : List Name) (s : List ℕ) where
         go : (b : Bool) → cond b (Refused (refusal 1 0)) (records s (length s) 0 nothingRead) ≡ Accepted r c → walk s broken texted (loadEnd s) (length s) 0 nothingRead ≡ Accepted r c
         go true f = absurd (let z : _≡_ {A = ℕ} 0 1 = cc in omega arith)
         go false f = stays (length s) 0 nothingRead f .1
+
+  -- ---- where it passes, no relation is repeated
+
+  module _ (r c k : ℕ) (below : k < r) where
+    ends-not : (g : Progress) → g .relations ≤ k → loadEnd s g ≡ Accepted r c → repeated rels k ≡ false
+    ends-not g l e = go (eqb (g .kind) 3) e
+      where
+        go : (b : Bool) → cond b (Accepted (g .relations) (g .clauses)) (Refused (refusal 7 (length s))) ≡ Accepted r c → repeated rels k ≡ false
+        go true f = let z : g .relations ≡ r = cc in absurd (omega arith)
+        go false f = absurd (let z : _≡_ {A = ℕ} 0 1 = cc in omega arith)
+
+    abbrev Once : ℕ → ℕ → Progress → Type 0
+    Once n at g = g .relations ≤ k → walk s broken texted (loadEnd s) n at g ≡ Accepted r c → repeated rels k ≡ false
+
+    here-or-later : (g t : Progress) (at : ℕ) → Known-more g (kindAt s at) (t .relations) → g .relations ≤ k → (eqb (kindAt s at) relationKind && repeated rels (g .relations)) ≡ false → (t .relations ≤ k → repeated rels k ≡ false) → repeated rels k ≡ false
+    here-or-later g t at m l e later =
+        split (leb (t .relations) k) (λ f. later (leb-true (t .relations) k f))
+        (λ f. let h = leb-false (t .relations) k f in
+        let u = m .most in
+        let z : g .relations ≡ k = omega arith in
+        let q = m .back (omega arith) in
+        (rw (q, z) at e))
+
+    once-from : (n at : ℕ) (g : Progress) → Once n at g
+    unfolding walk textVerdict
+    once-from zero at g l e = ends-not g l e
+    once-from (suc n) at g l e = go (ltb at (length s)) (cut s at) refl (verdict s g at) refl (eqb (kindAt s at) relationKind && repeated rels (g .relations)) refl e (λ t. once-from n (recordEnd s at) t)
+      where
+        go : (b q : Bool) → cut s at ≡ q → (v : Verdict) → verdict s g at ≡ v → (a : Bool) → (eqb (kindAt s at) relationKind && repeated rels (g .relations)) ≡ a
+            → cond b (cond q (broken at) (after (walk s broken texted (loadEnd s) n (recordEnd s at)) at (onceBy a v))) (loadEnd s g) ≡ Accepted r c
+            → ((t : Progress) → Once n (recordEnd s at) t) → repeated rels k ≡ false
+        go false q f v d a w e more = ends-not g l e
+        go true true f v d a w e more = absurd (let z : _≡_ {A = ℕ} 0 1 = cc in omega arith)
+        go true false f (Refuses m) d a w e more = absurd (let z : _≡_ {A = ℕ} 0 1 = cc in omega arith)
+        go true false f (Goes t) d true w e more = absurd (let z : _≡_ {A = ℕ} 0 1 = cc in omega arith)
+        go true false f (Goes t) d false w e more = here-or-later g t at (goes-more s g t at f d) l w (λ h. more t h e)
+
+    pub once-each : recordsIn rels s ≡ Accepted r c → repeated rels k ≡ false
+    unfolding recordsIn
+    once-each e = once-from (length s) 0 nothingRead (omega arith) e
