@@ -1,4 +1,4 @@
--- When the text of an image is parsed to that image again.
+-- Request 4: "back too": when the text of an image is parsed to that image again.
 use mathlib.Core.Path.{_≡_}
 use mathlib.Core.Logic.{_≢_}
 use mathlib.Core.Bool.{true}
@@ -12,7 +12,7 @@ use Rattle.parlog.specs.Tables.{written}
 use Rattle.parlog.specs.declared.Loaded.the-variants.{Accepted}
 use Rattle.parlog.specs.declared.Term.{Term}
 use Rattle.parlog.specs.declared.Term.the-variants.{Const, Var}
-use Rattle.text_loads.specs.Loads.{AreBytes}
+use Rattle.rows.specs.Rows.{Bytes}
 use Rattle.text_names.specs.Entries.{entries, entryName}
 use Rattle.text_names.specs.Names.{Name}
 use Rattle.text_program.specs.Numbered.{joined}
@@ -49,21 +49,21 @@ variablesIn (Var v ∷ ts) = v ∷ variablesIn ts
 
 -- ---- the conditions
 
--- Text 22: numbers in order of first appearance: where m numbers have been met, the next number is one of those or is m; in the end n have been met
+-- Request 4: "numbered from 0 by first appearance": where m numbers have been met, the next is one of them or is m; in the end n have been met
 pub data Appear : ℕ → ℕ → List ℕ → Type 0 where
   no-more : {n : ℕ} → Appear n n []
   met-before : {m n k : ℕ} {ks : List ℕ} → k < m → Appear m n ks → Appear m n (k ∷ ks)
   first-time : {m n : ℕ} {ks : List ℕ} → Appear (suc m) n ks → Appear m n (m ∷ ks)
 
--- Text 22: the first n of these names are different
+-- Request 4: "a distinct name": the first n of these names are different
 abbrev pub Distinct : (ℕ → Name) → ℕ → Type 0
 Distinct name n = (i j : ℕ) → i < j → j < n → name i ≢ name j
 
--- Text 22: the variables of a clause, all used, appear in order
+-- Request 4: "the variables of each clause", "all used", in that order
 abbrev pub VariablesAppear : Clause → Type 0
 VariablesAppear c = Appear 0 (c .vars) (variablesIn (termsOfClause c))
 
--- Text 22: a distinct lower-case name for each relation and each of the n constants used; these, and the variables of each clause and the goal, all used, numbered in order of first appearance from 0
+-- Request 4: the list has a distinct lower-case name for each relation and each of the n constants used; these, and the variables of each clause and of the goal, are numbered in that order
 pub record PrintsBack (nm : List ℕ) (pr : Program) (n : ℕ) : Type 0 where
   pub named : programNamed nm pr ≡ true
   pub relations : Distinct (entryName nm) (length (pr .relations))
@@ -79,12 +79,12 @@ unfoldable pub firsts : (ℕ → Name) → ℕ → List Name
 firsts f zero = []
 firsts f (suc n) = firsts f n ++ (f n ∷ [])
 
--- Text 15, 22: the names used of a list: those of r relations and n constants
+-- Text 15: the names used of a list: those of r relations and of n constants
 abbrev pub namesUsed : List ℕ → ℕ → ℕ → List ℕ
 namesUsed nm r n = entries (firsts (entryName nm) r ++ firsts (λ c. entryName nm (r + c)) n)
 
--- Text 22: parsing the text that was printed gives the image and the names used
+-- Request 4: "reads back to it": parsing the text that was printed gives the image, and the names used
 abbrev pub PrintParse : Type 0
-PrintParse = (s nm row image names : List ℕ) (r c n k : ℕ) → AreBytes s → loadOf s ≡ Accepted r c → PrintsBack nm (programOf s r c) n → printCall row s nm .answer ≡ Wrote k →
+PrintParse = (s nm row image names : List ℕ) (r c n k : ℕ) → Bytes s → loadOf s ≡ Accepted r c → PrintsBack nm (programOf s r c) n → printCall row s nm .answer ≡ Wrote k →
     length s ≤ length image → length (namesUsed nm r n) ≤ length names →
     parseCall image names (take k (printCall row s nm .text)) ≡ record { answer = Read (length s) (length (namesUsed nm r n)); image = written s image; names = written (namesUsed nm r n) names }

@@ -18,8 +18,9 @@ use Rattle.parlog.specs.Program.{clauseOf, goalOf, literalOf, modesOf, programO
 use Rattle.parlog.specs.Records.{byteAt, kindAt, recordAt, recordEnd, wordAt}
 use Rattle.parlog.specs.Scan.{along, listOf}
 use Rattle.parlog.specs.declared.Term.the-variants.{Const, Var}
+use Rattle.rows.specs.Rows.{Bytes}
 use Rattle.text_loads.proofs.Stands.{along-up, between, Encodes, one-more, row-bytes, two-more}
-use Rattle.text_loads.specs.Loads.{AreBytes, EncodeDecode}
+use Rattle.text_loads.specs.Loads.{EncodeDecode}
 use Rattle.text_program.specs.Encoded.{askBytes, clauseBytes, goalBytes, literalBytes, programBytes, recordBytes, relationBytes, stageBytes, termBytes, wordBytes}
 use Rattle.text_program.specs.Numbered.{joined}
 
@@ -34,7 +35,7 @@ word-term w = go (ltb w 32768) refl
     go true e = refl
     go false e = let h = ltb-false w 32768 e in let z : 32768 + (w - 32768) ≡ w = omega arith in rw z
 
-module _ (s : List ℕ) (are : AreBytes s) where
+module _ (s : List ℕ) (are : Bytes s) where
   abbrev Here : ℕ → Type 0
   Here at = Unit {0}
 

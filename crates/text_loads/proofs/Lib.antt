@@ -6,3 +6,4 @@ pub mod Walked
 pub mod Counted
 pub mod Fitting
 pub mod Parsed
+pub mod Short

@@ -50,7 +50,7 @@ module _ (rels : List Name) (s : List ℕ) where
   abbrev texted : (Progress → Loaded) → ℕ → Progress → Loaded
   texted rest at g = after rest at (textVerdict rels s g at)
 
-  passes : (n at : ℕ) (g : Progress) (r c : ℕ) → walk s broken texted (loadEnd s) n at g ≡ Accepted r c → records s n at g ≡ Accepted r c
+  pub passes : (n at : ℕ) (g : Progress) (r c : ℕ) → walk s broken texted (loadEnd s) n at g ≡ Accepted r c → records s n at g ≡ Accepted r c
   unfolding walk textVerdict
   passes zero at g r c e = e
   passes (suc n) at g r c e =

@@ -1,24 +1,23 @@
--- An image and its program have the same in them.
+-- Request 4: an image and its program tell the same, and the image of a text loads.
 use mathlib.Core.Path.{_≡_}
+use mathlib.Core.Bool.{false}
 use mathlib.Core.List.{List}
 use Prim.Native.Nat.{_<_, ℕ}
-use lib.ListN.{getD, length, take}
+use lib.ListN.{length, take}
 use Rattle.parlog.specs.Image.{firstVariable}
-use Rattle.parlog.specs.Load.{loadOf}
+use Rattle.parlog.specs.Load.{loadOf, long}
 use Rattle.parlog.specs.Orders.{Each}
 use Rattle.parlog.specs.Program.{Clause, Goal, Literal, Program, programOf}
 use Rattle.parlog.specs.declared.Loaded.the-variants.{Accepted}
 use Rattle.parlog.specs.declared.Term.{Term}
 use Rattle.parlog.specs.declared.Term.the-variants.{Const, Var}
+use Rattle.rows.specs.Rows.{Bytes}
+use Rattle.text_names.specs.Names.{Name}
 use Rattle.text_program.specs.Encoded.{programBytes}
 use Rattle.text_program.specs.Numbered.{programIn}
-use Rattle.text_program.specs.Parsing.{parseCall}
+use Rattle.text_program.specs.Parsing.{parseCall, recordsIn}
 use Rattle.text_program.specs.Source.{Source, sourceOf}
 use Rattle.text_program.specs.declared.Parsed.the-variants.{Read}
-
--- Image 2: bytes are below 256
-abbrev pub AreBytes : List ℕ → Type 0
-AreBytes s = (j : ℕ) → getD s j 0 < 256
 
 -- Image 9: a constant has one of the numbers that are no variables
 abbrev pub TermFits : Term → Type 0
@@ -50,7 +49,11 @@ DecodeEncode = (pr : Program) → ProgramFits pr → programOf (programBytes pr)
 
 -- Text 14: the bytes of the program of an accepted image are that image
 abbrev pub EncodeDecode : Type 0
-EncodeDecode = (s : List ℕ) (r c : ℕ) → AreBytes s → loadOf s ≡ Accepted r c → programBytes (programOf s r c) ≡ s
+EncodeDecode = (s : List ℕ) (r c : ℕ) → Bytes s → loadOf s ≡ Accepted r c → programBytes (programOf s r c) ≡ s
+
+-- Text 18: no image that passes the tests of its records is too long, so that 1 is never given
+abbrev pub NeverLong : Type 0
+NeverLong = (rels : List Name) (s : List ℕ) (r c : ℕ) → recordsIn rels s ≡ Accepted r c → long s ≡ false
 
 -- Text 14, 21: the image of a text loads, with as many relations as there are mode lines and as many clauses as there are, and holds the program that the text means
 pub record TextLoads (s : List ℕ) (p : Source) : Type 0 where
