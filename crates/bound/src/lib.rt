@@ -1,7 +1,5 @@
-// Step, turn and supply, which tell the variables bound: the plain calls with one row more.
+// The step and the supply, which tell the variables bound: the plain ones with one row more.
 use children::Told;
-use parlog::Found;
-use parlog::Loaded;
 use parlog::Stepped;
 use parlog::Supplied;
 use parlog::Term;
@@ -13,12 +11,12 @@ ghost use Rattle.entry.specs.Entered.{Inside};
 ghost use Rattle.parlog.specs.Limits.{small};
 ghost use Rattle.parlog.specs.Tables.{at, lent, procCount, procsOf};
 ghost use Rattle.program_index.specs.Indexed.{Indexed};
-ghost use Rattle.bound.specs.Calls.{RowSays, stepBoundCall, stepBoundIn, supplyBoundCall, turnBoundCall, turnBoundIn};
+ghost use Rattle.bound.specs.Calls.{RowSays, stepBoundIn, supplyBoundCall};
 
-// ---- a step and a turn
+// ---- a step
 
 // The step of process p, in tables that keep the rules; nothing is written before it is known to be made and to be told.
-fn step_in(
+pub fn step_in(
     image: &[u8],
     rels: usize,
     clauses: usize,
@@ -49,84 +47,6 @@ fn step_in(
     step::carry_out(head, procs, vars, p, plan);
     bound_row::tell(bound, list, count);
     Stepped::Moved(mv)
-}
-
-// The step by number, and the variables that it bound.
-pub fn step_bound(
-    image: &[u8],
-    head: &mut [u8],
-    procs: &mut [u8],
-    vars: &mut [u8],
-    bound: &mut [u8],
-    process: u32,
-) -> Stepped
-    ensures { λ r. ⌜ RowSays (stepBoundCall small (now (image .entry)) (lent (now (head .entry)) (now (procs .entry)) (now (vars .entry))) (now (bound .entry)) process) r (now (head .exit)) (now (procs .exit)) (now (vars .exit)) (now (bound .exit)) ⌝ }
-{
-    let mut ix = [0u16; program_index::SIZE];
-    let e = entry::enter(image, head, procs, vars, &mut ix);
-    let Loaded::Accepted(rels, clauses) = e else {
-        let r = load::refusal(e);
-        return Stepped::Unmoved(r);
-    };
-    let p = process as usize;
-    let n = head::proc_count(head);
-    if n <= p {
-        return Stepped::Unmoved(entry::refusal(codes::NODE));
-    }
-    let told = step::ask(procs, n, p);
-    step_in(image, rels, clauses, &ix, head, procs, vars, bound, p, told)
-}
-
-// The step of whose turn it is, in tables that keep the rules.
-fn turn_in(
-    image: &[u8],
-    rels: usize,
-    clauses: usize,
-    ix: &[u16; program_index::SIZE],
-    head: &mut [u8],
-    procs: &mut [u8],
-    vars: &mut [u8],
-    bound: &mut [u8],
-) -> Stepped
-    requires { ⌜ Inside small (now image) rels clauses (lent (now head) (now procs) (now vars)) × Indexed (now image) rels clauses (now ix) ⌝ }
-    ensures { λ r. ⌜ RowSays (turnBoundIn small (now (image .entry)) rels clauses (lent (now (head .entry)) (now (procs .entry)) (now (vars .entry))) (now (bound .entry))) r (now (head .exit)) (now (procs .exit)) (now (vars .exit)) (now (bound .exit)) ⌝ }
-{
-    let t = run::whose(head, procs, vars);
-    let f = t.who;
-    let Found::At(p) = f else {
-        return Stepped::Unmoved(entry::refusal(codes::STILL));
-    };
-    step_in(
-        image,
-        rels,
-        clauses,
-        ix,
-        head,
-        procs,
-        vars,
-        bound,
-        p,
-        t.told,
-    )
-}
-
-// The turn, and the variables that it bound.
-pub fn turn_bound(
-    image: &[u8],
-    head: &mut [u8],
-    procs: &mut [u8],
-    vars: &mut [u8],
-    bound: &mut [u8],
-) -> Stepped
-    ensures { λ r. ⌜ RowSays (turnBoundCall small (now (image .entry)) (lent (now (head .entry)) (now (procs .entry)) (now (vars .entry))) (now (bound .entry))) r (now (head .exit)) (now (procs .exit)) (now (vars .exit)) (now (bound .exit)) ⌝ }
-{
-    let mut ix = [0u16; program_index::SIZE];
-    let e = entry::enter(image, head, procs, vars, &mut ix);
-    let Loaded::Accepted(rels, clauses) = e else {
-        let r = load::refusal(e);
-        return Stepped::Unmoved(r);
-    };
-    turn_in(image, rels, clauses, &ix, head, procs, vars, bound)
 }
 
 // ---- a supply

@@ -144,7 +144,7 @@ pub extern "C" fn rissobarm_step_bound(
 ) -> u64
     ensures { λ r. ⌜ StepBoundTells small (now (image .entry)) (lent (now (head .entry)) (now (procs .entry)) (now (vars .entry))) (now (bound .entry)) process r (now (head .exit)) (now (procs .exit)) (now (vars .exit)) (now (bound .exit)) ⌝ }
 {
-    let a = bound::step_bound(image, head, procs, vars, bound, process);
+    let a = bound_calls::step_bound(image, head, procs, vars, bound, process);
     words::step_word(a)
 }
 
@@ -159,7 +159,7 @@ pub extern "C" fn rissobarm_turn_bound(
 ) -> u64
     ensures { λ r. ⌜ TurnBoundTells small (now (image .entry)) (lent (now (head .entry)) (now (procs .entry)) (now (vars .entry))) (now (bound .entry)) r (now (head .exit)) (now (procs .exit)) (now (vars .exit)) (now (bound .exit)) ⌝ }
 {
-    let a = bound::turn_bound(image, head, procs, vars, bound);
+    let a = bound_calls::turn_bound(image, head, procs, vars, bound);
     words::step_word(a)
 }
 

@@ -1,8 +1,8 @@
-use Rattle.bound.proofs.Telling.{turn-away, turn-done}
+use Rattle.bound_calls.proofs.Telling.{turn-away, turn-done}
 use Rattle.entry.proofs.Entering.{indexed-of, inside-of}
 use borrow.Author.Needs.{needs}
-use Rattle.bound.proofs.turn_bound.Statement.{statement}
-use Rattle.bound.proofs.turn_bound.Tie as tie
+use Rattle.bound_calls.proofs.turn_bound.Statement.{statement}
+use Rattle.bound_calls.proofs.turn_bound.Tie as tie
 
 pub turn-bound-spec : {M : Type 1} → statement M
 turn-bound-spec =

@@ -1,11 +1,11 @@
-use Rattle.bound.proofs.Telling.{step-away, step-done, step-nobody}
+use Rattle.bound_calls.proofs.Telling.{step-away, step-done, step-nobody}
 use Rattle.entry.proofs.Entering.{indexed-of, inside-of}
 use Rattle.step.proofs.Deciding.{told-of}
 use native.Mathlib.Omega.{arith}
 use mathlib.Core.Path.{sym}
 use borrow.Author.Needs.{needs}
-use Rattle.bound.proofs.step_bound.Statement.{statement}
-use Rattle.bound.proofs.step_bound.Tie as tie
+use Rattle.bound_calls.proofs.step_bound.Statement.{statement}
+use Rattle.bound_calls.proofs.step_bound.Tie as tie
 
 pub step-bound-spec : {M : Type 1} → statement M
 step-bound-spec =

@@ -1,8 +1,8 @@
-use Rattle.bound.proofs.Telling.{turn-none, turn-some}
+use Rattle.bound_calls.proofs.Telling.{turn-none, turn-some}
 use Rattle.run.proofs.Turning.{turn-below, turning}
 use borrow.Author.Needs.{needs}
-use Rattle.bound.proofs.turn_in.Statement.{statement}
-use Rattle.bound.proofs.turn_in.Tie as tie
+use Rattle.bound_calls.proofs.turn_in.Statement.{statement}
+use Rattle.bound_calls.proofs.turn_in.Tie as tie
 
 pub turn-in-spec : {M : Type 1} → statement M
 turn-in-spec =
