@@ -8,7 +8,7 @@ use lib.ListN.{length}
 use native.Mathlib.Omega.{arith}
 use Rattle.bound.specs.Calls.{RowCall, RowSays, stepBoundCall, stepTells, supplyBoundCall, supplyTells, tellBy, tellIn, turnBoundCall}
 use Rattle.bound_row.specs.Row.{boundBytes}
-use Rattle.capi.specs.Tells.{ResumeTells, RowTells, RunTells, SaveTells, StartTells, StepTells, SupplyTells, Tells, TurnTells, ValuesTells, ValueTells, WatchTells}
+use Rattle.capi.specs.Tells.{PrintTells, ResumeTells, RowTells, RunTells, SaveTells, StartTells, StepTells, SupplyTells, Tells, TurnTells, ValuesTells, ValueTells, WatchTells}
 use Rattle.load.specs.Fields.{refusalOf}
 use Rattle.machine.specs.Starting.{StartSays}
 use Rattle.machine.specs.Supplying.{SupplySays}
@@ -29,12 +29,15 @@ use Rattle.parlog.specs.declared.Stepped.the-variants.{Moved, Unmoved}
 use Rattle.parlog.specs.declared.Supplied.{Supplied}
 use Rattle.parlog.specs.declared.Supplied.the-variants.{Given, Ungiven}
 use Rattle.parlog.specs.declared.Valued.{Valued}
+use Rattle.print.specs.Says.{PrintSays}
 use Rattle.resume.specs.Says.{ResumeSays, SaveSays}
 use Rattle.resume.specs.declared.Resumed.{Resumed}
 use Rattle.resume.specs.declared.Saved.{Saved}
 use Rattle.rows.proofs.Tables.{procs-length}
 use Rattle.run.specs.Running.{RunSays, TurnSays}
 use Rattle.step.specs.Stepping.{StepSays}
+use Rattle.text_program.specs.declared.Printed.{Printed}
+use Rattle.text_words.specs.Numbers.{printNumbers}
 use Rattle.values.specs.Values.{valuesNumbers, ValuesSays}
 use Rattle.values.specs.declared.Gathered.{Gathered}
 use Rattle.words.proofs.Fitting.{run-fits, start-fits, step-fits, supply-fits, turn-fits, value-fits, values-fits, watch-reached}
@@ -163,3 +166,8 @@ module _ (lim : Limits) (s : List ℕ) (l : Lent) (row : List ℕ) {a : Saved} {
 
 pub resume-tells : (lim : Limits) (s : List ℕ) (l : Lent) (x : List ℕ) {a : Resumed} {h p v : List ℕ} → ResumeSays lim s l x a h p v → {w : ℕ} → w ≡ word (resumeNumbers a) → ResumeTells lim s l x w h p v
 resume-tells lim s l x t k = tells-of (t .answer) resumeNumbers (t .head) (t .procs) (t .vars) k
+
+-- ---- clause text
+
+pub print-tells : (image names text : List ℕ) {a : Printed} {text′ : List ℕ} → PrintSays image names text a text′ → {w : ℕ} → w ≡ word (printNumbers a) → PrintTells image names text w text′
+print-tells image names text t k = record { answer = word-of (t .answers) printNumbers k; text-is = t .leaves }

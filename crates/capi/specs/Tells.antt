@@ -11,6 +11,8 @@ use Rattle.parlog.specs.Numbers.{loadNumbers, Numbers, runNumbers, startNumbers
 use Rattle.parlog.specs.Run.{watchOf}
 use Rattle.parlog.specs.Tables.{Lent, procsOf, rowSize}
 use Rattle.resume.specs.Calls.{resumeCall, saveCall}
+use Rattle.text_program.specs.Printing.{printCall}
+use Rattle.text_words.specs.Numbers.{printNumbers}
 use Rattle.values.specs.Values.{valuesCall, valuesNumbers}
 use Rattle.words.specs.Fits.{reached}
 use Rattle.words.specs.Nights.{resumeNumbers, saveNumbers}
@@ -94,3 +96,10 @@ pub record SaveTells (lim : Limits) (s : List ℕ) (l : Lent) (row : List ℕ) (
 -- Saved 10, 11: of a resume from the saved run x, which is lent to read only
 abbrev pub ResumeTells : Limits → List ℕ → Lent → List ℕ → ℕ → List ℕ → List ℕ → List ℕ → Type 0
 ResumeTells lim s l x r h p v = Tells (resumeNumbers (resumeCall lim s l x .answer)) (resumeCall lim s l x .lent) r h p v
+
+-- ---- clause text
+
+-- Text 27, 28: of a print: the word, and the row afterwards; image and names are lent to read only
+pub record PrintTells (image names text : List ℕ) (r : ℕ) (text′ : List ℕ) : Type 0 where
+  pub answer : r ≡ word (printNumbers (printCall text image names .answer))
+  pub text-is : text′ ≡ printCall text image names .text
