@@ -11,8 +11,9 @@ use Rattle.parlog.specs.Numbers.{loadNumbers, Numbers, runNumbers, startNumbers
 use Rattle.parlog.specs.Run.{watchOf}
 use Rattle.parlog.specs.Tables.{Lent, procsOf, rowSize}
 use Rattle.resume.specs.Calls.{resumeCall, saveCall}
+use Rattle.text_program.specs.Parsing.{parseCall}
 use Rattle.text_program.specs.Printing.{printCall}
-use Rattle.text_words.specs.Numbers.{printNumbers}
+use Rattle.text_words.specs.Numbers.{parseNumbers, printNumbers}
 use Rattle.values.specs.Values.{valuesCall, valuesNumbers}
 use Rattle.words.specs.Fits.{reached}
 use Rattle.words.specs.Nights.{resumeNumbers, saveNumbers}
@@ -103,3 +104,9 @@ ResumeTells lim s l x r h p v = Tells (resumeNumbers (resumeCall lim s l x .answ
 pub record PrintTells (image names text : List ℕ) (r : ℕ) (text′ : List ℕ) : Type 0 where
   pub answer : r ≡ word (printNumbers (printCall text image names .answer))
   pub text-is : text′ ≡ printCall text image names .text
+
+-- Text 20, 21: of a parse: the word, and both rows afterwards; the text is lent to read only
+pub record ParseTells (image names text : List ℕ) (r : ℕ) (image′ names′ : List ℕ) : Type 0 where
+  pub answer : r ≡ word (parseNumbers (parseCall image names text .answer))
+  pub image-is : image′ ≡ parseCall image names text .image
+  pub names-is : names′ ≡ parseCall image names text .names

@@ -23,4 +23,6 @@ pub mod Apart
 pub mod Newly
 pub mod Bound
 pub mod BoundSupply
+pub mod Texts
+pub mod TextsBack
 pub mod Computed

@@ -5,3 +5,4 @@ pub mod Moves
 pub mod Reach
 pub mod Bound
 pub mod BoundCases
+pub mod Texts

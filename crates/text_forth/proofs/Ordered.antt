@@ -111,7 +111,7 @@ unique-distinct ys u i j h l e =
 
 -- ---- relations that are not repeated
 
-look-within : (ys : List Name) (i : ℕ) → i < length ys → look ys (getD ys i []) ≤ i
+pub look-within : (ys : List Name) (i : ℕ) → i < length ys → look ys (getD ys i []) ≤ i
 unfolding look
 look-within [] i h = absurd (omega arith)
 look-within (y ∷ ys) zero h = rw (same-refl y) (omega arith)
