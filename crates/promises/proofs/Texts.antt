@@ -1,52 +1,43 @@
 -- Clause text: one result only, demands 1 and 2 of print and parse.
 use mathlib.Core.Path.{_∙_, _≡_, ap, refl, sym}
 use mathlib.Core.Logic.{_⊎_, inl, inr}
-use mathlib.Core.Bool.{_&&_, Bool, cond, false, not, true}
-use mathlib.Core.List.{[], _∷_, List}
-use Prim.Native.Nat.{_%_, _/_, _<_, _≤_, suc, ℕ}
-use lib.Dec.{eqb, leb}
-use lib.ListN.{drop, getD, length, take}
+use mathlib.Core.Bool.{_&&_, Bool, cond, false, true}
+use mathlib.Core.List.{List}
+use Prim.Native.Nat.{_%_, _/_, _<_, _≤_, ℕ}
+use lib.Dec.{leb}
+use lib.ListN.{drop, length, take}
 use lib.Seq.{take-append-seam}
-use borrow.Author.Tests.{le-leb, leb-false, leb-true, lt-leb, lt-ltb, ltb-false, ltb-true}
+use borrow.Author.Tests.{le-leb, leb-false, leb-true, lt-leb, ltb-false}
 use native.Mathlib.Omega.{arith}
 use Rattle.parlog.proofs.Bools.{and-true, not-so, split}
-use Rattle.parlog.proofs.Walk.{walk-holds}
-use Rattle.parlog.specs.Body.{bodyRight}
-use Rattle.parlog.specs.Image.{relationKind}
-use Rattle.parlog.specs.Load.{after, blockFull, broken, kindFault, loadEnd, loadOf, long, nothingRead, progressed, refusal, refuseIf, tooMany, verdict}
-use Rattle.parlog.specs.Names.{namesRight}
+use Rattle.parlog.specs.Load.{loadOf, long, refusal}
 use Rattle.parlog.specs.Numbers.{refusedAs, word}
-use Rattle.parlog.specs.Orders.{Each}
 use Rattle.parlog.specs.Program.{programOf}
-use Rattle.parlog.specs.Records.{kindAt}
 use Rattle.parlog.specs.Tables.{written}
 use Rattle.parlog.specs.declared.Loaded.{Loaded}
 use Rattle.parlog.specs.declared.Loaded.the-variants.{Accepted, Refused}
-use Rattle.parlog.specs.declared.Progress.{Progress}
 use Rattle.parlog.specs.declared.Refusal.{Refusal}
-use Rattle.parlog.specs.declared.Verdict.the-variants.{Goes}
 use Rattle.promises.proofs.Demand1.{a-refusal, Answered, no-refusal, refusing}
 use Rattle.promises.proofs.Entry.{bad-is}
 use Rattle.promises.proofs.Words.{large-of, refusal-of}
 use Rattle.promises.specs.Outcomes.{largeIn, refusalIn}
 use Rattle.promises.specs.Refusals.{Refusing}
-use Rattle.promises.specs.Texts.{bad-record, ClauseDeclared, Declared, GoalDeclared, HasLine, imageLengthIn, LiteralDeclared, no-clause-text, no-name, ParseMeets, ParseRefused, ParsesText, print-image, PrintMeets, PrintRefused, PrintsText, rows-short, text-short, undeclared}
+use Rattle.promises.specs.Texts.{bad-record, imageLengthIn, no-clause-text, no-name, ParseMeets, ParseRefused, ParsesText, print-image, PrintMeets, PrintRefused, PrintsText, rows-short, text-short, undeclared}
 use Rattle.refusals.proofs.Exactly.{accepted-right, refused-exactly, refused-number}
-use Rattle.refusals.proofs.Tests.{and-too, Decides, refuted, refutes}
+use Rattle.refusals.proofs.Tests.{refuted, refutes}
 use Rattle.spell.specs.Stuck.{spellingOf}
 use Rattle.spell.specs.declared.Spelt.{Spelt}
 use Rattle.spell.specs.declared.Spelt.the-variants.{Right, Stuck}
-use Rattle.text_back.proofs.Firsts.{same-is}
-use Rattle.text_forth.proofs.Ordered.{look-within}
 use Rattle.text_loads.proofs.Parsed.{source-loads}
 use Rattle.text_loads.proofs.Short.{never-long}
-use Rattle.text_names.specs.Names.{known, look, Name, sameName}
 use Rattle.text_program.specs.Numbered.{relationNames}
-use Rattle.text_program.specs.Parsing.{allOf, clauseDeclared, declared, goalDeclared, imageIn, literalDeclared, namesIn, onceBy, parseCall, recordsIn, repeated, textVerdict}
+use Rattle.text_program.specs.Parsing.{declared, imageIn, namesIn, parseCall, recordsIn}
 use Rattle.text_program.specs.Printing.{printCall, programNamed, programText}
-use Rattle.text_program.specs.Source.{calls, equals, Said, SaidClause, Source, sourceOf}
+use Rattle.text_program.specs.Source.{Source, sourceOf}
 use Rattle.text_program.specs.declared.Parsed.the-variants.{Read}
 use Rattle.text_program.specs.declared.Printed.the-variants.{Wrote}
+use Rattle.text_refusals.proofs.Declared.{declared-exactly}
+use Rattle.text_refusals.proofs.Exactly.{all-pass, none-refused, record-number, text-exactly}
 use Rattle.text_words.proofs.Laws.{parts-fit}
 use Rattle.text_words.specs.Numbers.{parseNumbers, printNumbers}
 use Rattle.words.proofs.Nights.{image-near, told-near}
@@ -158,88 +149,10 @@ module _ (image names text : List ℕ) where
         go (is-unprinted y) = let g = demand-1-print .by .given y in let m = print-numbered y in absurd (omega (arith, g .0, m .0))
         go (is-printed e k) = k
 
--- ---- a relation with a mode line
-
-each-decides : {A : Type 0} (ok : A → Bool) (P : A → Type 0) → ((x : A) → Decides (ok x) (P x)) → (xs : List A) → Decides (allOf ok xs) (Each P xs)
-unfolding allOf
-each-decides ok P d [] = (λ e. tt, λ h. refl)
-each-decides ok P d (x ∷ xs) = and-too (ok x) (allOf ok xs) (d x) (each-decides ok P d xs)
-
-look-gives : (ys : List Name) (x : Name) → look ys x < length ys → getD ys (look ys x) [] ≡ x
-unfolding look
-look-gives [] x h = absurd (omega arith)
-look-gives (y ∷ ys) x h = go (sameName y x) refl h (look-gives ys x)
-  where
-    go : (b : Bool) → sameName y x ≡ b → cond b 0 (suc (look ys x)) < suc (length ys) → (look ys x < length ys → getD ys (look ys x) [] ≡ x) → getD (y ∷ ys) (cond b 0 (suc (look ys x))) [] ≡ x
-    go true e h f = same-is y x e
-    go false e h f = f (omega arith)
-
-known-decides : (ys : List Name) (x : Name) → Decides (known ys x) (HasLine ys x)
-known-decides ys x = (
-  λ e. let h = ltb-true (look ys x) (length ys) e in record { line = look ys x; there = h; named = look-gives ys x h },
-  λ h. let k = rw (h .named) at (look-within ys (h .line) (h .there)) in let l = h .there in lt-ltb (look ys x) (length ys) (omega (arith, k, l)),
-)
-
-module _ (rels : List Name) where
-  literal-decides : (l : Said) → Decides (literalDeclared rels l) (LiteralDeclared rels l)
-  literal-decides (calls p ts) = known-decides rels p
-  literal-decides (equals a b) = (λ e. tt, λ h. refl)
-
-  goal-decides : (g : List (List Said)) → Decides (goalDeclared rels g) (GoalDeclared rels g)
-  goal-decides g = each-decides (allOf (literalDeclared rels)) (Each (LiteralDeclared rels)) (each-decides (literalDeclared rels) (LiteralDeclared rels) literal-decides) g
-
-  clause-decides : (c : SaidClause) → Decides (clauseDeclared rels c) (ClauseDeclared rels c)
-  clause-decides c =
-      let d = and-too (known rels (c .name)) (goalDeclared rels (c .guard) && goalDeclared rels (c .body)) (known-decides rels (c .name)) (and-too (goalDeclared rels (c .guard)) (goalDeclared rels (c .body)) (goal-decides (c .guard)) (goal-decides (c .body))) in (
-        λ e. let h = d .0 e in record { relation = h .0; guard = h .1 .0; body = h .1 .1 },
-        λ h. d .1 (h .relation, (h .guard, h .body)),
-      )
-
-declared-exactly : (p : Source) → Decides (declared p) (Declared p)
-unfolding declared
-declared-exactly p =
-    let rels = relationNames p in
-    let d = and-too (allOf (clauseDeclared rels) (p .clauses)) (goalDeclared rels (p .goal)) (each-decides (clauseDeclared rels) (ClauseDeclared rels) (clause-decides rels) (p .clauses)) (goal-decides rels (p .goal)) in
-    (λ e. let h = d .0 e in record { clauses = h .0; goal = h .1 }, λ h. d .1 (h .clauses, h .goal))
-
--- ---- a record of the image refused
-
-abbrev Numbered : Loaded → Type 0
-Numbered (Accepted r c) = Unit {0}
-Numbered (Refused f) = (1 ≤ f .number) × (f .number ≤ 7)
-
-verdict-numbered : (again kind many body names block : Bool) (t : Progress) (at : ℕ) (rest : Progress → Loaded) → ((x : Progress) → Numbered (rest x))
-    → Numbered (after rest at (onceBy again (refuseIf kind 3 (refuseIf many 6 (refuseIf body 4 (refuseIf names 5 (refuseIf block 6 (Goes t))))))))
-verdict-numbered again true many body names block t at rest go = (omega arith, omega arith)
-verdict-numbered again false true body names block t at rest go = (omega arith, omega arith)
-verdict-numbered again false false true names block t at rest go = (omega arith, omega arith)
-verdict-numbered again false false false true block t at rest go = (omega arith, omega arith)
-verdict-numbered again false false false false true t at rest go = (omega arith, omega arith)
-verdict-numbered true false false false false false t at rest go = (omega arith, omega arith)
-verdict-numbered false false false false false false t at rest go = go t
-
-module _ (rels : List Name) (s : List ℕ) where
-  one-numbered : (at : ℕ) (g : Progress) (rest : Progress → Loaded) → ((x : Progress) → Numbered (rest x)) → Numbered (after rest at (textVerdict rels s g at))
-  unfolding textVerdict verdict
-  one-numbered at g rest go =
-      verdict-numbered (eqb (kindAt s at) relationKind && repeated rels (g .relations)) (kindFault g (kindAt s at)) (tooMany g (kindAt s at)) (not (bodyRight s at (kindAt s at))) (not (namesRight s g at (kindAt s at))) (blockFull s g at (kindAt s at))
-      (progressed s g at (kindAt s at)) at rest go
-
-  end-numbered : (g : Progress) → Numbered (loadEnd s g)
-  end-numbered g = split (eqb (g .kind) 3) (λ e. rw e tt) (λ e. rw e (omega arith, omega arith))
-
-  records-numbered : Numbered (recordsIn rels s)
-  unfolding recordsIn
-  records-numbered = walk-holds s broken (λ rest at g. after rest at (textVerdict rels s g at)) (loadEnd s) (λ at g. Unit {0}) Numbered
-      (λ at g h l e. (omega arith, omega arith))
-      (λ at g h l e rest go. one-numbered at g rest (λ t. go t tt))
-      (λ at g h l. end-numbered g)
-      (length s) 0 nothingRead (omega arith) tt
-
 parse-numbered : {image names text : List ℕ} {n o : ℕ} → ParseRefused image names text n o → (1 ≤ n) × (n ≤ 17)
 parse-numbered (no-clause-text h) = (omega arith, omega arith)
 parse-numbered (undeclared c h) = (omega arith, omega arith)
-parse-numbered {text = text} (bad-record c d e) = let a = rw e at (records-numbered (relationNames (sourceOf text)) (imageIn (sourceOf text))) in (a .0, omega (arith, a .1))
+parse-numbered (bad-record c d x) = let a = record-number x in (omega (arith, a .0), omega (arith, a .1))
 parse-numbered (rows-short c d e h) = (omega arith, omega arith)
 
 -- ---- a parse
@@ -271,14 +184,17 @@ module _ (image names text : List ℕ) where
       let e = exact.right-accepted text c in
       let d = refutes (declared p) (declared-exactly p) h in
       record { tells = rw (e, d); keeps-image = rw (e, d); keeps-names = rw (e, d) }
-  parse-refused (bad-record c h q) =
+  parse-refused (bad-record c h x) =
       let e = exact.right-accepted text c in
       let d = declared-exactly p .1 h in
+      let q = text-exactly p .1 x in
       record { tells = rw (e, d, q); keeps-image = rw (e, d, q); keeps-names = rw (e, d, q) }
-  parse-refused (rows-short {r} {c} t h q s) =
-      let e = exact.right-accepted text t in
+  parse-refused (rows-short c h n s) =
+      let e = exact.right-accepted text c in
       let d = declared-exactly p .1 h in
-      let l = never-long (relationNames p) (imageIn p) r c q in
+      let a = none-refused p n in
+      let q = a .2 in
+      let l = never-long (relationNames p) (imageIn p) (a .0) (a .1) q in
       let f = room-lacks (length image) (length names) (length (imageIn p)) (length (namesIn p)) s in
       record { tells = rw (e, d, q, l, f); keeps-image = rw (e, d, q, l, f); keeps-names = rw (e, d, q, l, f) }
 
@@ -323,9 +239,9 @@ module _ (image names text : List ℕ) where
     parsing-so = spelling (spellingOf text) refl
       where
         records : spellingOf text ≡ Right → declared p ≡ true → (x : Loaded) → recordsIn (relationNames p) (imageIn p) ≡ x → Parsing
-        records e d (Refused f) q = is-unparsed (bad-record (exact.accepted-right text e) (declared-exactly p .0 d) q)
+        records e d (Refused f) q = is-unparsed (bad-record (exact.accepted-right text e) (declared-exactly p .0 d) (text-exactly p .0 q))
         records e d (Accepted a b) q = split roomy (λ f. made-parses e d q f)
-            (λ f. is-unparsed (rows-short (exact.accepted-right text e) (declared-exactly p .0 d) q (lacks-room (length image) (length names) (length (imageIn p)) (length (namesIn p)) f)))
+            (λ f. is-unparsed (rows-short (exact.accepted-right text e) (declared-exactly p .0 d) (λ n o x. all-pass p q x) (lacks-room (length image) (length names) (length (imageIn p)) (length (namesIn p)) f)))
 
         spelling : (x : Spelt) → spellingOf text ≡ x → Parsing
         spelling (Stuck i) e = is-unparsed (no-clause-text (exact.stuck-exact text i e))

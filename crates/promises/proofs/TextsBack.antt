@@ -1,8 +1,8 @@
 -- Request 4: what was printed is parsed to the image again, and what was parsed is printed and parsed again.
-use mathlib.Core.Path.{_∙_, _≡_, ap, sym}
+use mathlib.Core.Path.{_∙_, _≡_, sym}
 use mathlib.Core.Bool.{true}
 use mathlib.Core.List.{List}
-use Prim.Native.Nat.{_<_, _≤_, ℕ}
+use Prim.Native.Nat.{_≤_, ℕ}
 use lib.Dec.{leb}
 use lib.ListN.{drop, length, take}
 use lib.Seq.{take-append-seam}
@@ -10,7 +10,6 @@ use borrow.Author.Tests.{le-leb, leb-false, leb-true, lt-leb}
 use native.Mathlib.Omega.{arith}
 use Rattle.parlog.proofs.Bools.{split}
 use Rattle.parlog.specs.Load.{refusal}
-use Rattle.parlog.specs.Numbers.{refusedAs, word}
 use Rattle.parlog.specs.Program.{programOf}
 use Rattle.parlog.specs.Tables.{written}
 use Rattle.promises.proofs.Texts.{demand-1-print, demand-2-parse, parse-answer, print-made, read-told, wrote-told}
@@ -29,7 +28,6 @@ use Rattle.text_program.specs.Printing.{printCall, programNamed, programText}
 use Rattle.text_program.specs.Source.{sourceOf}
 use Rattle.text_program.specs.declared.Parsed.the-variants.{Read}
 use Rattle.text_words.proofs.Laws.{told-same}
-use Rattle.words.specs.Nights.{toldOffset}
 
 -- a parse of which the definitions give image and names
 reads-again : (s nm image names text : List ℕ) → length s ≤ 32768 → parseCall image names text ≡ record { answer = Read (length s) (length nm); image = written s image; names = written nm names }

@@ -2,26 +2,24 @@
 use mathlib.Core.Path.{_≡_}
 use mathlib.Core.Logic.{_≢_, _⊎_}
 use mathlib.Core.Bool.{true}
-use mathlib.Core.List.{[], List}
+use mathlib.Core.List.{List}
 use Prim.Native.Nat.{_%_, _/_, _<_, _≤_, ℕ}
-use lib.ListN.{getD, length, take}
+use lib.ListN.{length, take}
 use Rattle.capi.specs.Tells.{ParseTells, PrintTells}
-use Rattle.parlog.specs.Load.{refusal}
-use Rattle.parlog.specs.Orders.{Each}
 use Rattle.parlog.specs.Program.{programOf}
 use Rattle.parlog.specs.Tables.{written}
-use Rattle.parlog.specs.declared.Loaded.the-variants.{Accepted, Refused}
 use Rattle.promises.specs.Outcomes.{largeIn, refusalIn}
 use Rattle.promises.specs.Refusals.{BadImage}
 use Rattle.refusals.specs.Right.{RightImage}
 use Rattle.spell.specs.Grammar.{ClauseText}
 use Rattle.spell.specs.Stuck.{StuckAt}
 use Rattle.text_loads.specs.Loads.{TextLoads}
-use Rattle.text_names.specs.Names.{Name}
 use Rattle.text_program.specs.Numbered.{relationNames}
-use Rattle.text_program.specs.Parsing.{imageIn, namesIn, recordsIn}
+use Rattle.text_program.specs.Parsing.{imageIn, namesIn}
 use Rattle.text_program.specs.Printing.{programNamed, programText}
-use Rattle.text_program.specs.Source.{calls, equals, Said, SaidClause, Source, sourceOf}
+use Rattle.text_program.specs.Source.{sourceOf}
+use Rattle.text_refusals.specs.Declared.{Declared}
+use Rattle.text_refusals.specs.Refused.{RecordRefused}
 use Rattle.words.specs.Nights.{toldOffset}
 
 -- ---- a print: image and names are lent to read only
@@ -56,38 +54,12 @@ pub record ParseMeets (image names text : List ℕ) (w : ℕ) (image′ names′
 abbrev pub imageLengthIn : ℕ → ℕ
 imageLengthIn w = w / 256 % 65536
 
--- Text 16: a relation that has a mode line
-pub record HasLine (rels : List Name) (x : Name) : Type 0 where
-  pub line : ℕ
-  pub there : line < length rels
-  pub named : getD rels line [] ≡ x
-
--- Text 16: a literal is of such a relation, or an equality
-abbrev pub LiteralDeclared : List Name → Said → Type 0
-LiteralDeclared rels (calls p ts) = HasLine rels p
-LiteralDeclared rels (equals a b) = Unit {0}
-
-abbrev pub GoalDeclared : List Name → List (List Said) → Type 0
-GoalDeclared rels g = Each (Each (LiteralDeclared rels)) g
-
--- Text 16: a clause is, and its literals are
-pub record ClauseDeclared (rels : List Name) (c : SaidClause) : Type 0 where
-  pub relation : HasLine rels (c .name)
-  pub guard : GoalDeclared rels (c .guard)
-  pub body : GoalDeclared rels (c .body)
-
--- Text 16: all clauses and literals of a text are
-pub record Declared (p : Source) : Type 0 where
-  pub clauses : Each (ClauseDeclared (relationNames p)) (p .clauses)
-  pub goal : GoalDeclared (relationNames p) (p .goal)
-
 -- Text 9, 16, 17, 19: no clause text; a relation without mode line; a record of the image refused; a row too short. Text 18: 1 is never given
 pub data ParseRefused (image names text : List ℕ) : ℕ → ℕ → Type 0 where
   no-clause-text : {i : ℕ} → StuckAt text i → ParseRefused image names text 16 (toldOffset i)
   undeclared : ClauseText text → (Declared (sourceOf text) → ⊥) → ParseRefused image names text 17 0
-  bad-record : {n o : ℕ} → ClauseText text → Declared (sourceOf text) → recordsIn (relationNames (sourceOf text)) (imageIn (sourceOf text)) ≡ Refused (refusal n o)
-      → ParseRefused image names text n (toldOffset o)
-  rows-short : {r c : ℕ} → ClauseText text → Declared (sourceOf text) → recordsIn (relationNames (sourceOf text)) (imageIn (sourceOf text)) ≡ Accepted r c
+  bad-record : {n o : ℕ} → ClauseText text → Declared (sourceOf text) → RecordRefused (relationNames (sourceOf text)) (imageIn (sourceOf text)) n o → ParseRefused image names text n (toldOffset o)
+  rows-short : ClauseText text → Declared (sourceOf text) → ((n o : ℕ) → RecordRefused (relationNames (sourceOf text)) (imageIn (sourceOf text)) n o → ⊥)
       → (length image < length (imageIn (sourceOf text))) ⊎ (length names < length (namesIn (sourceOf text))) → ParseRefused image names text 11 0
 
 -- Text 14, 15, 21: what is not refused is written as image and names, their lengths are told, and the image loads as the program that the text means

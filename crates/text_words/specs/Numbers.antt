@@ -1,5 +1,5 @@
 -- The numbers of a print and a parse, and what of them can be told.
-use Prim.Native.Nat.{_%_, _/_, _≤_, ℕ}
+use Prim.Native.Nat.{_%_, _/_, _≤_}
 use Rattle.parlog.specs.Numbers.{Numbers, refusedAs}
 use Rattle.text_program.specs.declared.Parsed.{Parsed}
 use Rattle.text_program.specs.declared.Parsed.the-variants.{Read, Unread}

@@ -1,0 +1,3 @@
+-- Refusals of a clause text a second time, as facts.
+pub mod Declared
+pub mod Refused
