@@ -16,7 +16,8 @@ DOCUMENT = os.path.join(ROOT, '..', 'shared', '01-scope.md')
 TITLES = {'Image': 'The image', 'Refusals': 'The refusal numbers', 'Tables': "A run's tables", 'Tags': 'Tags and modes',
           'Turns': 'Turn order and supplies'}
 SENTENCE = re.compile(r'(?ms)^- \*\*(\w+) (\d+[a-z]?)\*\* (.*?\.)((?:\s+`[^`]+`,?)*)\s*?(?=\n\n|\n- |\Z)')
-DEFINING = ['parlog', 'values', 'unify', 'bound_row', 'bound', 'saved', 'resume', 'words']
+DEFINING = ['parlog', 'values', 'unify', 'bound_row', 'bound', 'saved', 'resume', 'spell', 'text_names', 'text_program', 'words', 'text_words']
+KEYWORDS = ['pub', 'abbrev', 'unfoldable']
 WIDTH = 160
 
 
@@ -56,7 +57,7 @@ def name_of(line):
     if head:
         return [head.group(1)]
     cases = re.match(r'  ([a-z][^\s:]*(?: [a-z][^\s:]*)*) : ', line)
-    return [name for name in cases.group(1).split() if name != 'pub'] if cases else []
+    return [name for name in cases.group(1).split() if name not in KEYWORDS] if cases else []
 
 
 def comments(path):

@@ -232,7 +232,8 @@ module _ (image names text : List ℕ) where
           names-fit = leb-true (length (namesIn p)) (length names) (r .1);
           image-bytes = bytes;
           names-bytes = meets .contract .names-is ∙ rw m;
-          loads = rw front (source-loads p a b q l);
+          loads = rw front (accepted-right (imageIn p) .0 (source-loads p a b q l .loads));
+          means = rw front (source-loads p a b q l .means);
         }) (rw m)
 
     parsing-so : Parsing
@@ -255,7 +256,7 @@ module _ (image names text : List ℕ) where
         go (is-unparsed y) = a-refusal y
         go (is-parsed e k a) = no-refusal e
 
-    -- Text 21: what is not refused is parsed, and its image loads
+    -- Text 21: what is not refused is parsed, and its image is right
     pub demand-2-parse : refusalIn w ≡ 0 → ParsesText image names text w image′ names′
     demand-2-parse z = go parsing-so
       where

@@ -86,10 +86,10 @@ module _ (image names text : List ℕ) (w : ℕ) (image′ names′ : List ℕ) 
       rw (k .image-size, names-told, parses .contract .image-is, parses .contract .names-is) (parse-print image names text (length (imageIn (sourceOf text))) (length (namesIn (sourceOf text))) e)
 
   few : length s ≤ 32768
-  few = let k = demand-2-parse image names text w image′ names′ parses z in accepted-right s .0 (k .loads .loads) .short
+  few = let k = demand-2-parse image names text w image′ names′ parses z in k .loads .short
 
   -- THE LAW: what was parsed can be printed, and is then parsed to the same
-  pub forth : GoesForth s nm
+  pub forth : GoesForth (take (imageLengthIn w) image′) (take (largeIn w) names′)
   forth = record {
     text = printable .text;
     fits = λ {row} {w = v} {row′} prints h.
@@ -101,5 +101,5 @@ module _ (image names text : List ℕ) (w : ℕ) (image′ names′ : List ℕ) 
         let e = printable .printed row in
         let f = lt-leb (length (printable .text)) (length row) h in
         refused-told v (refusal 11 0) (omega arith) (prints .contract .answer ∙ rw (e, f)) .0;
-    again = λ {image = im} {names = na} {w = v} {image′ = im′} {names′ = na′} meets a b. reads-again s nm im na (printable .text) few (printable .parsed im na a b) v im′ na′ meets;
+    parsed = λ {image = im} {names = na} {w = v} {image′ = im′} {names′ = na′} meets a b. reads-again s nm im na (printable .text) few (printable .parsed im na a b) v im′ na′ meets;
   }

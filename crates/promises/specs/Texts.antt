@@ -13,8 +13,7 @@ use Rattle.promises.specs.Refusals.{BadImage}
 use Rattle.refusals.specs.Right.{RightImage}
 use Rattle.spell.specs.Grammar.{ClauseText}
 use Rattle.spell.specs.Stuck.{StuckAt}
-use Rattle.text_loads.specs.Loads.{TextLoads}
-use Rattle.text_program.specs.Numbered.{relationNames}
+use Rattle.text_program.specs.Numbered.{programIn, relationNames}
 use Rattle.text_program.specs.Parsing.{imageIn, namesIn}
 use Rattle.text_program.specs.Printing.{programNamed, programText}
 use Rattle.text_program.specs.Source.{sourceOf}
@@ -62,7 +61,7 @@ pub data ParseRefused (image names text : List ℕ) : ℕ → ℕ → Type 0 whe
   rows-short : ClauseText text → Declared (sourceOf text) → ((n o : ℕ) → RecordRefused (relationNames (sourceOf text)) (imageIn (sourceOf text)) n o → ⊥)
       → (length image < length (imageIn (sourceOf text))) ⊎ (length names < length (namesIn (sourceOf text))) → ParseRefused image names text 11 0
 
--- Text 14, 15, 21: what is not refused is written as image and names, their lengths are told, and the image loads as the program that the text means
+-- Text 14, 15, 21: what is not refused is written as image and names, their lengths are told, and the image is right and has the program that the text means
 pub record ParsesText (image names text : List ℕ) (w : ℕ) (image′ names′ : List ℕ) : Type 0 where
   pub right : ClauseText text
   pub image-size : imageLengthIn w ≡ length (imageIn (sourceOf text))
@@ -71,7 +70,8 @@ pub record ParsesText (image names text : List ℕ) (w : ℕ) (image′ names′
   pub names-fit : length (namesIn (sourceOf text)) ≤ length names
   pub image-bytes : image′ ≡ written (imageIn (sourceOf text)) image
   pub names-bytes : names′ ≡ written (namesIn (sourceOf text)) names
-  pub loads : TextLoads (take (imageLengthIn w) image′) (sourceOf text)
+  pub loads : RightImage (take (imageLengthIn w) image′) (length (sourceOf text .modes)) (length (sourceOf text .clauses))
+  pub means : programOf (take (imageLengthIn w) image′) (length (sourceOf text .modes)) (length (sourceOf text .clauses)) ≡ programIn (sourceOf text)
 
 -- ---- one reads the other
 
@@ -92,4 +92,4 @@ pub record GoesForth (s nm : List ℕ) : Type 0 where
   pub text : List ℕ
   pub fits : {row : List ℕ} {w : ℕ} {row′ : List ℕ} → PrintMeets s nm row w row′ → length text ≤ length row → (refusalIn w ≡ 0) × (largeIn w ≡ toldOffset (length text)) × (row′ ≡ written text row)
   pub short : {row : List ℕ} {w : ℕ} {row′ : List ℕ} → PrintMeets s nm row w row′ → length row < length text → refusalIn w ≡ 11
-  pub again : {image names : List ℕ} {w : ℕ} {image′ names′ : List ℕ} → ParseMeets image names text w image′ names′ → length s ≤ length image → length nm ≤ length names → ReadsAgain s nm image names w image′ names′
+  pub parsed : {image names : List ℕ} {w : ℕ} {image′ names′ : List ℕ} → ParseMeets image names text w image′ names′ → length s ≤ length image → length nm ≤ length names → ReadsAgain s nm image names w image′ names′
