@@ -24,9 +24,9 @@ use Rattle.text_back.proofs.Firsts.{firsts-length, look-first}
 use Rattle.text_back.proofs.Lines.{text-back}
 use Rattle.text_back.proofs.Made.{accepted-made}
 use Rattle.text_back.proofs.Numbers.{ClauseMade, constants-are, GoalMade, lines-ok, LiteralMade, Made, program-again, relations-are, rows-each}
+use Rattle.text_back.proofs.Said.{said, saidBy, saidClause, saidClauses, saidGoal, saidProgram}
 use Rattle.text_back.proofs.Spelling.{text-right}
 use Rattle.text_back.specs.Back.{Distinct, firsts, namesUsed, PrintParse, PrintsBack}
-use Rattle.text_back.specs.Written.{said, saidBy, saidClause, saidClauses, saidGoal, saidProgram}
 use Rattle.text_loads.proofs.Encoded.{encode-decode}
 use Rattle.text_loads.proofs.Walked.{loads-text}
 use Rattle.text_names.specs.Entries.{entryName}

@@ -1,5 +1,6 @@
 -- What was written is read back.
 pub mod Begin
+pub mod Said
 pub mod Rows
 pub mod Items
 pub mod Lines

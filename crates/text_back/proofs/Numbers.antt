@@ -18,8 +18,8 @@ use Rattle.text_back.proofs.Firsts.{adds-appear, appear-below, firsts-l
 use Rattle.text_back.proofs.Items.{GoalOk, LiteralOk, TermOk}
 use Rattle.text_back.proofs.Lines.{ClauseOk, LinesOk, ModeOk}
 use Rattle.text_back.proofs.Rows.{RowOk}
+use Rattle.text_back.proofs.Said.{said, saidBy, saidClause, saidClauses, saidGoal, saidModes, saidProgram}
 use Rattle.text_back.specs.Back.{Appear, constantsIn, Distinct, firsts, PrintsBack, termsOf, termsOfClause, termsOfGoal, VariablesAppear, variablesIn}
-use Rattle.text_back.specs.Written.{said, saidBy, saidClause, saidClauses, saidGoal, saidModes, saidProgram}
 use Rattle.text_names.specs.Bytes.{first, isCapital}
 use Rattle.text_names.specs.Entries.{entryName, isEntry}
 use Rattle.text_names.specs.Names.{adds, look, Name, sameName}
