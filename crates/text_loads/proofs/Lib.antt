@@ -7,3 +7,4 @@ pub mod Counted
 pub mod Fitting
 pub mod Parsed
 pub mod Short
+pub mod Roomy
