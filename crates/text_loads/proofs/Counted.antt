@@ -21,7 +21,7 @@ use Rattle.text_program.specs.Encoded.{askBytes, clauseBytes, programBytes, rel
 use Rattle.text_program.specs.Numbered.{joined}
 
 -- records by kind: r of the first, then c of the second, then one of the third
-record Kinds (kind : ℕ → ℕ) (r c : ℕ) : Type 0 where
+pub record Kinds (kind : ℕ → ℕ) (r c : ℕ) : Type 0 where
   pub relations : (i : ℕ) → i < r → kind i ≡ 1
   pub clauses : (i : ℕ) → i < c → kind (r + i) ≡ 2
   pub goal : kind (r + c) ≡ 3
@@ -45,13 +45,13 @@ right-kinds s r c R = record { relations = λ i h. R .relation i h .kind; clause
 
 -- ---- of encoded programs
 
-record At {A : Type 0} (s : List ℕ) (bytes : A → List ℕ) (at : ℕ) : Type 0 where
+pub record At {A : Type 0} (s : List ℕ) (bytes : A → List ℕ) (at : ℕ) : Type 0 where
   pub what : A
   pub rest : List ℕ
   pub stands : drop at s ≡ bytes what ++ rest
 
 module _ {A : Type 0} (s : List ℕ) (bytes : A → List ℕ) (read : ℕ → A) (next : ℕ → ℕ) (Ok : A → Type 0) (d : Decodes s bytes read next Ok) where
-  row-at : (xs : List A) (at i : ℕ) (rest : List ℕ) → i < length xs → drop at s ≡ joined bytes xs ++ rest → At s bytes (along next i at)
+  pub row-at : (xs : List A) (at i : ℕ) (rest : List ℕ) → i < length xs → drop at s ≡ joined bytes xs ++ rest → At s bytes (along next i at)
   unfolding joined along
   row-at [] at i rest h e = absurd (omega arith)
   row-at (x ∷ xs) at zero rest h e = record { what = x; rest = joined bytes xs ++ rest; stands = e ∙ append-assoc (bytes x) (joined bytes xs) rest }
@@ -75,7 +75,7 @@ module _ (pr : Program) where
   unfolding askBytes
   goal-kind = record-kind s _ 3 _ [] (goal-at pr)
 
-  encoded-kinds : Kinds (λ k. kindAt s (recordAt s k)) (length (pr .relations)) (length (pr .clauses))
+  pub encoded-kinds : Kinds (λ k. kindAt s (recordAt s k)) (length (pr .relations)) (length (pr .clauses))
   encoded-kinds = record {
     relations = λ i h. relation-kind s _ (row-at s relationBytes (modesOf s) (recordEnd s) (λ ms. Unit) (relations s) (pr .relations) 0 i _ h (from-start pr));
     clauses = λ i h. rw (← along-add (recordEnd s) i (length (pr .relations)) 0, clauses-place pr) (clause-kind s _ (row-at s clauseBytes (clauseOf s) (recordEnd s) ClauseFits (clauses s) (pr .clauses) _ i _ h (clauses-at pr)));

@@ -8,3 +8,4 @@ pub mod Fitting
 pub mod Parsed
 pub mod Short
 pub mod Roomy
+pub mod Refusing

@@ -8,7 +8,8 @@ use Rattle.parlog.specs.Image.{firstVariable}
 use Rattle.parlog.specs.Load.{loadOf, long}
 use Rattle.parlog.specs.Orders.{Each}
 use Rattle.parlog.specs.Program.{Clause, Goal, Literal, Program, programOf}
-use Rattle.parlog.specs.declared.Loaded.the-variants.{Accepted}
+use Rattle.parlog.specs.declared.Loaded.the-variants.{Accepted, Refused}
+use Rattle.parlog.specs.declared.Refusal.{Refusal}
 use Rattle.parlog.specs.declared.Term.{Term}
 use Rattle.parlog.specs.declared.Term.the-variants.{Const, Var}
 use Rattle.rows.specs.Rows.{Bytes}
@@ -52,6 +53,10 @@ DecodeEncode = (pr : Program) → ProgramFits pr → programOf (programBytes pr)
 -- Text 14: the bytes of the program of an accepted image are that image
 abbrev pub EncodeDecode : Type 0
 EncodeDecode = (s : List ℕ) (r c : ℕ) → Bytes s → loadOf s ≡ Accepted r c → programBytes (programOf s r c) ≡ s
+
+-- Text 17: of the loader's tests only 4, 5 and 6 refuse the records of a text
+abbrev pub RecordsRefused : Type 0
+RecordsRefused = (p : Source) (f : Refusal) → recordsIn (relationNames p) (imageIn p) ≡ Refused f → (4 ≤ f .number) × (f .number ≤ 6)
 
 -- the most bytes that the image of a text has
 abbrev pub mostImage : ℕ
