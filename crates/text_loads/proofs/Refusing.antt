@@ -32,7 +32,7 @@ use Rattle.text_program.specs.Parsing.{imageIn, onceBy, recordsIn, repeated, te
 
 -- ---- records that stand
 
-record Placed (s : List ℕ) (at kind : ℕ) : Type 0 where
+pub record Placed (s : List ℕ) (at kind : ℕ) : Type 0 where
   pub body : List ℕ
   pub rest : List ℕ
   pub stands : drop at s ≡ recordBytes kind body ++ rest
@@ -43,10 +43,10 @@ module _ (s : List ℕ) (at kind : ℕ) (p : Placed s at kind) where
       sym (length-drop at s) ∙ ap (λ (x : List ℕ). length x) (p .stands)
       ∙ omega (arith, length-append (recordBytes kind (p .body)) (p .rest), record-size kind (p .body))
 
-  placed-end : recordEnd s at ≡ at + 4 + length (p .body)
+  pub placed-end : recordEnd s at ≡ at + 4 + length (p .body)
   placed-end = record-end s at kind (p .body) (p .rest) (p .stands) ∙ omega (arith, record-size kind (p .body))
 
-  placed-in : at + 4 + length (p .body) + length (p .rest) ≤ length s
+  pub placed-in : at + 4 + length (p .body) + length (p .rest) ≤ length s
   placed-in = omega (arith, placed-long)
 
   placed-whole : cut s at ≡ false
@@ -70,7 +70,7 @@ clause-placed s at a = record { body = _; rest = a .rest; stands = a .stands }
 -- ---- kinds one after the other
 
 module _ (kind : ℕ → ℕ) (r c : ℕ) (K : Kinds kind r c) where
-  record AtPlace (k : ℕ) : Type 0 where
+  pub record AtPlace (k : ℕ) : Type 0 where
     pub least : 1 ≤ kind k
     pub most : kind k ≤ 3
     pub early : k < r + c → kind k < 3
@@ -78,7 +78,7 @@ module _ (kind : ℕ → ℕ) (r c : ℕ) (K : Kinds kind r c) where
     pub last : r + c ≤ k → kind k ≡ 3
     pub first-ones : k < r → kind k ≡ 1
 
-  at-place : (k : ℕ) → k ≤ r + c → AtPlace k
+  pub at-place : (k : ℕ) → k ≤ r + c → AtPlace k
   at-place k h =
       split (ltb k r)
       (λ e. let l = ltb-true k r e in let q = K .relations k l in record { least = omega arith; most = omega arith; early = λ x. omega arith; later = λ x. absurd (omega arith); last = λ x. absurd (omega arith); first-ones = λ x. q })
@@ -90,7 +90,7 @@ module _ (kind : ℕ → ℕ) (r c : ℕ) (K : Kinds kind r c) where
       (λ f. let m = ltb-false k (r + c) f in let y : k ≡ r + c = omega arith in let q : kind k ≡ 3 = (rw y (K .goal)) in record { least = omega arith; most = omega arith; early = λ x. absurd (omega arith); later = λ x. omega arith; last = λ x. q; first-ones = λ x. absurd (omega arith) }))
 
   -- the kind of the record before is not higher, and not the goal's
-  goes-up : (j : ℕ) → suc j ≤ r + c → (kind j ≤ kind (suc j)) × (kind j < 3)
+  pub goes-up : (j : ℕ) → suc j ≤ r + c → (kind j ≤ kind (suc j)) × (kind j < 3)
   goes-up j h =
       let a = at-place j (omega arith) in
       let b = at-place (suc j) h in
@@ -140,7 +140,7 @@ module _ (rels : List Name) (pr : Program) where
   unfolding askBytes
   goal-placed = rw (goal-place pr) (record { body = pr .goalVars ∷ goalBytes (pr .goal); rest = []; stands = goal-at pr })
 
-  placed : (k : ℕ) → k ≤ r + c → (q : ℕ) × Placed s (recordAt s k) q
+  pub placed : (k : ℕ) → k ≤ r + c → (q : ℕ) × Placed s (recordAt s k) q
   placed k h =
       split (ltb k r)
       (λ e. (1, relation-placed s (recordAt s k) (row-at s relationBytes (modesOf s) (recordEnd s) (λ ms. Unit) (relations s) (pr .relations) 0 k _ (ltb-true k r e) (from-start pr))))
@@ -160,7 +160,7 @@ module _ (rels : List Name) (pr : Program) where
       let b = sym (length-drop at s) ∙ ap (λ (x : List ℕ). length x) (goal-at pr) ∙ length-append (recordBytes 3 body) [] in
       omega (arith, record-size 3 body)
 
-  all-end : recordAt s (suc (r + c)) ≡ length s
+  pub all-end : recordAt s (suc (r + c)) ≡ length s
   all-end = along-snoc (recordEnd s) (r + c) 0 ∙ ap (recordEnd s) (goal-place pr) ∙ last-end
 
   -- the walk stands before record k

@@ -1,0 +1,3 @@
+-- A parse is refused exactly where there is a reason.
+pub mod Declared
+pub mod Tested
