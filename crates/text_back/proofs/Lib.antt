@@ -7,5 +7,6 @@ pub mod Lines
 pub mod Spelling
 pub mod Firsts
 pub mod Numbers
+pub mod Named
 pub mod Made
 pub mod Again

@@ -1,17 +1,20 @@
 -- When a parse is refused: the number, and the offset that it carries.
 use mathlib.Core.Path.{_≡_}
-use mathlib.Core.Logic.{_⊎_}
+use mathlib.Core.Logic.{_↔_, _⊎_}
 use mathlib.Core.List.{[], _∷_, List}
 use Prim.Native.Nat.{_<_, ℕ}
 use lib.ListN.{getD, length}
+use Rattle.parlog.specs.Load.{refusal}
 use Rattle.parlog.specs.Records.{recordAt}
+use Rattle.parlog.specs.declared.Refusal.{Refusal}
 use Rattle.refusals.specs.Right.{BodyFits, Few, InBlockAs, NamesFit, recordKind, RightRecord}
 use Rattle.spell.specs.Grammar.{ClauseText}
 use Rattle.spell.specs.Stuck.{StuckAt}
 use Rattle.text_names.specs.Names.{Name}
 use Rattle.text_program.specs.Numbered.{relationNames}
-use Rattle.text_program.specs.Parsing.{imageIn, namesIn}
+use Rattle.text_program.specs.Parsing.{imageIn, namesIn, parseCall}
 use Rattle.text_program.specs.Source.{calls, Said, SaidClause, Source, sourceOf}
+use Rattle.text_program.specs.declared.Parsed.the-variants.{Unread}
 
 -- ---- 17, UNDECLARED
 
@@ -72,3 +75,17 @@ pub data ParseRefused (image names text : List ℕ) : ℕ → ℕ → Type 0 whe
   bad-line : {n o : ℕ} → ClauseText text → (Undeclared (sourceOf text) → ⊥) → LinesRefused (relationNames (sourceOf text)) (imageIn (sourceOf text)) n o → ParseRefused image names text n o
   no-room : ClauseText text → (Undeclared (sourceOf text) → ⊥) → ((n o : ℕ) → LinesRefused (relationNames (sourceOf text)) (imageIn (sourceOf text)) n o → ⊥) →
       (length image < length (imageIn (sourceOf text))) ⊎ (length names < length (namesIn (sourceOf text))) → ParseRefused image names text 11 0
+
+-- ---- exactly
+
+-- Text 9, 16, 17, 19: a parse is refused with a number and an offset exactly where there is that reason
+abbrev pub ParseExactly : Type 0
+ParseExactly = (image names text : List ℕ) (n o : ℕ) → (parseCall image names text .answer ≡ Unread (refusal n o)) ↔ ParseRefused image names text n o
+
+-- Text 20: and then both rows are as they were
+abbrev pub ParseKept : Type 0
+ParseKept = (image names text : List ℕ) (f : Refusal) → parseCall image names text .answer ≡ Unread f → (parseCall image names text .image ≡ image) × (parseCall image names text .names ≡ names)
+
+-- Text 9, 16, 17, 19: no other number than these is given
+abbrev pub ParseNumbers : Type 0
+ParseNumbers = (image names text : List ℕ) (n o : ℕ) → ParseRefused image names text n o → In n (16 ∷ 17 ∷ 4 ∷ 5 ∷ 6 ∷ 11 ∷ [])
