@@ -28,12 +28,12 @@ false-right : (a b : Bool) → b ≡ false → (a && b) ≡ false
 false-right true b e = e
 false-right false b e = refl
 
-record Failing {A : Type 0} (f : A → Bool) (xs : List A) : Type 0 where
+pub record Failing {A : Type 0} (f : A → Bool) (xs : List A) : Type 0 where
   pub item : A
   pub among : In item xs
   pub fails : f item ≡ false
 
-all-false : {A : Type 0} (f : A → Bool) (xs : List A) → allOf f xs ≡ false → Failing f xs
+pub all-false : {A : Type 0} (f : A → Bool) (xs : List A) → allOf f xs ≡ false → Failing f xs
 unfolding allOf
 all-false f [] e = never (sym e)
 all-false f (x ∷ xs) e = go (f x) refl e (all-false f xs)

@@ -2,3 +2,5 @@
 pub mod Declared
 pub mod Tested
 pub mod Unread
+pub mod Entered
+pub mod Unwritten
