@@ -116,7 +116,7 @@ pub record Made (pr : Program) : Type 0 where
 
 -- ---- with names, it can be written
 
-each-of : {A : Type 0} (f : A → Bool) (P : A → Type 0) → ((x : A) → f x ≡ true → P x) → (xs : List A) → allOf f xs ≡ true → Each P xs
+pub each-of : {A : Type 0} (f : A → Bool) (P : A → Type 0) → ((x : A) → f x ≡ true → P x) → (xs : List A) → allOf f xs ≡ true → Each P xs
 unfolding allOf
 each-of f P h [] e = tt
 each-of f P h (x ∷ xs) e = let w = and-true (f x) (allOf f xs) e in (h x (w .0), each-of f P h xs (w .1))

@@ -11,8 +11,8 @@ use native.Mathlib.Omega.{arith}
 use Rattle.parlog.proofs.Bools.{and-true, never, true-and}
 use Rattle.parlog.specs.Orders.{Each}
 use Rattle.refusals.proofs.Tests.{Decides}
-use Rattle.text_back.proofs.Begin.{allName, back-of, first-of, front-lower, Lower, lower-spelt}
-use Rattle.text_names.specs.Bytes.{back, first, front, isCapital, isName, isSmall}
+use Rattle.text_back.proofs.Begin.{allName, back-of, end-no-name, first-of, front-lower, Lower, lower-spelt}
+use Rattle.text_names.specs.Bytes.{back, first, front, isName, isSmall}
 use Rattle.text_names.specs.Entries.{behindEntry, entryFrom, isEntry}
 use Rattle.text_names.specs.Names.{Name}
 use Rattle.text_refusals.specs.Unwritten.{Endless, Entry, first-entry, HasName, later-entry}
@@ -40,10 +40,6 @@ names-all : (x : Name) → allName x ≡ true → Each (λ (b : ℕ). isName b �
 unfolding allName
 names-all [] e = tt
 names-all (b ∷ x) e = let w = and-true (isName b) (allName x) e in (w .0, names-all x (w .1))
-
-end-no-name : isName 10 ≡ false
-unfolding isName isSmall isCapital
-end-no-name = refl
 
 names-endless : (x : Name) → allName x ≡ true → Endless x
 unfolding allName

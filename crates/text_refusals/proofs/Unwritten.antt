@@ -1,13 +1,13 @@
 -- A print is refused exactly where there is a reason.
 use mathlib.Core.Path.{_∙_, _≡_, ap, refl, sym}
 use mathlib.Core.Bool.{Bool, false, true}
-use mathlib.Core.List.{[], _∷_, List}
+use mathlib.Core.List.{List}
 use Prim.Native.Nat.{_+_, _<_, suc, zero, ℕ}
 use lib.Dec.{leb}
 use lib.ListN.{length}
 use borrow.Author.Tests.{leb-false, lt-leb}
 use native.Mathlib.Omega.{arith}
-use Rattle.parlog.proofs.Bools.{and-true, never, not-so, split}
+use Rattle.parlog.proofs.Bools.{never, not-so, split}
 use Rattle.parlog.proofs.Scans.{below-suc}
 use Rattle.parlog.specs.Load.{loadOf, refusal}
 use Rattle.parlog.specs.Orders.{Each}
@@ -19,7 +19,7 @@ use Rattle.refusals.proofs.Tests.{refuted}
 use Rattle.refusals.specs.Right.{RightImage}
 use Rattle.text_back.proofs.Made.{accepted-made}
 use Rattle.text_back.proofs.Named.{AllNamed, ConstantNamed, named-program, program-named}
-use Rattle.text_back.proofs.Numbers.{Made}
+use Rattle.text_back.proofs.Numbers.{each-of, Made}
 use Rattle.text_back.specs.Back.{constantsIn, termsOf}
 use Rattle.text_names.specs.Entries.{isEntry}
 use Rattle.text_program.specs.Parsing.{allOf}
@@ -50,11 +50,6 @@ each-in : {A : Type 0} (P : A → Type 0) {x : A} {xs : List A} → In x xs → 
 each-in P in-front e = e .0
 each-in P (behind i) e = each-in P i (e .1)
 
-tested-each : {A : Type 0} (f : A → Bool) (xs : List A) → allOf f xs ≡ true → Each (λ x. f x ≡ true) xs
-unfolding allOf
-tested-each f [] e = tt
-tested-each f (x ∷ xs) e = let w = and-true (f x) (allOf f xs) e in (w .0, tested-each f xs (w .1))
-
 -- ---- what lacks a name
 
 module _ (nm : List ℕ) (pr : Program) (m : Made pr) where
@@ -75,7 +70,7 @@ module _ (nm : List ℕ) (pr : Program) (m : Made pr) where
   false-unnamed e = relations-so (search-all (isEntry nm) r)
     where
       constants-so : ((k : ℕ) → k < r → isEntry nm k ≡ true) → (b : Bool) → allOf used (constantsIn (termsOf pr)) ≡ b → Unnamed nm pr
-      constants-so h true d = never (sym e ∙ program-named nm pr m h (tested-each used (constantsIn (termsOf pr)) d))
+      constants-so h true d = never (sym e ∙ program-named nm pr m h (each-of used (ConstantNamed r nm) (λ c z. z) (constantsIn (termsOf pr)) d))
       constants-so h false d =
           let w = all-false used (constantsIn (termsOf pr)) d in
           record { number = r + w .item; used = a-constant (w .among); missing = refuted (entry-so nm (r + w .item)) (w .fails) }
