@@ -6,16 +6,17 @@ use Prim.Native.Nat.{_≤_, ℕ}
 use lib.Dec.{leb}
 use lib.ListN.{drop, length, take}
 use lib.Seq.{take-append-seam}
-use borrow.Author.Tests.{le-leb, leb-false, leb-true, lt-leb}
+use borrow.Author.Tests.{le-leb, leb-true, lt-leb}
 use native.Mathlib.Omega.{arith}
 use Rattle.parlog.proofs.Bools.{split}
-use Rattle.parlog.specs.Load.{refusal}
+use Rattle.parlog.specs.Load.{loadOf, refusal}
 use Rattle.parlog.specs.Program.{programOf}
 use Rattle.parlog.specs.Tables.{written}
-use Rattle.promises.proofs.Texts.{demand-1-print, demand-2-parse, parse-answer, print-made, read-told, wrote-told}
+use Rattle.parlog.specs.declared.Loaded.the-variants.{Accepted}
+use Rattle.promises.proofs.Texts.{demand-2-parse, parse-answer, print-made, read-told, wrote-told}
 use Rattle.promises.proofs.Words.{refused-told}
 use Rattle.promises.specs.Outcomes.{largeIn, refusalIn}
-use Rattle.promises.specs.Texts.{GoesForth, imageLengthIn, ParseMeets, PrintMeets, ReadsAgain, Tellable, text-short}
+use Rattle.promises.specs.Texts.{GoesForth, imageLengthIn, ParseMeets, PrintMeets, ReadsAgain, Tellable}
 use Rattle.refusals.proofs.Exactly.{accepted-right}
 use Rattle.refusals.specs.Right.{RightImage}
 use Rattle.rows.specs.Rows.{Bytes}
@@ -44,11 +45,12 @@ front-is x row = take-append-seam x (drop (length x) row)
 -- ---- back
 
 module _ (s nm row : List ℕ) (w : ℕ) (row′ : List ℕ) (prints : PrintMeets s nm row w row′) (short : Tellable row) (z : refusalIn w ≡ 0) where
-  print-fits : {r c : ℕ} → RightImage s r c → programNamed nm (programOf s r c) ≡ true → length (programText nm (programOf s r c)) ≤ length row
-  print-fits {r} {c} i h =
+  print-fits : {r c : ℕ} → loadOf s ≡ Accepted r c → programNamed nm (programOf s r c) ≡ true → length (programText nm (programOf s r c)) ≤ length row
+  unfolding printCall
+  print-fits {r} {c} e h =
       let t = programText nm (programOf s r c) in
       split (leb (length t) (length row)) (λ l. leb-true (length t) (length row) l)
-      (λ l. let g = demand-1-print s nm row w row′ prints .by .given (text-short i h (leb-false (length t) (length row) l)) in absurd (omega (arith, g .0, z)))
+      (λ l. let g = refused-told w (refusal 11 0) (omega arith) (prints .contract .answer ∙ rw (e, h, l)) in absurd (omega (arith, g .0, z)))
 
   -- THE LAW: the text that was printed is parsed to the image, and to the names used, where the list has a distinct name for each of them and all are numbered by first appearance
   pub back : {r c n : ℕ} → Bytes s → RightImage s r c → PrintsBack nm (programOf s r c) n
@@ -56,8 +58,8 @@ module _ (s nm row : List ℕ) (w : ℕ) (row′ : List ℕ) (prints : PrintMeet
       → (v : ℕ) (image′ names′ : List ℕ) → ParseMeets image names (take (largeIn w) row′) v image′ names′ → ReadsAgain s (namesUsed nm r n) image names v image′ names′
   back {r} {c} {n} are i b image names a d v image′ names′ parses =
       let t = programText nm (programOf s r c) in
-      let l = print-fits i (b .named) in
       let e = accepted-right s .1 i in
+      let l = print-fits e (b .named) in
       let m = print-made s nm row e (b .named) l in
       let k : largeIn w ≡ length t = wrote-told w (length t) (prints .contract .answer ∙ rw m) .1 ∙ sym (told-same (length t) (omega arith)) in
       let q : take (largeIn w) row′ ≡ take (length t) (printCall row s nm .text) = rw (k, prints .contract .text-is) in

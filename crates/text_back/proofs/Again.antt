@@ -6,7 +6,7 @@ use Prim.Native.Nat.{_<_, _≤_, suc, zero, ℕ}
 use lib.Dec.{eqb, leb}
 use lib.ListN.{drop, getD, length, List·getD-append, take}
 use lib.Seq.{getD-at, take-append-seam}
-use borrow.Author.Tests.{eqb-false, le-leb, le-ltb, lt-ltb}
+use borrow.Author.Tests.{eqb-false, le-ltb, lt-ltb}
 use native.Mathlib.Omega.{arith}
 use Rattle.load.proofs.Accepted.{accepted}
 use Rattle.parlog.proofs.Along.{list-length}
@@ -18,16 +18,15 @@ use Rattle.parlog.specs.Program.{Clause, Goal, Literal, modesOf, Program, progr
 use Rattle.parlog.specs.Records.{recordEnd}
 use Rattle.parlog.specs.Tables.{written}
 use Rattle.parlog.specs.declared.Loaded.the-variants.{Accepted}
-use Rattle.spell.specs.Stuck.{spellingOf}
-use Rattle.spell.specs.declared.Spelt.the-variants.{Right}
 use Rattle.text_back.proofs.Firsts.{firsts-length, look-first}
 use Rattle.text_back.proofs.Lines.{text-back}
 use Rattle.text_back.proofs.Made.{accepted-made}
 use Rattle.text_back.proofs.Numbers.{ClauseMade, constants-are, GoalMade, lines-ok, LiteralMade, Made, program-again, relations-are, rows-each}
+use Rattle.text_back.proofs.Said.{said, saidBy, saidClause, saidClauses, saidGoal, saidProgram}
 use Rattle.text_back.proofs.Spelling.{text-right}
 use Rattle.text_back.specs.Back.{Distinct, firsts, namesUsed, PrintParse, PrintsBack}
-use Rattle.text_back.specs.Written.{said, saidBy, saidClause, saidClauses, saidGoal, saidProgram}
 use Rattle.text_loads.proofs.Encoded.{encode-decode}
+use Rattle.text_loads.proofs.Parsed.{parse-steps}
 use Rattle.text_loads.proofs.Walked.{loads-text}
 use Rattle.text_names.specs.Entries.{entryName}
 use Rattle.text_names.specs.Names.{known, Name}
@@ -35,7 +34,7 @@ use Rattle.text_program.specs.Encoded.{programBytes}
 use Rattle.text_program.specs.Numbered.{relationNames}
 use Rattle.text_program.specs.Parsing.{allOf, clauseDeclared, declared, goalDeclared, imageIn, literalDeclared, namesIn, parseCall, recordsIn, repeated}
 use Rattle.text_program.specs.Printing.{nameable, nextMark, printCall, programNamed, programText, roomy}
-use Rattle.text_program.specs.Source.{Source, sourceOf}
+use Rattle.text_program.specs.Source.{Source}
 use Rattle.text_program.specs.declared.Parsed.the-variants.{Read}
 use Rattle.text_program.specs.declared.Printed.the-variants.{Wrote}
 
@@ -85,13 +84,7 @@ module _ (r : ℕ) (nm : List ℕ) (d : Distinct (entryName nm) r) where
       (true-and (goalDeclared rels (saidGoal r nm (c .guard))) (goalDeclared rels (saidGoal r nm (c .body))) (goal-declared (c .guard) (a .guard)) (goal-declared (c .body) (a .body))))
       (clauses-declared cs (m .1))
 
--- ---- the call, step by step
-
-parse-steps : (image names t : List ℕ) (p : Source) (r c : ℕ) → spellingOf t ≡ Right → sourceOf t ≡ p → declared p ≡ true → recordsIn (relationNames p) (imageIn p) ≡ Accepted r c → long (imageIn p) ≡ false →
-    length (imageIn p) ≤ length image → length (namesIn p) ≤ length names →
-    parseCall image names t ≡ record { answer = Read (length (imageIn p)) (length (namesIn p)); image = written (imageIn p) image; names = written (namesIn p) names }
-unfolding parseCall
-parse-steps image names t p r c a b d e f g h = rw (a, b, d, e, f, le-leb (length (imageIn p)) (length image) g, le-leb (length (namesIn p)) (length names) h)
+-- ---- the call
 
 module _ (nm : List ℕ) (pr : Program) (n : ℕ) (made : Made pr) (fit : PrintsBack nm pr n) where
   abbrev r : ℕ

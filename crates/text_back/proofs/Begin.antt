@@ -122,6 +122,10 @@ spelt-begins x s p = skip-at (x ++ s) (rw (first-of x s p) (name-solid (first x)
 
 -- ---- entries
 
+pub end-no-name : isName 10 ≡ false
+unfolding isName isSmall isCapital
+end-no-name = refl
+
 pub front-all : (s : List ℕ) → allName (front s) ≡ true
 unfolding front allName
 front-all [] = refl

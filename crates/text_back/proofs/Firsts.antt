@@ -5,7 +5,7 @@ use mathlib.Core.Bool.{Bool, cond, false, true}
 use mathlib.Core.List.{[], _++_, _∷_, List, map}
 use Prim.Native.Nat.{_+_, _<_, _≤_, suc, zero, ℕ}
 use lib.Dec.{eqb}
-use lib.ListN.{length, length-append}
+use lib.ListN.{getD, length, length-append}
 use borrow.Author.Tests.{eq-eqb, eqb-true, le-ltb, lt-ltb}
 use native.Mathlib.Omega.{arith}
 use Rattle.parlog.proofs.Bools.{and-true, never, not-so}
@@ -58,6 +58,27 @@ look-self x = rw (same-refl x)
 pub look-other : (y x : Name) → y ≢ x → look (y ∷ []) x ≡ 1
 unfolding look
 look-other y x h = rw (not-same y x h)
+
+-- a name stands where it was looked for, or before
+pub look-within : (ys : List Name) (i : ℕ) → i < length ys → look ys (getD ys i []) ≤ i
+unfolding look
+look-within [] i h = absurd (omega arith)
+look-within (y ∷ ys) zero h = rw (same-refl y) (omega arith)
+look-within (y ∷ ys) (suc i) h = go (sameName y (getD ys i [])) (look-within ys i (omega arith))
+  where
+    go : (b : Bool) → look ys (getD ys i []) ≤ i → cond b 0 (suc (look ys (getD ys i []))) ≤ suc i
+    go true l = omega arith
+    go false l = omega arith
+
+-- what is found is that name
+pub look-found : (ys : List Name) (x : Name) → look ys x < length ys → getD ys (look ys x) [] ≡ x
+unfolding look
+look-found [] x h = absurd (omega arith)
+look-found (y ∷ ys) x h = go (sameName y x) refl h (look-found ys x)
+  where
+    go : (b : Bool) → sameName y x ≡ b → cond b 0 (suc (look ys x)) < suc (length ys) → (look ys x < length ys → getD ys (look ys x) [] ≡ x) → getD (y ∷ ys) (cond b 0 (suc (look ys x))) [] ≡ x
+    go true e h more = same-is y x e
+    go false e h more = more (omega arith)
 
 -- ---- a row of first names
 

@@ -14,7 +14,7 @@ use Rattle.parlog.specs.declared.Term.{Term}
 use Rattle.parlog.specs.declared.Term.the-variants.{Const, Var}
 use Rattle.text_back.proofs.Begin.{allName, back-of, capital-name, entry-lower, first-of, front-of, letter-high, Lower, lower-spelt, Spelt, spelt-begins, spelt-some}
 use Rattle.text_back.proofs.Rows.{Back, Between, brackets-back, brackets-first, brackets-skip, rest-more, row-split, RowOk, rows-back, rowWay, Way}
-use Rattle.text_back.specs.Written.{said, saidBy, saidGoal}
+use Rattle.text_back.proofs.Said.{said, saidBy, saidGoal}
 use Rattle.text_names.specs.Bytes.{first, front, isBlank, isCapital, isName, isSmall, next, past, skip}
 use Rattle.text_names.specs.Entries.{entryName, isEntry}
 use Rattle.text_names.specs.Names.{Name}

@@ -15,7 +15,7 @@ use Rattle.spell.specs.Forms.{inSpan}
 use Rattle.text_back.proofs.Begin.{allName, back-of, entry-lower, first-of, front-of, Lower, lower-spelt, skip-at, small-low, spelt-begins}
 use Rattle.text_back.proofs.Items.{goal-begins, goal-first, goal-read, GoalOk, open-no-name, ShutGoal, term-closes, term-commas, TermOk, terms-back, termWay}
 use Rattle.text_back.proofs.Rows.{Back, Between, brackets-back, brackets-first, brackets-skip, Way}
-use Rattle.text_back.specs.Written.{saidClause, saidClauses, saidGoal, saidModes, saidProgram}
+use Rattle.text_back.proofs.Said.{saidClause, saidClauses, saidGoal, saidModes, saidProgram}
 use Rattle.text_names.specs.Bytes.{first, front, isBlank, isCapital, isName, isSmall, next, past, skip}
 use Rattle.text_names.specs.Entries.{entryName, isEntry}
 use Rattle.text_names.specs.Names.{Name, sameName}

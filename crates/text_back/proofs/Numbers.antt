@@ -18,8 +18,8 @@ use Rattle.text_back.proofs.Firsts.{adds-appear, appear-below, firsts-l
 use Rattle.text_back.proofs.Items.{GoalOk, LiteralOk, TermOk}
 use Rattle.text_back.proofs.Lines.{ClauseOk, LinesOk, ModeOk}
 use Rattle.text_back.proofs.Rows.{RowOk}
+use Rattle.text_back.proofs.Said.{said, saidBy, saidClause, saidClauses, saidGoal, saidModes, saidProgram}
 use Rattle.text_back.specs.Back.{Appear, constantsIn, Distinct, firsts, PrintsBack, termsOf, termsOfClause, termsOfGoal, VariablesAppear, variablesIn}
-use Rattle.text_back.specs.Written.{said, saidBy, saidClause, saidClauses, saidGoal, saidModes, saidProgram}
 use Rattle.text_names.specs.Bytes.{first, isCapital}
 use Rattle.text_names.specs.Entries.{entryName, isEntry}
 use Rattle.text_names.specs.Names.{adds, look, Name, sameName}
@@ -116,7 +116,7 @@ pub record Made (pr : Program) : Type 0 where
 
 -- ---- with names, it can be written
 
-each-of : {A : Type 0} (f : A → Bool) (P : A → Type 0) → ((x : A) → f x ≡ true → P x) → (xs : List A) → allOf f xs ≡ true → Each P xs
+pub each-of : {A : Type 0} (f : A → Bool) (P : A → Type 0) → ((x : A) → f x ≡ true → P x) → (xs : List A) → allOf f xs ≡ true → Each P xs
 unfolding allOf
 each-of f P h [] e = tt
 each-of f P h (x ∷ xs) e = let w = and-true (f x) (allOf f xs) e in (h x (w .0), each-of f P h xs (w .1))
@@ -230,7 +230,7 @@ module _ (r : ℕ) (nm : List ℕ) where
   variables-back ts n h o a = unfold firsts in rw (said-uppers ts o) (adds-appear letter (letters-distinct n h) a)
 
 -- the terms of a goal that can be written can be
-goal-terms-ok : (r : ℕ) (nm : List ℕ) (g : Goal) → GoalOk r nm g → Each (TermOk r nm) (termsOfGoal g)
+pub goal-terms-ok : (r : ℕ) (nm : List ℕ) (g : Goal) → GoalOk r nm g → Each (TermOk r nm) (termsOfGoal g)
 unfolding joined
 goal-terms-ok r nm [] o = tt
 goal-terms-ok r nm (st ∷ g) o = each-join (TermOk r nm) (joined (λ (l : Literal). l .args) st) (termsOfGoal g) (go st (row-each (LiteralOk r nm) st (o .0))) (goal-terms-ok r nm g (o .1))
@@ -242,7 +242,7 @@ goal-terms-ok r nm (st ∷ g) o = each-join (TermOk r nm) (joined (λ (l : Liter
 clause-terms-ok : (r : ℕ) (nm : List ℕ) (c : Clause) → ClauseOk r nm c → Each (TermOk r nm) (termsOfClause c)
 clause-terms-ok r nm c o = each-join (TermOk r nm) (c .head) (termsOfGoal (c .guard) ++ termsOfGoal (c .body)) (o .head) (each-join (TermOk r nm) (termsOfGoal (c .guard)) (termsOfGoal (c .body)) (goal-terms-ok r nm (c .guard) (o .guard)) (goal-terms-ok r nm (c .body) (o .body)))
 
-clauses-terms-ok : (r : ℕ) (nm : List ℕ) (cs : List Clause) → Each (ClauseOk r nm) cs → Each (TermOk r nm) (joined termsOfClause cs)
+pub clauses-terms-ok : (r : ℕ) (nm : List ℕ) (cs : List Clause) → Each (ClauseOk r nm) cs → Each (TermOk r nm) (joined termsOfClause cs)
 unfolding joined
 clauses-terms-ok r nm [] o = tt
 clauses-terms-ok r nm (c ∷ cs) o = each-join (TermOk r nm) (termsOfClause c) (joined termsOfClause cs) (clause-terms-ok r nm c (o .0)) (clauses-terms-ok r nm cs (o .1))

@@ -1,6 +1,6 @@
 -- Names written as entries are the entries.
 use mathlib.Core.Path.{_∙_, _≡_, ap, refl, sym}
-use mathlib.Core.Bool.{false, true}
+use mathlib.Core.Bool.{true}
 use mathlib.Core.List.{[], _++_, _∷_, List}
 use Prim.Native.Nat.{_<_, _≤_, suc, zero, ℕ}
 use lib.ListN.{drop, getD, length, take}
@@ -9,9 +9,9 @@ use borrow.Author.Tests.{ne-eqb}
 use native.Mathlib.Omega.{arith}
 use Rattle.parlog.proofs.Bools.{and-true, never}
 use Rattle.parlog.specs.Orders.{Each}
-use Rattle.text_back.proofs.Begin.{allName, back-of, first-of, front-of, Lower, lower-spelt}
+use Rattle.text_back.proofs.Begin.{allName, back-of, end-no-name, first-of, front-of, Lower, lower-spelt}
 use Rattle.text_back.specs.Back.{firsts}
-use Rattle.text_names.specs.Bytes.{front, isCapital, isName, isSmall}
+use Rattle.text_names.specs.Bytes.{front, isName}
 use Rattle.text_names.specs.Entries.{behindEntry, entries, entryFrom, entryName, isEntry}
 use Rattle.text_names.specs.Names.{Name}
 
@@ -31,10 +31,6 @@ pub firsts-all : (f : ℕ → Name) (xs : List Name) → ((i : ℕ) → i < leng
 firsts-all f xs e = firsts-of f xs (length xs) (omega arith) e ∙ take-length xs
 
 -- ---- an entry
-
-end-no-name : isName 10 ≡ false
-unfolding isName isSmall isCapital
-end-no-name = refl
 
 behind-name : (x s : List ℕ) → allName x ≡ true → behindEntry (x ++ (10 ∷ s)) ≡ s
 unfolding behindEntry allName

@@ -14,14 +14,15 @@ use Rattle.parlog.specs.declared.Loaded.the-variants.{Accepted}
 use Rattle.spell.proofs.Exact.{accepted-right}
 use Rattle.text_back.proofs.Again.{parsed-again}
 use Rattle.text_back.proofs.Begin.{Lower, Spelt}
-use Rattle.text_back.proofs.Firsts.{appear-below}
+use Rattle.text_back.proofs.Firsts.{appear-below, Below}
 use Rattle.text_back.proofs.Made.{accepted-made}
-use Rattle.text_back.proofs.Numbers.{each-join, Made}
-use Rattle.text_back.specs.Back.{Distinct, firsts, namesUsed, PrintsBack, VariablesAppear}
+use Rattle.text_back.proofs.Named.{ConstantNamed, program-named}
+use Rattle.text_back.proofs.Numbers.{each-also, each-join, Made}
+use Rattle.text_back.specs.Back.{constantsIn, Distinct, firsts, namesUsed, PrintsBack, termsOf, VariablesAppear}
 use Rattle.text_forth.proofs.Entered.{entry-is, entry-name, firsts-all}
 use Rattle.text_forth.proofs.Followed.{ClauseSpelt, ModeSpelt, SourceSpelt, text-spelt}
 use Rattle.text_forth.proofs.Follows.{GoalSpelt, SaidSpelt}
-use Rattle.text_forth.proofs.Named.{clauses-appear, constants-appear, goal-appears, program-named}
+use Rattle.text_forth.proofs.Named.{clauses-appear, constants-appear, goal-appears}
 use Rattle.text_forth.proofs.Ordered.{adds-each, lowers-lower, none-unique, once-distinct, Unique, unique-adds, unique-distinct}
 use Rattle.text_forth.specs.Forth.{ParsePrint, PrintsAgain}
 use Rattle.text_loads.proofs.Counted.{counted}
@@ -138,7 +139,7 @@ module _ (p : Source) (spelt : SourceSpelt p) (r c : ℕ) (passes : recordsIn (r
 
   fits : PrintsBack nm pr n
   fits = record {
-    named = program-named nm pr n made relation-is constant-is (appear-below (constants-appear p));
+    named = program-named nm pr made relation-is (each-also (Below n) (Below n) (ConstantNamed k nm) (λ i h g. constant-is i h) (constantsIn (termsOf pr)) (appear-below (constants-appear p)) (appear-below (constants-appear p)));
     relations = relations-distinct;
     constants = constants-distinct;
     constants-appear = constants-appear p;

@@ -2,26 +2,17 @@
 use mathlib.Core.Path.{_∙_, _≡_, ap, refl, sym}
 use mathlib.Core.Bool.{_&&_, Bool, cond, false, true}
 use mathlib.Core.List.{[], _++_, _∷_, List, map}
-use Prim.Native.Nat.{_+_, _<_, _≤_, suc, ℕ}
-use lib.Dec.{eqb}
+use Prim.Native.Nat.{ℕ}
 use lib.ListN.{length}
-use borrow.Author.Tests.{eqb-false}
-use native.Mathlib.Omega.{arith}
-use Rattle.parlog.proofs.Bools.{true-and}
 use Rattle.parlog.specs.Orders.{Each}
-use Rattle.parlog.specs.Program.{Clause, Goal, Literal, Program}
+use Rattle.parlog.specs.Program.{Clause, Literal}
 use Rattle.parlog.specs.declared.Term.{Term}
 use Rattle.parlog.specs.declared.Term.the-variants.{Const, Var}
-use Rattle.text_back.proofs.Firsts.{Below}
-use Rattle.text_back.proofs.Items.{TermOk}
-use Rattle.text_back.proofs.Numbers.{ClauseMade, constants-append, each-also, each-left, each-parts, each-right, GoalMade, joined-map, LiteralMade, Made, map-append, rows-each}
+use Rattle.text_back.proofs.Numbers.{constants-append, joined-map, map-append}
 use Rattle.text_back.specs.Back.{Appear, constantsIn, termsOf, termsOfClause, termsOfGoal, VariablesAppear, variablesIn}
 use Rattle.text_forth.proofs.Ordered.{appear-adds}
-use Rattle.text_names.specs.Entries.{isEntry}
 use Rattle.text_names.specs.Names.{look, Name, sameName}
 use Rattle.text_program.specs.Numbered.{clauseNumbered, clausesBehind, clausesNumbered, clauseTerms, constantNames, goalNumbered, goalTerms, isUpper, joined, literalNumbered, lowers, Numbering, numberingFor, programIn, saidTerms, termNumbered, uppers, variableNames}
-use Rattle.text_program.specs.Parsing.{allOf}
-use Rattle.text_program.specs.Printing.{clauseNamed, goalNamed, literalNamed, programNamed, relationsNamed, termNamed}
 use Rattle.text_program.specs.Source.{calls, equals, Said, SaidClause, Source}
 
 -- ---- the terms of what was numbered
@@ -145,64 +136,3 @@ module _ (p : Source) where
   -- THE LAW: the constants appear in order
   pub constants-appear : Appear 0 (length (constantNames p)) (constantsIn (termsOf (programIn p)))
   constants-appear = rw all-constants constants-by
-
--- ---- all that is named has a name
-
-each-all : {A : Type 0} (f : A → Bool) (xs : List A) → Each (λ x. f x ≡ true) xs → allOf f xs ≡ true
-unfolding allOf
-each-all f [] e = refl
-each-all f (x ∷ xs) e = true-and (f x) (allOf f xs) (e .0) (each-all f xs (e .1))
-
-module _ (r n : ℕ) (nm : List ℕ) (relations : (k : ℕ) → k < r → isEntry nm k ≡ true) (constants : (k : ℕ) → k < n → isEntry nm (r + k) ≡ true) where
-  terms-named : (ts : List Term) → Each (Below n) (constantsIn ts) → Each (TermOk r nm) ts
-  unfolding constantsIn termNamed
-  terms-named [] e = tt
-  terms-named (Const c ∷ ts) e = (constants c (e .0), terms-named ts (e .1))
-  terms-named (Var v ∷ ts) e = (refl, terms-named ts e)
-
-  literal-named : (l : Literal) → LiteralMade r l → Each (TermOk r nm) (l .args) → literalNamed r nm l ≡ true
-  unfolding literalNamed
-  literal-named l m e = go (eqb (l .rel) 255) refl (each-all (termNamed r nm) (l .args) e)
-    where
-      go : (b : Bool) → eqb (l .rel) 255 ≡ b → allOf (termNamed r nm) (l .args) ≡ true → cond b (allOf (termNamed r nm) (l .args)) (isEntry nm (l .rel) && allOf (termNamed r nm) (l .args)) ≡ true
-      go true f e = e
-      go false f e = true-and (isEntry nm (l .rel)) (allOf (termNamed r nm) (l .args)) (relations (l .rel) (m .known (eqb-false (l .rel) 255 f))) e
-
-  abbrev Args : Literal → Type 0
-  Args l = Each (TermOk r nm) (l .args)
-
-  goal-named : (g : Goal) → GoalMade r g → Each (TermOk r nm) (termsOfGoal g) → goalNamed r nm g ≡ true
-  goal-named g m e =
-      each-all (allOf (literalNamed r nm)) g
-      (each-also (Each (LiteralMade r)) (λ st. Each (TermOk r nm) (joined (λ (l : Literal). l .args) st)) (λ st. allOf (literalNamed r nm) st ≡ true)
-      (λ st a b. each-all (literalNamed r nm) st (each-also (LiteralMade r) Args (λ l. literalNamed r nm l ≡ true) literal-named st a (each-parts (TermOk r nm) (λ (l : Literal). l .args) st b)))
-      g (rows-each (LiteralMade r) g m) (each-parts (TermOk r nm) (joined (λ (l : Literal). l .args)) g e))
-
-  clause-named : (c : Clause) → ClauseMade r c → Each (TermOk r nm) (termsOfClause c) → clauseNamed r nm c ≡ true
-  clause-named c m e =
-      let g = termsOfGoal (c .guard) in
-      let b = termsOfGoal (c .body) in
-      let f = each-right (TermOk r nm) (c .head) (g ++ b) e in
-      true-and (isEntry nm (c .rel)) _ (relations (c .rel) (m .known))
-      (true-and (allOf (termNamed r nm) (c .head)) _ (each-all (termNamed r nm) (c .head) (each-left (TermOk r nm) (c .head) (g ++ b) e))
-      (true-and (goalNamed r nm (c .guard)) (goalNamed r nm (c .body)) (goal-named (c .guard) (m .guard) (each-left (TermOk r nm) g b f)) (goal-named (c .body) (m .body) (each-right (TermOk r nm) g b f))))
-
-  relations-named : (k : ℕ) (mss : List (List ℕ)) → k + length mss ≤ r → relationsNamed r nm k mss ≡ true
-  unfolding relationsNamed
-  relations-named k [] h = refl
-  relations-named k (ms ∷ mss) h = true-and (isEntry nm k) (relationsNamed r nm (suc k) mss) (relations k (omega arith)) (relations-named (suc k) mss (omega arith))
-
--- THE LAW: with a name for each relation and each constant, the program can be printed
-pub program-named : (nm : List ℕ) (pr : Program) (n : ℕ) → Made pr → ((k : ℕ) → k < length (pr .relations) → isEntry nm k ≡ true) → ((k : ℕ) → k < n → isEntry nm (length (pr .relations) + k) ≡ true) →
-    Each (Below n) (constantsIn (termsOf pr)) → programNamed nm pr ≡ true
-unfolding programNamed
-program-named nm pr n m rs cs e =
-    let r = length (pr .relations) in
-    let ts = terms-named r n nm rs cs (termsOf pr) e in
-    let front = joined termsOfClause (pr .clauses) in
-    let last = termsOfGoal (pr .goal) in
-    true-and (relationsNamed r nm 0 (pr .relations)) _ (relations-named r n nm rs cs 0 (pr .relations) (omega arith))
-    (true-and (allOf (clauseNamed r nm) (pr .clauses)) (goalNamed r nm (pr .goal))
-    (each-all (clauseNamed r nm) (pr .clauses) (each-also (ClauseMade r) (λ c. Each (TermOk r nm) (termsOfClause c)) (λ c. clauseNamed r nm c ≡ true) (clause-named r n nm rs cs) (pr .clauses) (m .clauses)
-    (each-parts (TermOk r nm) termsOfClause (pr .clauses) (each-left (TermOk r nm) front last ts))))
-    (goal-named r n nm rs cs (pr .goal) (m .goal) (each-right (TermOk r nm) front last ts)))

@@ -2,7 +2,7 @@
 use mathlib.Core.Path.{_∙_, _≡_, ap, refl, sym}
 use mathlib.Core.Bool.{Bool, cond, false, true}
 use mathlib.Core.List.{[], _++_, _∷_, List, map}
-use Prim.Native.Nat.{_<_, _≤_, suc, zero, ℕ}
+use Prim.Native.Nat.{_<_, _≤_, suc, ℕ}
 use lib.ListN.{getD, length, length-append, List·getD-append}
 use lib.Seq.{getD-append-seam}
 use borrow.Author.Tests.{ltb-false, ltb-true}
@@ -11,12 +11,12 @@ use Rattle.parlog.proofs.Bools.{never, split}
 use Rattle.parlog.proofs.Scans.{below-suc}
 use Rattle.parlog.specs.Orders.{Each}
 use Rattle.text_back.proofs.Begin.{Lower, or-cases, Spelt}
-use Rattle.text_back.proofs.Firsts.{look-behind, look-front, look-self, same-refl}
+use Rattle.text_back.proofs.Firsts.{look-behind, look-front, look-self, look-within}
 use Rattle.text_back.proofs.Numbers.{each-join}
 use Rattle.text_back.specs.Back.{Appear, Distinct, first-time, met-before, no-more}
 use Rattle.text_loads.proofs.Fitting.{look-most}
 use Rattle.text_names.specs.Bytes.{first, isCapital, isSmall}
-use Rattle.text_names.specs.Names.{add, adds, known, look, Name, sameName}
+use Rattle.text_names.specs.Names.{add, adds, known, look, Name}
 use Rattle.text_program.specs.Numbered.{isUpper, lowers}
 use Rattle.text_program.specs.Parsing.{repeated}
 
@@ -110,16 +110,6 @@ unique-distinct ys u i j h l e =
     omega arith
 
 -- ---- relations that are not repeated
-
-pub look-within : (ys : List Name) (i : ℕ) → i < length ys → look ys (getD ys i []) ≤ i
-unfolding look
-look-within [] i h = absurd (omega arith)
-look-within (y ∷ ys) zero h = rw (same-refl y) (omega arith)
-look-within (y ∷ ys) (suc i) h = go (sameName y (getD ys i [])) (look-within ys i (omega arith))
-  where
-    go : (b : Bool) → look ys (getD ys i []) ≤ i → cond b 0 (suc (look ys (getD ys i []))) ≤ suc i
-    go true l = omega arith
-    go false l = omega arith
 
 pub once-distinct : (ys : List Name) → ((k : ℕ) → k < length ys → repeated ys k ≡ false) → Distinct (λ i. getD ys i []) (length ys)
 unfolding repeated

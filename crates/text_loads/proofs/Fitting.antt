@@ -71,7 +71,7 @@ module _ (n : Numbering) where
   unfolding goalBytes
   goal-size g = omega (arith, joined-size (joined saidTerms) (map (literalNumbered n)) stageBytes stage-size g)
 
-record-size : (kind : ℕ) (body : List ℕ) → length (recordBytes kind body) ≡ 4 + length body
+pub record-size : (kind : ℕ) (body : List ℕ) → length (recordBytes kind body) ≡ 4 + length body
 unfolding recordBytes
 record-size kind body = omega arith
 

@@ -7,3 +7,5 @@ pub mod Counted
 pub mod Fitting
 pub mod Parsed
 pub mod Short
+pub mod Roomy
+pub mod Refusing

@@ -2,11 +2,11 @@
 use mathlib.Core.Path.{_∙_, _≡_, ap, refl, sym}
 use mathlib.Core.Bool.{_&&_, Bool, false, true}
 use mathlib.Core.List.{List}
-use Prim.Native.Nat.{ℕ}
+use Prim.Native.Nat.{_≤_, ℕ}
 use lib.Dec.{leb}
 use lib.ListN.{drop, length, take}
 use lib.Seq.{take-append-seam}
-use borrow.Author.Tests.{ltb-false}
+use borrow.Author.Tests.{le-leb, ltb-false}
 use native.Mathlib.Omega.{arith}
 use Rattle.parlog.specs.Load.{long}
 use Rattle.parlog.specs.Tables.{written}
@@ -98,3 +98,11 @@ parse-loads image names text n m e =
     let x = imageIn (sourceOf text) in
     let f : take n (parseCall image names text .image) ≡ x = ap (take n) (w .image-row) ∙ ap (λ (k : ℕ). take k (written x image)) (w .image-size) ∙ take-append-seam x (drop (length x) image) in
     rw f (source-loads (sourceOf text) (w .relations) (w .clauses) (w .passes) (w .short))
+
+-- ---- the call, step by step
+
+pub parse-steps : (image names t : List ℕ) (p : Source) (r c : ℕ) → spellingOf t ≡ Right → sourceOf t ≡ p → declared p ≡ true → recordsIn (relationNames p) (imageIn p) ≡ Accepted r c → long (imageIn p) ≡ false →
+    length (imageIn p) ≤ length image → length (namesIn p) ≤ length names →
+    parseCall image names t ≡ record { answer = Read (length (imageIn p)) (length (namesIn p)); image = written (imageIn p) image; names = written (namesIn p) names }
+unfolding parseCall
+parse-steps image names t p r c a b d e f g h = rw (a, b, d, e, f, le-leb (length (imageIn p)) (length image) g, le-leb (length (namesIn p)) (length names) h)

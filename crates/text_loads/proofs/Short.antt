@@ -23,7 +23,7 @@ use Rattle.parlog.specs.declared.Progress.{Progress}
 use Rattle.parlog.specs.declared.Verdict.{Verdict}
 use Rattle.parlog.specs.declared.Verdict.the-variants.{Goes, Refuses}
 use Rattle.text_loads.proofs.Walked.{passes}
-use Rattle.text_loads.specs.Loads.{NeverLong}
+use Rattle.text_loads.specs.Loads.{mostImage, NeverLong}
 use Rattle.text_names.specs.Names.{Name}
 use Rattle.text_program.specs.Parsing.{recordsIn}
 
@@ -158,7 +158,7 @@ module _ (s : List ℕ) where
       rw (p .next) at (within-next at g w (p .few) (p .body) (k .open-yet) (k .least) (k .most))
 
   abbrev Few-bytes : Loaded → Type 0
-  Few-bytes (Accepted r c) = length s ≤ 12798
+  Few-bytes (Accepted r c) = length s ≤ mostImage
   Few-bytes (Refused f) = Unit {0}
 
   one-record : (at : ℕ) (g : Progress) → Within at g → cut s at ≡ false → (rest : Progress → Loaded) → ((t : Progress) → Within (recordEnd s at) t → Few-bytes (rest t)) → Few-bytes (judged s rest at g)
@@ -182,7 +182,7 @@ module _ (s : List ℕ) where
   few-bytes = walk-holds s broken (judged s) (loadEnd s) Within Few-bytes (λ at g w l e. tt) (λ at g w l e rest more. one-record at g w e rest more) at-end (length s) 0 nothingRead (omega arith) nothing-within
 
 -- THE LAW: what passes has few bytes
-pub passed-short : (rels : List Name) (s : List ℕ) (r c : ℕ) → recordsIn rels s ≡ Accepted r c → length s ≤ 12798
+pub passed-short : (rels : List Name) (s : List ℕ) (r c : ℕ) → recordsIn rels s ≡ Accepted r c → length s ≤ mostImage
 unfolding recordsIn
 passed-short rels s r c e = rw (passes rels s (length s) 0 nothingRead r c e) at (few-bytes s)
 

@@ -1,4 +1,6 @@
--- The tests of a parse decide the relations of specs/.
+-- A parse is refused exactly where there is a reason.
 pub mod Declared
-pub mod Standing
-pub mod Exactly
+pub mod Tested
+pub mod Unread
+pub mod Entered
+pub mod Unwritten

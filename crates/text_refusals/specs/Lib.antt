@@ -1,3 +1,2 @@
--- Refusals of a clause text a second time, as facts.
-pub mod Declared
-pub mod Refused
+pub mod Unread
+pub mod Unwritten

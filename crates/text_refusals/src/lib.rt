@@ -1,1 +1,1 @@
-// The refusals of a clause text as facts, and that the tests of a parse are these, in specs/ and proofs/. There is nothing to run here.
+// When a parse and a print are refused, as relations, and that their definitions refuse exactly then, in specs/ and proofs/. There is nothing to run here.
