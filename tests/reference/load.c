@@ -170,6 +170,7 @@ static void commit_body(const struct relation *relation, struct clause *clause)
     struct goal *body = &clause->body;
     unsigned outputs = clause->size - clause->own, made = 0, k;
 
+    clause->written = *body;
     if (outputs == 0)
         return;
     memmove(&body->literals[outputs], &body->literals[0], LITERAL_LIMIT * sizeof body->literals[0]);
