@@ -11,10 +11,10 @@ use native.Mathlib.Omega.{arith}
 use Rattle.read_goal.proofs.Turn.{first-at}
 use Rattle.read_names.proofs.Tabled.{adds-append, adds-as, adds-none, adds-then, cap-adds, names-length}
 use Rattle.read_names.specs.Tables.{Adds, namesAt, sorted}
-use Rattle.text_names.specs.Bytes.{first, front, next, past}
+use Rattle.text_names.specs.Bytes.{front, next, past}
 use Rattle.text_names.specs.Names.{adds, Name}
 use Rattle.text_program.specs.Numbered.{goalTerms, isUpper, joined, lowers, saidTerms, uppers}
-use Rattle.text_program.specs.Source.{consGot, got, Got, readBody, readBrackets, readGoal, readLiteral, readTerm, row}
+use Rattle.text_program.specs.Source.{consGot, Got, got, readBody, readBrackets, readGoal, readLiteral, readTerm, row}
 
 -- of the names `whole`, to be added to table t with n, there are left `rest`, to be added to table u with m
 pub record AddsLeft (s t : List ℕ) (n : ℕ) (u : List ℕ) (m : ℕ) (whole rest : List Name) (q : ℕ) : Type 0 where

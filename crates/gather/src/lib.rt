@@ -1,5 +1,4 @@
 // The variables or the constants of terms, literals and goals, gathered into a table by first appearance.
-ghost use mathlib.Core.Path.{_≡_};
 ghost use Prim.Native.Nat.{_≤_};
 ghost use lib.ListN.{drop, length};
 ghost use Rattle.read_names.specs.Tables.{Adds, sorted};

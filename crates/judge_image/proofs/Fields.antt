@@ -1,23 +1,20 @@
 -- The fields of records, read where they were written.
-use mathlib.Core.Path.{_∙_, _≡_, ap, refl, sym}
-use mathlib.Core.Bool.{_&&_, _||_, Bool, cond, false, true}
-use mathlib.Core.List.{[], _++_, _∷_, append-assoc, List}
-use Prim.Native.Nat.{_*_, _+_, _<_, _≤_, suc, zero, ℕ}
-use lib.Dec.{eqb, leb, ltb}
-use lib.ListN.{drop, getD, length, length-append}
-use borrow.Author.Tests.{eq-eqb, le-ltb, ltb-false, ltb-true}
+use mathlib.Core.Path.{_∙_, _≡_, ap, refl}
+use mathlib.Core.List.{[], _++_, _∷_, List}
+use Prim.Native.Nat.{_*_, _+_, ℕ}
+use lib.Dec.{leb}
+use lib.ListN.{drop, length, length-append}
 use native.Mathlib.Omega.{arith}
-use Rattle.judge_image.proofs.Here.{byte-here, byte-next, items-each, items-end, items-total, skip-by, word-here}
-use Rattle.judge_image.specs.Judged.{askSized, clauseKnown, clauseSized, goalKnown, goalSized, literalKnown, literalSized, literalsOf, relationKnown, relationSized, stageSized, termKnown, wordOf}
-use Rattle.parlog.proofs.Along.{along-modes, along-terms}
-use Rattle.parlog.specs.Body.{askBody, clauseBody, goalRange, literalRange, modeRange, relationBody, stageRange}
-use Rattle.parlog.specs.Image.{byteAt, goalEnd, kindAt, literalArity, literalEnd, literalRelation, modeEnd, recordAt, recordEnd, relationArity, stageEnd, stageSize, termEnd, termOf, wordAt}
-use Rattle.parlog.specs.Names.{arityOf, goalNamed, literalNamed, relationNamed, termNamed, termNamedAt}
-use Rattle.parlog.specs.Program.{Clause, Goal, Literal}
-use Rattle.parlog.specs.Scan.{along, each, total}
+use Rattle.judge_image.proofs.Here.{byte-here, byte-next, items-each, items-end, items-total, word-here}
+use Rattle.judge_image.specs.Judged.{goalSized, literalSized, literalsOf, stageSized, termKnown, wordOf}
+use Rattle.parlog.specs.Body.{goalRange, literalRange, stageRange}
+use Rattle.parlog.specs.Image.{byteAt, goalEnd, literalArity, literalEnd, literalRelation, stageEnd, stageSize, termEnd, termOf}
+use Rattle.parlog.specs.Names.{termNamed, termNamedAt}
+use Rattle.parlog.specs.Program.{Goal, Literal}
+use Rattle.parlog.specs.Scan.{each}
 use Rattle.parlog.specs.declared.Term.{Term}
 use Rattle.parlog.specs.declared.Term.the-variants.{Const, Var}
-use Rattle.text_program.specs.Encoded.{askBytes, clauseBytes, goalBytes, literalBytes, recordBytes, relationBytes, stageBytes, termBytes, wordBytes}
+use Rattle.text_program.specs.Encoded.{goalBytes, literalBytes, stageBytes, termBytes, wordBytes}
 use Rattle.text_program.specs.Numbered.{joined}
 use Rattle.text_program.specs.Parsing.{allOf}
 

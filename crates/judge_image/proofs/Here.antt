@@ -1,12 +1,11 @@
 -- Bytes read where they were written.
 use mathlib.Core.Path.{_∙_, _≡_, ap, refl, sym}
-use mathlib.Core.Bool.{_&&_, Bool, true}
+use mathlib.Core.Bool.{Bool}
 use mathlib.Core.List.{[], _++_, _∷_, append-assoc, List}
-use Prim.Native.Nat.{_%_, _*_, _+_, _/_, _<_, _≤_, suc, zero, ℕ}
+use Prim.Native.Nat.{_%_, _+_, _/_, ℕ}
 use lib.ListN.{drop, getD, length, length-append}
 use lib.Seq.{drop-append-seam, drop-drop, getD-drop}
 use native.Mathlib.Omega.{arith}
-use native.Mathlib.Numerals.{add-one}
 use Rattle.parlog.specs.Image.{byteAt, wordAt}
 use Rattle.parlog.specs.Scan.{along, each, total}
 use Rattle.text_program.specs.Encoded.{wordBytes}

@@ -1,16 +1,16 @@
 -- The names in records, read where they were written.
-use mathlib.Core.Path.{_∙_, _≡_, ap, refl, sym}
-use mathlib.Core.Bool.{_&&_, _||_, Bool, cond, false, true}
+use mathlib.Core.Path.{_∙_, _≡_, ap, refl}
+use mathlib.Core.Bool.{_&&_, Bool, false, true}
 use mathlib.Core.List.{[], _++_, _∷_, append-assoc, List}
-use Prim.Native.Nat.{_%_, _*_, _+_, _-_, _/_, _<_, _≤_, suc, zero, ℕ}
-use lib.Dec.{eqb, leb, ltb}
+use Prim.Native.Nat.{_+_, _<_, _≤_, suc, zero, ℕ}
+use lib.Dec.{eqb, ltb}
 use lib.ListN.{drop, getD, length, length-append, length-drop}
-use borrow.Author.Tests.{eq-eqb, le-ltb, lt-ltb, ltb-false, ltb-true}
+use borrow.Author.Tests.{le-ltb, lt-ltb, ltb-true}
 use native.Mathlib.Omega.{arith}
 use Rattle.judge_image.proofs.Fields.{goal-size, goal-stages, literal-arity, literal-relation, literal-step, literal-terms, stage-literals, stage-size, stage-step, terms-known}
-use Rattle.judge_image.proofs.Here.{byte-here, byte-next, items-each, skip-by, word-here}
+use Rattle.judge_image.proofs.Here.{byte-here, items-each, skip-by, word-here}
 use Rattle.judge_image.specs.Judged.{goalKnown, literalKnown, relationKnown}
-use Rattle.parlog.specs.Image.{byteAt, kindAt, literalEnd, recordAt, recordEnd, relationArity, stageEnd, wordAt}
+use Rattle.parlog.specs.Image.{byteAt, kindAt, literalEnd, recordEnd, relationArity, stageEnd, wordAt}
 use Rattle.parlog.specs.Names.{arityOf, goalNamed, literalNamed, relationNamed}
 use Rattle.parlog.specs.Program.{Goal, Literal}
 use Rattle.parlog.specs.Records.{cut}

@@ -1,20 +1,19 @@
 -- THE LAW: the loader's tests of a program's records are those told by the program.
 use mathlib.Core.Path.{_∙_, _≡_, ap, refl, sym}
-use mathlib.Core.Bool.{_&&_, Bool, cond, false, not, true}
+use mathlib.Core.Bool.{_&&_, Bool, false, not, true}
 use mathlib.Core.List.{[], _++_, _∷_, append-assoc, append-nil, List}
-use Prim.Native.Nat.{_+_, _-_, _<_, _≤_, suc, zero, ℕ}
-use lib.Dec.{eqb, leb, ltb}
+use Prim.Native.Nat.{_+_, _<_, _≤_, suc, zero, ℕ}
+use lib.Dec.{eqb, ltb}
 use lib.ListN.{drop, length, length-append, length-drop}
-use lib.Seq.{drop-length}
-use borrow.Author.Tests.{eq-eqb, le-ltb}
+use borrow.Author.Tests.{le-ltb}
 use native.Mathlib.Omega.{arith}
-use Rattle.judge_image.proofs.Here.{byte-here, skip-by}
-use Rattle.judge_image.proofs.Named.{record-body, record-end, record-inside, record-kind, record-length, record-whole}
+use Rattle.judge_image.proofs.Here.{skip-by}
+use Rattle.judge_image.proofs.Named.{record-end, record-inside, record-kind, record-length, record-whole}
 use Rattle.judge_image.proofs.Whole.{ask-here, ask-known, ask-sized, clause-here, clause-known, clause-mark, clause-rel, clause-sized, relation-sized, verdict-told}
 use Rattle.judge_image.specs.Judged.{askJudged, askSized, clauseJudged, clauseKnown, clauseSized, clausesJudged, goalKnown, judged, progressOf, relationJudged, relationSized, relationsJudged, taken}
 use Rattle.parlog.specs.Body.{bodyRight}
-use Rattle.parlog.specs.Image.{byteAt, kindAt, recordEnd}
-use Rattle.parlog.specs.Load.{after, blockWith, broken, kindFault, loadEnd, nothingRead, refusal, refuseIf, tooMany, verdict}
+use Rattle.parlog.specs.Image.{byteAt}
+use Rattle.parlog.specs.Load.{after, blockWith, broken, kindFault, loadEnd, nothingRead, refuseIf, tooMany}
 use Rattle.parlog.specs.Names.{namesRight}
 use Rattle.parlog.specs.Program.{Clause, Goal, Program}
 use Rattle.parlog.specs.Records.{walk}

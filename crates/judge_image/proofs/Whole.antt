@@ -1,28 +1,25 @@
 -- Whole records: their tests, told by what they are made of.
 use mathlib.Core.Path.{_∙_, _≡_, ap, refl, sym}
-use mathlib.Core.Bool.{_&&_, _||_, Bool, cond, false, not, true}
+use mathlib.Core.Bool.{_&&_, _||_, Bool, cond, false, true}
 use mathlib.Core.List.{[], _++_, _∷_, append-assoc, List}
-use Prim.Native.Nat.{_*_, _+_, _≤_, suc, zero, ℕ}
-use lib.Dec.{eqb, leb, ltb}
+use Prim.Native.Nat.{_+_, ℕ}
+use lib.Dec.{eqb, leb}
 use lib.ListN.{drop, length, length-append}
 use borrow.Author.Tests.{eq-eqb}
 use native.Mathlib.Omega.{arith}
 use Rattle.judge_image.proofs.Fields.{goal-sized, goal-step, terms-known, terms-length}
 use Rattle.judge_image.proofs.Here.{byte-here, byte-next, items-each, skip-by}
-use Rattle.judge_image.proofs.Named.{goal-known, record-body, record-end, record-kind, record-length, relation-arity, relation-known}
-use Rattle.judge_image.specs.Judged.{askJudged, askSized, clauseJudged, clauseKnown, clauseSized, goalKnown, goalSized, judged, progressOf, relationJudged, relationKnown, relationSized, termKnown}
-use Rattle.parlog.specs.Body.{askBody, bodyRight, clauseBody, goalRange, modeRange, relationBody}
-use Rattle.parlog.specs.Image.{bodyAt, byteAt, clauseArity, clauseMark, clauseRelation, clauseVars, goalEnd, guardAt, kindAt, modeEnd, recordEnd, relationArity, termEnd}
-use Rattle.parlog.specs.Load.{blockFull, blockWith, kindFault, progressed, refuseIf, tooMany, verdict}
-use Rattle.parlog.specs.Names.{clauseInside, clausePlaced, follows, goalNamed, namesRight, relationNamed, termNamedAt}
-use Rattle.parlog.specs.Program.{Clause, Goal, Literal}
+use Rattle.judge_image.proofs.Named.{goal-known, record-body, record-end, record-length, relation-arity, relation-known}
+use Rattle.judge_image.specs.Judged.{askSized, clauseKnown, clauseSized, goalKnown, goalSized, judged, progressOf, relationSized}
+use Rattle.parlog.specs.Body.{askBody, bodyRight, clauseBody, modeRange, relationBody}
+use Rattle.parlog.specs.Image.{bodyAt, byteAt, goalEnd, guardAt, kindAt, modeEnd, recordEnd}
+use Rattle.parlog.specs.Load.{blockFull, progressed, verdict}
+use Rattle.parlog.specs.Names.{clauseInside, clausePlaced, follows, goalNamed, namesRight}
+use Rattle.parlog.specs.Program.{Clause, Goal}
 use Rattle.parlog.specs.Scan.{each}
 use Rattle.parlog.specs.declared.Progress.{Progress}
-use Rattle.parlog.specs.declared.Verdict.{Verdict}
-use Rattle.text_names.specs.Names.{Name}
 use Rattle.text_program.specs.Encoded.{askBytes, clauseBytes, goalBytes, recordBytes, relationBytes, termBytes}
 use Rattle.text_program.specs.Numbered.{joined}
-use Rattle.text_program.specs.Parsing.{allOf, onceBy, repeated, textVerdict}
 
 true-right : (a : Bool) → (a && true) ≡ a
 true-right true = refl

@@ -1,33 +1,31 @@
 -- THE LAW: the tests of the clauses and of the goal of a program are those told by its text.
 use mathlib.Core.Path.{_∙_, _≡_, ap, refl, sym}
 use mathlib.Core.Bool.{_&&_, Bool, cond, false, not, true}
-use mathlib.Core.List.{[], _++_, _∷_, append-assoc, append-nil, List, map}
-use Prim.Native.Nat.{_*_, _+_, _<_, _≤_, suc, zero, ℕ}
+use mathlib.Core.List.{[], _++_, _∷_, append-assoc, List}
+use Prim.Native.Nat.{_*_, _+_, _<_, _≤_, ℕ}
 use lib.Dec.{eqb, leb, ltb}
 use lib.ListN.{length, length-append}
 use borrow.Author.Tests.{eq-eqb, eqb-true, leb-false, leb-true, lt-ltb}
 use native.Mathlib.Omega.{arith}
-use Rattle.judge_image.specs.Judged.{askJudged, askSized, clauseJudged, clauseKnown, clauseSized, clausesJudged, goalKnown, judged, progressOf, taken}
+use Rattle.judge_image.specs.Judged.{clauseJudged, clauseKnown, clauseSized, clausesJudged, judged, progressOf}
 use Rattle.judge_said.proofs.First.{terms-okay-in}
-use Rattle.judge_said.proofs.Known.{clause-told, goal-told, termOkay}
-use Rattle.judge_said.proofs.Sized.{ask-sized, clause-size, clause-sized}
-use Rattle.judge_said.specs.Said.{askRight, askSaid, clauseSaid, clauseSize, clausesSaid}
+use Rattle.judge_said.proofs.Known.{clause-told}
+use Rattle.judge_said.proofs.Sized.{clause-size, clause-sized}
+use Rattle.judge_said.specs.Said.{clauseSaid, clauseSize, clausesSaid}
 use Rattle.lay_clause.specs.Fields.{clauseFits, clauseIn}
-use Rattle.lay_goal.specs.Fits.{goalFits}
 use Rattle.lay_lines.proofs.Sizes.{both, right-parts}
 use Rattle.lay_lines.specs.Lines.{clauseRight, clausesWith, modesOf, withVars}
 use Rattle.parlog.specs.Load.{after, blockWith, kindFault, refuseIf, tooMany}
 use Rattle.parlog.specs.Names.{follows}
 use Rattle.parlog.specs.declared.Loaded.{Loaded}
 use Rattle.parlog.specs.declared.Progress.{Progress}
-use Rattle.parlog.specs.declared.Verdict.{Verdict}
-use Rattle.parlog.specs.declared.Verdict.the-variants.{Goes, Refuses}
+use Rattle.parlog.specs.declared.Verdict.the-variants.{Goes}
 use Rattle.read_goal.specs.Spans.{goalRight, literalRight, literalsIn, stageRight, stagesRight}
 use Rattle.read_names.specs.Tables.{modeNames}
 use Rattle.text_names.specs.Names.{adds, look, Name, sameName}
 use Rattle.text_program.specs.Encoded.{clauseBytes}
-use Rattle.text_program.specs.Numbered.{clauseTerms, goalNumbered, goalTerms, isUpper, joined, lowers, markBy, Numbering, saidTerms, variableNames}
-use Rattle.text_program.specs.Parsing.{allOf, clauseDeclared, goalDeclared}
+use Rattle.text_program.specs.Numbered.{clauseTerms, goalTerms, isUpper, joined, lowers, markBy, Numbering, saidTerms}
+use Rattle.text_program.specs.Parsing.{allOf, clauseDeclared}
 use Rattle.text_program.specs.Source.{ModeLine, Said, SaidClause}
 
 -- ---- how many terms there are

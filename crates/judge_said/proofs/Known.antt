@@ -1,29 +1,26 @@
 -- 5 by what the text says.
 use mathlib.Core.Path.{_∙_, _≡_, ap, refl, sym}
-use mathlib.Core.Bool.{_&&_, _||_, Bool, cond, false, true}
+use mathlib.Core.Bool.{_&&_, Bool, cond, false, true}
 use mathlib.Core.List.{[], _++_, _∷_, List, map}
-use Prim.Native.Nat.{_+_, _-_, _<_, _≤_, suc, zero, ℕ}
+use Prim.Native.Nat.{_+_, _-_, _<_, _≤_, suc, ℕ}
 use lib.Dec.{eqb, leb, ltb}
-use lib.ListN.{getD, length, length-append}
-use borrow.Author.Tests.{eq-eqb, le-ltb, lt-ltb, ltb-false, ltb-true, ne-eqb}
+use lib.ListN.{getD, length}
+use borrow.Author.Tests.{le-ltb, lt-ltb, ltb-true, ne-eqb}
 use native.Mathlib.Omega.{arith}
-use Rattle.judge_image.specs.Judged.{clauseKnown, goalKnown, literalKnown, relationKnown, termKnown, wordOf}
-use Rattle.judge_said.specs.Said.{clauseSaid}
+use Rattle.judge_image.specs.Judged.{clauseKnown, goalKnown, literalKnown, relationKnown, termKnown}
 use Rattle.lay_clause.specs.Fields.{clauseFits, clauseIn}
 use Rattle.lay_goal.specs.Fits.{goalFits, stageFits}
 use Rattle.lay_lines.proofs.Sizes.{both}
-use Rattle.lay_lines.specs.Lines.{modesOf, withVars}
+use Rattle.lay_lines.specs.Lines.{modesOf}
 use Rattle.lay_literal.proofs.Laid.{map-length}
 use Rattle.lay_literal.specs.Lows.{literalFits}
 use Rattle.parlog.specs.Image.{termOf}
 use Rattle.parlog.specs.Names.{follows, termNamed}
-use Rattle.parlog.specs.Program.{Literal}
 use Rattle.parlog.specs.declared.Progress.{Progress}
-use Rattle.parlog.specs.declared.Term.{Term}
 use Rattle.parlog.specs.declared.Term.the-variants.{Const, Var}
 use Rattle.read_names.specs.Tables.{arityFor, modeNames}
-use Rattle.text_names.specs.Names.{add, adds, known, look, Name, sameName}
-use Rattle.text_program.specs.Numbered.{clauseTerms, goalNumbered, goalTerms, isUpper, joined, literalNumbered, markBy, Numbering, saidTerms, termNumbered, variableNames}
+use Rattle.text_names.specs.Names.{known, look, Name, sameName}
+use Rattle.text_program.specs.Numbered.{clauseTerms, goalNumbered, goalTerms, isUpper, joined, literalNumbered, Numbering, saidTerms, termNumbered}
 use Rattle.text_program.specs.Parsing.{allOf, clauseDeclared, goalDeclared, literalDeclared}
 use Rattle.text_program.specs.Source.{calls, equals, ModeLine, Said, SaidClause}
 

@@ -1,8 +1,8 @@
 -- 4, and the lengths of records, do not depend on how names are numbered.
-use mathlib.Core.Path.{_∙_, _≡_, ap, refl, sym}
-use mathlib.Core.Bool.{_&&_, Bool, cond, false, true}
+use mathlib.Core.Path.{_≡_, ap, refl}
+use mathlib.Core.Bool.{Bool, false, true}
 use mathlib.Core.List.{[], _++_, _∷_, List, map}
-use Prim.Native.Nat.{_*_, _+_, _≤_, suc, ℕ}
+use Prim.Native.Nat.{suc, ℕ}
 use lib.Dec.{leb}
 use lib.ListN.{length, length-append}
 use native.Mathlib.Omega.{arith}
@@ -13,11 +13,10 @@ use Rattle.lay_clause.specs.Fields.{clauseIn}
 use Rattle.lay_lines.proofs.Sizes.{args-length}
 use Rattle.lay_lines.specs.Lines.{clauseRight, withVars}
 use Rattle.lay_literal.proofs.Laid.{map-length}
-use Rattle.parlog.specs.Program.{Literal}
 use Rattle.read_goal.specs.Spans.{goalRight, literalRight, literalsIn, stageRight, stagesRight}
 use Rattle.text_names.specs.Names.{Name}
 use Rattle.text_program.specs.Encoded.{clauseBytes, goalBytes, literalBytes, recordBytes, stageBytes, termBytes}
-use Rattle.text_program.specs.Numbered.{clauseTerms, goalNumbered, goalTerms, joined, literalNumbered, markBy, Numbering, saidTerms, termNumbered, variableNames}
+use Rattle.text_program.specs.Numbered.{goalNumbered, goalTerms, joined, literalNumbered, markBy, Numbering, termNumbered, variableNames}
 use Rattle.text_program.specs.Parsing.{allOf}
 use Rattle.text_program.specs.Source.{Said, SaidClause}
 

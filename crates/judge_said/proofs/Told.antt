@@ -1,14 +1,14 @@
 -- THE LAW: 4, 5 and 6 of a text, told by what it says.
 use mathlib.Core.Path.{_∙_, _≡_, ap, refl, sym}
-use mathlib.Core.Bool.{_&&_, Bool, cond, false, not, true}
-use mathlib.Core.List.{[], _++_, _∷_, append-nil, List, map}
-use Prim.Native.Nat.{_*_, _+_, _<_, _≤_, suc, zero, ℕ}
-use lib.Dec.{eqb, leb, ltb}
+use mathlib.Core.Bool.{Bool, false, true}
+use mathlib.Core.List.{[], _++_, _∷_, append-nil, List}
+use Prim.Native.Nat.{_+_, _<_, _≤_, suc, ℕ}
+use lib.Dec.{leb}
 use lib.ListN.{length, length-append}
-use borrow.Author.Tests.{leb-false, leb-true}
+use borrow.Author.Tests.{leb-false}
 use native.Mathlib.Omega.{arith}
 use Rattle.judge_image.proofs.Walked.{records-judged}
-use Rattle.judge_image.specs.Judged.{askJudged, askSized, clausesJudged, goalKnown, judged, progressOf, relationJudged, relationSized, relationsJudged, taken}
+use Rattle.judge_image.specs.Judged.{askJudged, clausesJudged, goalKnown, judged, progressOf, relationJudged, relationSized, relationsJudged, taken}
 use Rattle.judge_said.proofs.Clauses.{clauses-said, goal-few, judged-both}
 use Rattle.judge_said.proofs.First.{terms-okay-in}
 use Rattle.judge_said.proofs.Known.{goal-told}
@@ -17,8 +17,7 @@ use Rattle.judge_said.specs.Said.{askRight, askSaid, clausesSaid}
 use Rattle.lay_goal.specs.Fits.{goalFits}
 use Rattle.lay_lines.proofs.Sizes.{both}
 use Rattle.lay_lines.specs.Lines.{clausesWith, modesOf}
-use Rattle.parlog.specs.Load.{after, nothingRead, refuseIf, tooMany}
-use Rattle.parlog.specs.Program.{Clause}
+use Rattle.parlog.specs.Load.{after, nothingRead, tooMany}
 use Rattle.parlog.specs.declared.Loaded.{Loaded}
 use Rattle.parlog.specs.declared.Progress.{Progress}
 use Rattle.parlog.specs.declared.Verdict.{Verdict}

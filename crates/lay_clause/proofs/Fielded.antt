@@ -15,11 +15,10 @@ use Rattle.lay_text.proofs.Laws.{capped-in, name-told}
 use Rattle.lay_text.specs.Laying.{capped, Writes}
 use Rattle.lay_text.specs.declared.To.{To}
 use Rattle.parlog.specs.Program.{Clause}
-use Rattle.read_clause.proofs.Parted.{part-body, part-goal}
 use Rattle.read_clause.specs.Parts.{ClauseIn, partOf}
 use Rattle.read_clause.specs.declared.ClauseAt.{ClauseAt}
 use Rattle.read_names.proofs.Tabled.{names-length}
-use Rattle.read_names.specs.Tables.{arityFor, Finds, modeNames, modesFrom, namesAt}
+use Rattle.read_names.specs.Tables.{arityFor, Finds, modeNames, modesFrom}
 use Rattle.read_names.specs.declared.Entry.{Entry}
 use Rattle.text_names.specs.Bytes.{front}
 use Rattle.text_names.specs.Names.{known, look, Name}

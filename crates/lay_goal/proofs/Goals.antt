@@ -2,7 +2,7 @@
 use mathlib.Core.Path.{_∙_, _≡_, ap, refl, sym}
 use mathlib.Core.Bool.{_||_, Bool, false, true}
 use mathlib.Core.List.{[], _++_, _∷_, List, map}
-use Prim.Native.Nat.{_≤_, ℕ}
+use Prim.Native.Nat.{ℕ}
 use lib.Dec.{eqb}
 use lib.ListN.{drop, getD, length}
 use Rattle.lay_goal.specs.Fits.{goalFits, stageFits}
@@ -11,7 +11,6 @@ use Rattle.lay_literal.specs.Lows.{literalFits, lows}
 use Rattle.lay_text.specs.Laying.{Writes}
 use Rattle.lay_text.specs.declared.To.{To}
 use Rattle.read_goal.proofs.Turn.{first-at}
-use Rattle.text_names.specs.Bytes.{first}
 use Rattle.text_program.specs.Encoded.{goalBytes, literalBytes, stageBytes}
 use Rattle.text_program.specs.Numbered.{goalNumbered, joined, literalNumbered, Numbering}
 use Rattle.text_program.specs.Parsing.{allOf}

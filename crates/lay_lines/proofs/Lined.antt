@@ -1,32 +1,30 @@
 -- The loops over mode lines and clauses, and the ways through their records.
 use mathlib.Core.Path.{_∙_, _≡_, ap, refl, sym}
-use mathlib.Core.Bool.{_&&_, Bool, cond, false, true}
-use mathlib.Core.List.{[], _++_, _∷_, List, map}
-use Prim.Native.Nat.{_+_, _<_, _≤_, suc, ℕ}
-use lib.Dec.{eqb, leb}
+use mathlib.Core.Bool.{_&&_, Bool, false, true}
+use mathlib.Core.List.{[], _++_, _∷_, List}
+use Prim.Native.Nat.{_+_, _≤_, ℕ}
+use lib.Dec.{leb}
 use lib.ListN.{drop, getD, length, take}
 use lib.Seq.{take-all}
 use borrow.Author.Tests.{eq-eqb, leb-true, ne-eqb}
 use native.Mathlib.Omega.{arith}
 use Rattle.lay_clause.specs.Fields.{clauseFits, clauseIn}
 use Rattle.lay_lines.proofs.Sizes.{both, right-parts}
-use Rattle.lay_lines.specs.Lines.{clauseRight, clausesFrom, clausesWith, modesOf, modesRight, withVars}
+use Rattle.lay_lines.specs.Lines.{clauseRight, clausesWith, modesOf, modesRight, withVars}
 use Rattle.lay_literal.proofs.Laid.{joined-map, lows-append, lows-cons, writes-both}
 use Rattle.lay_literal.specs.Lows.{lows, numbersIn}
 use Rattle.lay_text.proofs.Laws.{left-as, left-end, left-start, left-step, writes-none}
 use Rattle.parlog.specs.Program.{Clause}
 use Rattle.lay_text.specs.Laying.{Left, most, Writes}
 use Rattle.lay_text.specs.declared.To.{To}
-use Rattle.read_clause.specs.Parts.{ClauseIn}
-use Rattle.read_clause.specs.declared.ClauseAt.{ClauseAt}
 use Rattle.read_goal.proofs.Turn.{first-at}
 use Rattle.read_names.specs.Tables.{Adds, modeNames, modesFrom, namesAt, sorted}
-use Rattle.text_names.specs.Bytes.{first, front, next, past}
+use Rattle.text_names.specs.Bytes.{next, past}
 use Rattle.text_names.specs.Names.{adds, Name, sameName}
 use Rattle.text_program.specs.Encoded.{clauseBytes, recordBytes, relationBytes, wordBytes}
 use Rattle.text_program.specs.Numbered.{clauseTerms, joined, markBy, uppers, variableNames}
 use Rattle.text_program.specs.Parsing.{allOf}
-use Rattle.text_program.specs.Source.{consGot, got, Got, isClause, lines, linesFor, ModeLine, readBrackets, readClause, readMode, readModeLine, row, SaidClause}
+use Rattle.text_program.specs.Source.{consGot, got, Got, isClause, ModeLine, readBrackets, readMode, readModeLine, row, SaidClause}
 
 -- ---- modes
 

@@ -1,8 +1,8 @@
 -- How long the records of right clauses and goals are.
-use mathlib.Core.Path.{_∙_, _≡_, ap, refl, sym}
+use mathlib.Core.Path.{_≡_, refl}
 use mathlib.Core.Bool.{_&&_, Bool, false, true}
 use mathlib.Core.List.{[], _++_, _∷_, List, map}
-use Prim.Native.Nat.{_*_, _+_, _≤_, suc, ℕ}
+use Prim.Native.Nat.{_*_, _+_, _≤_, ℕ}
 use lib.Dec.{leb}
 use lib.ListN.{length, length-append}
 use borrow.Author.Tests.{leb-true}
@@ -11,7 +11,6 @@ use Rattle.judge_image.proofs.Fields.{terms-length}
 use Rattle.lay_clause.specs.Fields.{askFields, clauseFields, clauseIn}
 use Rattle.lay_lines.specs.Lines.{clauseRight}
 use Rattle.lay_literal.proofs.Laid.{map-length}
-use Rattle.parlog.specs.Program.{Literal}
 use Rattle.read_goal.specs.Spans.{goalRight, literalRight, literalsIn, stageRight, stagesRight}
 use Rattle.text_program.specs.Encoded.{goalBytes, literalBytes, stageBytes, termBytes}
 use Rattle.text_program.specs.Numbered.{clauseTerms, goalNumbered, joined, literalNumbered, Numbering, saidTerms, termNumbered, variableNames}

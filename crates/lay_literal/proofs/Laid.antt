@@ -1,6 +1,6 @@
 -- What is left to lay of a row, and the ways through the writers.
 use mathlib.Core.Path.{_∙_, _≡_, ap, refl, sym}
-use mathlib.Core.Bool.{_&&_, and-assoc, Bool, false, true}
+use mathlib.Core.Bool.{_&&_, and-assoc, Bool, true}
 use mathlib.Core.List.{[], _++_, _∷_, append-nil, List, map}
 use Prim.Native.Nat.{_%_, _+_, _/_, _≤_, suc, ℕ}
 use lib.ListN.{length, length-append}

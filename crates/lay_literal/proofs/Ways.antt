@@ -14,13 +14,13 @@ use Rattle.lay_text.specs.Laying.{most, Writes}
 use Rattle.lay_text.specs.declared.To.{To}
 use Rattle.read_goal.proofs.Turn.{first-at}
 use Rattle.read_names.proofs.Tabled.{upper-at}
-use Rattle.read_names.specs.Tables.{arityFor, Finds, modeNames, modesFrom, namesAt}
+use Rattle.read_names.specs.Tables.{arityFor, Finds, modeNames, namesAt}
 use Rattle.read_names.specs.declared.Entry.{Entry}
-use Rattle.text_names.specs.Bytes.{first, front, isCapital, next, past}
+use Rattle.text_names.specs.Bytes.{front, isCapital, next, past}
 use Rattle.text_names.specs.Names.{known, look, Name}
 use Rattle.text_program.specs.Encoded.{literalBytes, termBytes, wordBytes}
 use Rattle.text_program.specs.Numbered.{isUpper, joined, literalNumbered, Numbering, termNumbered}
-use Rattle.text_program.specs.Source.{calls, equals, ModeLine, readBrackets, readLiteral, readTerm, row, Said}
+use Rattle.text_program.specs.Source.{calls, equals, ModeLine, readBrackets, readLiteral, readTerm, row}
 
 -- ---- a term
 

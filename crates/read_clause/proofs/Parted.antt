@@ -1,7 +1,7 @@
 -- The ways through the readers of clauses.
 use mathlib.Core.Path.{_∙_, _≡_, ap, refl, sym}
-use mathlib.Core.Bool.{Bool, cond, false, true}
-use mathlib.Core.List.{[], _++_, _∷_, List}
+use mathlib.Core.Bool.{Bool, true}
+use mathlib.Core.List.{[], _++_, List}
 use Prim.Native.Nat.{_+_, _-_, _<_, _≤_, suc, zero, ℕ}
 use lib.Dec.{eqb}
 use lib.ListN.{drop, drop-of-length-le, getD, length, length-drop}
@@ -17,10 +17,10 @@ use Rattle.read_goal.specs.Spans.{goalRight, literalsIn, Spans, stagesRight}
 use Rattle.read_goal.specs.declared.Span.{Span}
 use Rattle.read_names.proofs.Tabled.{adds-as, adds-none, adds-then}
 use Rattle.read_names.specs.Tables.{Adds, sorted}
-use Rattle.text_names.specs.Bytes.{first, front, next, past, skip}
+use Rattle.text_names.specs.Bytes.{first, next, past, skip}
 use Rattle.text_program.specs.Numbered.{clauseTerms, goalTerms, joined}
 use Rattle.text_program.specs.Parsing.{allOf}
-use Rattle.text_program.specs.Source.{behindArrow, got, Got, Halves, readBody, readBrackets, readClause, readGoal, readHalves, readTerm, Said, SaidClause}
+use Rattle.text_program.specs.Source.{behindArrow, readBody, readBrackets, readClause, readGoal, readHalves, readTerm}
 
 -- ---- `<-`
 

@@ -1,5 +1,4 @@
 -- A clause by the places of its parts.
-use mathlib.Core.Bool.{Bool}
 use mathlib.Core.List.{[], List}
 use mathlib.Core.Path.{_≡_}
 use Prim.Native.Nat.{_≤_, suc, zero, ℕ}

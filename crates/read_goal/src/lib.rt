@@ -1,9 +1,8 @@
 // Terms, literals and goals where they stand in a text: the place behind them, how many there are, and whether an image may have so many.
 use parlog::codes;
-ghost use mathlib.Core.Bool.{_&&_, true};
+ghost use mathlib.Core.Bool.{true};
 ghost use mathlib.Core.Path.{_≡_};
 ghost use Prim.Native.Nat.{_-_, _≤_};
-ghost use lib.Dec.{leb};
 ghost use lib.ListN.{drop, length};
 ghost use Rattle.read_goal.specs.Spans.{goalRight, literalRight, Spans, stageRight, stagesRight};
 ghost use Rattle.text_names.specs.Bytes.{past};

@@ -1,22 +1,21 @@
 -- Mode lines: the word that they begin with, and the loops over them.
 use mathlib.Core.Path.{_∙_, _≡_, ap, refl, sym}
-use mathlib.Core.Bool.{_&&_, Bool, cond, false, not, true}
-use mathlib.Core.List.{[], _++_, _∷_, List}
+use mathlib.Core.Bool.{_&&_, Bool, false, true}
+use mathlib.Core.List.{[], _∷_, List}
 use Prim.Native.Nat.{_+_, _-_, _<_, _≤_, suc, zero, ℕ}
 use lib.Dec.{eqb, leb, ltb}
-use lib.ListN.{drop, getD, length, length-drop, take}
+use lib.ListN.{drop, getD, length, length-drop}
 use lib.Seq.{drop-cons, length-take-le}
 use borrow.Author.Tests.{le-ltb, lt-ltb, ltb-false, ltb-true}
 use native.Mathlib.Omega.{arith}
-use native.Mathlib.Numerals.{add-one}
 use Rattle.lay_text.proofs.Laws.{name-part, true-right}
 use Rattle.read_goal.proofs.Turn.{first-at}
 use Rattle.read_goal.specs.Spans.{Spans}
 use Rattle.read_goal.specs.declared.Span.{Span}
 use Rattle.read_names.specs.Tables.{arityFor, Finds, modeNames}
-use Rattle.text_names.specs.Bytes.{back, first, front, isSmall, next, past}
+use Rattle.text_names.specs.Bytes.{back, front, isSmall, next, past}
 use Rattle.text_names.specs.Names.{known, look, Name, sameName}
-use Rattle.text_program.specs.Source.{consGot, got, Got, isModeLine, lines, linesFor, ModeLine, modeWord, readBrackets, Reader, readMode, readModeLine}
+use Rattle.text_program.specs.Source.{consGot, got, isModeLine, lines, linesFor, ModeLine, modeWord, readBrackets, Reader, readMode, readModeLine}
 
 -- ---- the word
 

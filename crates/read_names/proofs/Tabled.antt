@@ -2,11 +2,11 @@
 use mathlib.Core.Path.{_∙_, _≡_, ap, refl, sym}
 use mathlib.Core.Bool.{_||_, Bool, cond, false, not, true}
 use mathlib.Core.List.{[], _++_, _∷_, List}
-use Prim.Native.Nat.{_+_, _<_, _≤_, suc, zero, ℕ}
-use lib.Dec.{eqb, leb, ltb}
+use Prim.Native.Nat.{_+_, _<_, _≤_, suc, ℕ}
+use lib.Dec.{eqb, leb}
 use lib.ListN.{drop, drop-of-length-le, getD, length, length-append, length-set, set, take}
 use lib.Seq.{drop-cons, getD-take, length-take-le, take-all, take-append-le, take-suc-set, take-take}
-use borrow.Author.Tests.{eq-eqb, le-ltb, leb-false, leb-true, lt-ltb, not-false, not-true}
+use borrow.Author.Tests.{le-ltb, leb-false, leb-true, lt-ltb, not-false, not-true}
 use native.Mathlib.Omega.{arith}
 use native.Mathlib.Numerals.{add-one}
 use Rattle.read_goal.proofs.Turn.{first-at}

@@ -1,6 +1,6 @@
 // Names of a text by their numbers: relations by mode line, constants and variables by tables of the places where they first stand.
 use read_goal::Span;
-ghost use mathlib.Core.Bool.{_&&_, true};
+ghost use mathlib.Core.Bool.{true};
 ghost use mathlib.Core.List.{[], _∷_};
 ghost use mathlib.Core.Path.{_≡_};
 ghost use Prim.Native.Nat.{_≤_};

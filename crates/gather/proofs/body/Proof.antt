@@ -1,6 +1,5 @@
 use Rattle.gather.proofs.Gathered.{body-none, body-some}
 use borrow.Author.Needs.{needs}
-use native.Mathlib.Omega.{arith}
 use Rattle.gather.proofs.body.Statement.{statement}
 use Rattle.gather.proofs.body.Tie as tie
 

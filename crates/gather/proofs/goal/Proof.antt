@@ -1,5 +1,5 @@
-use mathlib.Core.Path.{_∙_, _≡_, ap, refl, sym}
-use mathlib.Core.List.{[], _∷_, List}
+use mathlib.Core.Path.{_∙_, ap, refl}
+use mathlib.Core.List.{List}
 use lib.ListN.{drop, length}
 use Prim.Native.Nat.{_-_}
 use Rattle.read_goal.proofs.Turn.{row-fuel, row-last, row-more, row-none}

@@ -1,7 +1,6 @@
 use Rattle.gather.proofs.Gathered.{literal-call, literal-equality}
 use mathlib.Core.Path.{_∙_}
 use borrow.Author.Needs.{needs}
-use native.Mathlib.Omega.{arith}
 use Rattle.gather.proofs.literal.Statement.{statement}
 use Rattle.gather.proofs.literal.Tie as tie
 

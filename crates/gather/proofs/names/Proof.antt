@@ -1,4 +1,4 @@
-use mathlib.Core.Path.{_∙_, _≡_, ap, refl, sym}
+use mathlib.Core.Path.{_∙_, ap, refl}
 use mathlib.Core.List.{[], _∷_, List}
 use lib.ListN.{drop, length}
 use Prim.Native.Nat.{_-_}

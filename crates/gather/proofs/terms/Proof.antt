@@ -1,6 +1,5 @@
 use Rattle.gather.proofs.Gathered.{terms-none, terms-some}
 use borrow.Author.Needs.{needs}
-use native.Mathlib.Omega.{arith}
 use Rattle.gather.proofs.terms.Statement.{statement}
 use Rattle.gather.proofs.terms.Tie as tie
 

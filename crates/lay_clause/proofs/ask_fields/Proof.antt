@@ -3,7 +3,6 @@ use lib.ListN.{drop}
 use Rattle.lay_clause.proofs.Fielded.{lay-ask}
 use Rattle.text_program.specs.Source.{readBody}
 use borrow.Author.Needs.{needs}
-use native.Mathlib.Omega.{arith}
 use Rattle.lay_clause.proofs.ask_fields.Statement.{statement}
 use Rattle.lay_clause.proofs.ask_fields.Tie as tie
 

@@ -4,7 +4,6 @@ use lib.ListN.{length}
 use Rattle.lay_clause.proofs.Fielded.{lay-fields}
 use Rattle.text_names.specs.Names.{Name}
 use borrow.Author.Needs.{needs}
-use native.Mathlib.Omega.{arith}
 use Rattle.lay_clause.proofs.fields.Statement.{statement}
 use Rattle.lay_clause.proofs.fields.Tie as tie
 

@@ -3,7 +3,6 @@ use Rattle.read_clause.proofs.Parted.{part-goal, part-body}
 use Rattle.lay_literal.specs.Lows.{numbersIn}
 use Rattle.read_names.specs.Tables.{modesFrom}
 use borrow.Author.Needs.{needs}
-use native.Mathlib.Omega.{arith}
 use Rattle.lay_clause.proofs.part.Statement.{statement}
 use Rattle.lay_clause.proofs.part.Tie as tie
 

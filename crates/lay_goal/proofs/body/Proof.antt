@@ -2,7 +2,6 @@ use Rattle.lay_goal.proofs.Goals.{body-none, body-some}
 use Rattle.lay_literal.specs.Lows.{numbersIn}
 use Rattle.read_names.specs.Tables.{modesFrom}
 use borrow.Author.Needs.{needs}
-use native.Mathlib.Omega.{arith}
 use Rattle.lay_goal.proofs.body.Statement.{statement}
 use Rattle.lay_goal.proofs.body.Tie as tie
 

@@ -1,4 +1,4 @@
-use mathlib.Core.Path.{_∙_, ap, refl, sym}
+use mathlib.Core.Path.{_∙_, refl}
 use mathlib.Core.List.{map}
 use lib.ListN.{drop, length}
 use Prim.Native.Nat.{_-_, _≤_}
@@ -7,8 +7,8 @@ use Rattle.lay_text.specs.Laying.{Left}
 use Rattle.lay_literal.proofs.Laid.{lay-done, lay-last, lay-on, lay-start, whole-as}
 use Rattle.read_goal.proofs.Turn.{row-fuel, row-last, row-more, row-none}
 use Rattle.read_names.specs.Tables.{modesFrom}
-use Rattle.text_program.specs.Encoded.{literalBytes, stageBytes}
-use Rattle.text_program.specs.Numbered.{goalNumbered, joined, literalNumbered}
+use Rattle.text_program.specs.Encoded.{literalBytes}
+use Rattle.text_program.specs.Numbered.{joined, literalNumbered}
 use Rattle.text_program.specs.Parsing.{allOf}
 use Rattle.text_program.specs.Source.{readLiteral, row, rowFor}
 use Rattle.lay_goal.proofs.Goals.{literalIn, literals-whole}

@@ -1,4 +1,4 @@
-use Rattle.lay_lines.proofs.Lined.{clause-told, vars-told}
+use Rattle.lay_lines.proofs.Lined.{vars-told}
 use mathlib.Core.Path.{refl}
 use lib.ListN.{drop}
 use Rattle.text_program.specs.Source.{readClause}

@@ -1,5 +1,5 @@
 use mathlib.Core.Bool.{_&&_, Bool, false, true}
-use mathlib.Core.Path.{_∙_, _≡_, ap, refl, sym}
+use mathlib.Core.Path.{_∙_, _≡_, ap, refl}
 use mathlib.Core.List.{[], List}
 use lib.ListN.{drop, length}
 use Prim.Native.Nat.{_-_, _≤_}

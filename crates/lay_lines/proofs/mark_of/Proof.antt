@@ -1,6 +1,4 @@
 use mathlib.Core.Path.{refl}
-use borrow.Author.Needs.{needs}
-use native.Mathlib.Omega.{arith}
 use Rattle.lay_lines.proofs.mark_of.Statement.{statement}
 use Rattle.lay_lines.proofs.mark_of.Tie as tie
 

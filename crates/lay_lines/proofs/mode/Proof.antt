@@ -1,6 +1,5 @@
 use Rattle.lay_lines.proofs.Lined.{mode-out, mode-in}
 use borrow.Author.Needs.{needs}
-use native.Mathlib.Omega.{arith}
 use Rattle.lay_lines.proofs.mode.Statement.{statement}
 use Rattle.lay_lines.proofs.mode.Tie as tie
 

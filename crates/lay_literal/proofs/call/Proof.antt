@@ -6,7 +6,6 @@ use Rattle.read_names.specs.Tables.{modesFrom}
 use Rattle.text_names.specs.Bytes.{front}
 use Rattle.text_program.specs.Source.{readBrackets, readTerm}
 use borrow.Author.Needs.{needs}
-use native.Mathlib.Omega.{arith}
 use Rattle.lay_literal.proofs.call.Statement.{statement}
 use Rattle.lay_literal.proofs.call.Tie as tie
 

@@ -4,7 +4,6 @@ use Rattle.lay_literal.proofs.Ways.{lay-equality}
 use Rattle.lay_literal.specs.Lows.{numbersIn}
 use Rattle.text_names.specs.Bytes.{front}
 use borrow.Author.Needs.{needs}
-use native.Mathlib.Omega.{arith}
 use Rattle.lay_literal.proofs.equality.Statement.{statement}
 use Rattle.lay_literal.proofs.equality.Tie as tie
 

@@ -2,7 +2,6 @@ use Rattle.lay_literal.proofs.Ways.{literal-call, literal-equality}
 use Rattle.lay_literal.specs.Lows.{numbersIn}
 use Rattle.read_names.specs.Tables.{modesFrom}
 use borrow.Author.Needs.{needs}
-use native.Mathlib.Omega.{arith}
 use Rattle.lay_literal.proofs.literal.Statement.{statement}
 use Rattle.lay_literal.proofs.literal.Tie as tie
 

@@ -1,6 +1,5 @@
 use Rattle.lay_literal.proofs.Laid.{lows-one}
 use borrow.Author.Needs.{needs}
-use native.Mathlib.Omega.{arith}
 use Rattle.lay_literal.proofs.number.Statement.{statement}
 use Rattle.lay_literal.proofs.number.Tie as tie
 

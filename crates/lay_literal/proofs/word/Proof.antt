@@ -1,7 +1,6 @@
 use mathlib.Core.Path.{_∙_}
 use Rattle.lay_literal.proofs.Laid.{lows-two}
 use borrow.Author.Needs.{needs}
-use native.Mathlib.Omega.{arith}
 use Rattle.lay_literal.proofs.word.Statement.{statement}
 use Rattle.lay_literal.proofs.word.Tie as tie
 

@@ -1,6 +1,5 @@
 use Rattle.read_clause.proofs.Parted.{clause-in}
 use borrow.Author.Needs.{needs}
-use native.Mathlib.Omega.{arith}
 use Rattle.read_clause.proofs.clause.Statement.{statement}
 use Rattle.read_clause.proofs.clause.Tie as tie
 

@@ -1,8 +1,5 @@
 use mathlib.Core.Path.{_∙_}
 use Rattle.read_clause.proofs.Parted.{clause-gathered}
-use Rattle.read_goal.specs.declared.Span.{Span}
-use borrow.Author.Needs.{needs}
-use native.Mathlib.Omega.{arith}
 use Rattle.read_clause.proofs.gather_clause.Statement.{statement}
 use Rattle.read_clause.proofs.gather_clause.Tie as tie
 

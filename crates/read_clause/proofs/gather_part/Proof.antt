@@ -1,6 +1,4 @@
 use Rattle.read_clause.proofs.Parted.{part-nothing, part-goal, part-body}
-use borrow.Author.Needs.{needs}
-use native.Mathlib.Omega.{arith}
 use Rattle.read_clause.proofs.gather_part.Statement.{statement}
 use Rattle.read_clause.proofs.gather_part.Tie as tie
 

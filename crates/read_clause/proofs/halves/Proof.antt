@@ -1,6 +1,5 @@
 use Rattle.read_clause.proofs.Parted.{no-halves, body-only, both-halves}
 use borrow.Author.Needs.{needs}
-use native.Mathlib.Omega.{arith}
 use Rattle.read_clause.proofs.halves.Statement.{statement}
 use Rattle.read_clause.proofs.halves.Tie as tie
 

@@ -1,6 +1,5 @@
 use Rattle.read_clause.proofs.Parted.{part-none, part-goal, part-body}
 use borrow.Author.Needs.{needs}
-use native.Mathlib.Omega.{arith}
 use Rattle.read_clause.proofs.part.Statement.{statement}
 use Rattle.read_clause.proofs.part.Tie as tie
 

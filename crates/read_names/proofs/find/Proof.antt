@@ -1,4 +1,4 @@
-use mathlib.Core.Path.{_≡_, _∙_, sym, refl}
+use mathlib.Core.Path.{_≡_}
 use Prim.Native.Nat.{_+_, _-_, _≤_}
 use lib.ListN.{drop, take}
 use Rattle.read_names.specs.Tables.{namesAt}

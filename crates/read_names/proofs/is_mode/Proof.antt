@@ -1,7 +1,5 @@
 use Rattle.read_names.proofs.Lined.{not-mode, mode-word}
-use mathlib.Core.Path.{_∙_}
 use borrow.Author.Needs.{needs}
-use native.Mathlib.Omega.{arith}
 use Rattle.read_names.proofs.is_mode.Statement.{statement}
 use Rattle.read_names.proofs.is_mode.Tie as tie
 

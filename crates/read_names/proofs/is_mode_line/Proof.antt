@@ -1,6 +1,5 @@
 use Rattle.read_names.proofs.Lined.{mode-line-is}
 use borrow.Author.Needs.{needs}
-use native.Mathlib.Omega.{arith}
 use Rattle.read_names.proofs.is_mode_line.Statement.{statement}
 use Rattle.read_names.proofs.is_mode_line.Tie as tie
 

@@ -1,6 +1,5 @@
 use Rattle.read_names.proofs.Lined.{mode-line-span}
 use borrow.Author.Needs.{needs}
-use native.Mathlib.Omega.{arith}
 use Rattle.read_names.proofs.mode_line.Statement.{statement}
 use Rattle.read_names.proofs.mode_line.Tie as tie
 

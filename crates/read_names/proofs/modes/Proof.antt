@@ -1,7 +1,6 @@
 use Rattle.read_goal.proofs.Spanned.{no-brackets, in-brackets}
 use Rattle.text_program.specs.Source.{readMode}
 use borrow.Author.Needs.{needs}
-use native.Mathlib.Omega.{arith}
 use Rattle.read_names.proofs.modes.Statement.{statement}
 use Rattle.read_names.proofs.modes.Tie as tie
 

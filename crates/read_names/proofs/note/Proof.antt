@@ -1,6 +1,5 @@
 use Rattle.read_names.proofs.Tabled.{adds-as, adds-none, note-is, note-not}
 use borrow.Author.Needs.{needs}
-use native.Mathlib.Omega.{arith}
 use Rattle.read_names.proofs.note.Statement.{statement}
 use Rattle.read_names.proofs.note.Tie as tie
 

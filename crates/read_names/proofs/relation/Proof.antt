@@ -6,7 +6,7 @@ use Rattle.read_names.specs.Tables.{modesFrom}
 use Rattle.read_names.proofs.Lined.{FindLeft, find-start, find-none, find-one, find-more, lines-fuel, line-more, line-last, line-none, mode-name}
 use Rattle.text_names.specs.Bytes.{front}
 use Rattle.text_names.specs.Names.{Name, sameName}
-use Rattle.text_program.specs.Source.{Got, isModeLine, ModeLine, readModeLine, lines, linesFor}
+use Rattle.text_program.specs.Source.{Got, isModeLine, ModeLine, readModeLine, linesFor}
 use Prim.Native.Nat.{_-_}
 use borrow.Author.Needs.{needs}
 use native.Mathlib.Omega.{arith}
