@@ -57,10 +57,10 @@ abbrev inGoes : Progress → Verdict → Progress
 inGoes d (Refuses k) = d
 inGoes d (Goes k) = k
 
-never : {P : Type 0} (n : ℕ) (next : Progress) → Refuses n ≡ Goes next → P
+pub never : {P : Type 0} (n : ℕ) (next : Progress) → Refuses n ≡ Goes next → P
 never n next e = absurd (let z = ap isGoes e in omega arith)
 
-judged-goes : (g : Progress) (kind : ℕ) (sized known : Bool) (r mark : ℕ) (next : Progress) → judged g kind sized known r mark ≡ Goes next → (sized ≡ true) × (next ≡ progressOf g kind r mark)
+pub judged-goes : (g : Progress) (kind : ℕ) (sized known : Bool) (r mark : ℕ) (next : Progress) → judged g kind sized known r mark ≡ Goes next → (sized ≡ true) × (next ≡ progressOf g kind r mark)
 unfolding judged
 judged-goes g kind sized known r mark next = go (kindFault g kind) (tooMany g kind) sized known (eqb kind 2 && ltb 8 (blockWith g r mark))
   where

@@ -24,7 +24,7 @@ const VARIABLES: usize = 17;
 const MOST_VARIABLES: usize = 16;
 
 // The first test that fails, or what is known behind the record.
-fn verdict(many: bool, right: bool, known: bool, full: bool, next: Progress) -> Verdict
+pub fn verdict(many: bool, right: bool, known: bool, full: bool, next: Progress) -> Verdict
     ensures { λ r. ⌜ r ≡ tested many right known full next ⌝ }
 {
     if many {
