@@ -1,22 +1,22 @@
 -- One turn of the loops over the records of a text.
 use mathlib.Core.Path.{_∙_, _≡_, ap, refl, sym}
-use mathlib.Core.Bool.{_&&_, Bool, cond, false, not, true}
+use mathlib.Core.Bool.{_&&_, Bool, false, not, true}
 use mathlib.Core.List.{[], _∷_, List}
-use Prim.Native.Nat.{_*_, _+_, _-_, _<_, _≤_, suc, zero, ℕ}
-use lib.Dec.{eqb, leb, ltb}
+use Prim.Native.Nat.{_+_, _≤_, ℕ}
+use lib.Dec.{eqb, ltb}
 use lib.ListN.{drop, length}
-use borrow.Author.Tests.{le-ltb, ne-eqb, not-false, not-true}
+use borrow.Author.Tests.{le-ltb, ne-eqb}
 use native.Mathlib.Omega.{arith}
 use Rattle.judge_image.proofs.Named.{record-length}
 use Rattle.judge_image.specs.Judged.{judged, progressOf, taken}
-use Rattle.judge_lines.specs.Whole.{askFrom, goalFrom}
+use Rattle.judge_lines.specs.Whole.{askFrom}
 use Rattle.judge_said.specs.Said.{askRight, askSaid, clauseSaid, clausesSaid, clauseSize}
 use Rattle.judge_text.specs.Tests.{Counted}
 use Rattle.lay_clause.proofs.Fielded.{clause-record}
 use Rattle.lay_clause.specs.Fields.{clauseFields, clauseIn}
 use Rattle.lay_goal.specs.Fits.{goalFits}
 use Rattle.lay_lines.proofs.Sizes.{clause-long}
-use Rattle.lay_lines.specs.Lines.{clauseRight, clausesFrom, withVars}
+use Rattle.lay_lines.specs.Lines.{clauseRight, withVars}
 use Rattle.parlog.specs.Load.{after, blockWith, kindFault, refusal, refuseIf, tooMany}
 use Rattle.parlog.specs.declared.Loaded.{Loaded}
 use Rattle.parlog.specs.declared.Loaded.the-variants.{Accepted, Refused}
@@ -25,7 +25,7 @@ use Rattle.parlog.specs.declared.Verdict.{Verdict}
 use Rattle.parlog.specs.declared.Verdict.the-variants.{Goes, Refuses}
 use Rattle.read_names.specs.Tables.{modesFrom}
 use Rattle.text_names.specs.Names.{Name, sameName}
-use Rattle.text_program.specs.Source.{behindArrow, consGot, got, Got, isClause, lines, linesFor, ModeLine, readBody, readClause, Said, SaidClause}
+use Rattle.text_program.specs.Source.{behindArrow, consGot, got, Got, isClause, lines, ModeLine, readBody, readClause, Said, SaidClause}
 
 -- ---- the goal
 

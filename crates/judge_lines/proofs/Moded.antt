@@ -2,11 +2,11 @@
 use mathlib.Core.Path.{_∙_, _≡_, ap, refl, sym}
 use mathlib.Core.Bool.{_&&_, Bool, cond, false, not, true}
 use mathlib.Core.List.{[], _∷_, List}
-use Prim.Native.Nat.{_*_, _+_, _-_, _<_, _≤_, suc, zero, ℕ}
+use Prim.Native.Nat.{_+_, _<_, _≤_, suc, zero, ℕ}
 use lib.Dec.{eqb, leb, ltb}
 use lib.ListN.{drop, getD, length}
 use lib.Seq.{drop-drop, getD-drop}
-use borrow.Author.Tests.{le-leb, le-ltb, leb-false, leb-true, lt-leb, lt-ltb, ltb-false, ltb-true, ne-eqb}
+use borrow.Author.Tests.{le-leb, le-ltb, leb-false, leb-true, lt-leb, ltb-false, ltb-true, ne-eqb}
 use native.Mathlib.Omega.{arith}
 use Rattle.judge_image.proofs.Named.{record-length}
 use Rattle.judge_image.specs.Judged.{judged, progressOf, relationJudged, relationSized, relationsJudged, taken}
@@ -21,12 +21,12 @@ use Rattle.parlog.specs.declared.Loaded.the-variants.{Refused}
 use Rattle.parlog.specs.declared.Progress.{Progress}
 use Rattle.parlog.specs.declared.Verdict.{Verdict}
 use Rattle.parlog.specs.declared.Verdict.the-variants.{Goes, Refuses}
-use Rattle.read_names.specs.Tables.{modeNames, modesFrom}
+use Rattle.read_names.specs.Tables.{modesFrom}
 use Rattle.text_names.specs.Bytes.{first, next, past}
 use Rattle.text_names.specs.Names.{look, Name}
-use Rattle.text_program.specs.Encoded.{recordBytes, relationBytes}
+use Rattle.text_program.specs.Encoded.{relationBytes}
 use Rattle.text_program.specs.Parsing.{allOf, onceBy, repeated}
-use Rattle.text_program.specs.Source.{behindArrow, bracketsBy, consGot, got, Got, isClause, isModeLine, lines, linesFor, ModeLine, readBody, readBrackets, readClause, readMode, readModeLine, row, rowBy, rowFor}
+use Rattle.text_program.specs.Source.{behindArrow, bracketsBy, consGot, got, Got, isClause, isModeLine, lines, ModeLine, readBody, readBrackets, readClause, readMode, readModeLine, rowBy, rowFor}
 
 -- ---- modes are 0 or 1
 

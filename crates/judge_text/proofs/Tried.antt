@@ -1,16 +1,16 @@
 -- The ways through the tests of a clause.
 use mathlib.Core.Path.{_∙_, _≡_, ap, refl, sym}
-use mathlib.Core.Bool.{_&&_, _||_, Bool, cond, false, not, true}
-use mathlib.Core.List.{[], _∷_, List}
-use Prim.Native.Nat.{_+_, _<_, _≤_, suc, zero, ℕ}
+use mathlib.Core.Bool.{_&&_, Bool, cond, false, not, true}
+use mathlib.Core.List.{[], List}
+use Prim.Native.Nat.{_+_, _≤_, ℕ}
 use lib.Dec.{eqb, leb, ltb}
 use lib.ListN.{drop, length, take}
 use lib.Seq.{length-take-le, take-all}
-use borrow.Author.Tests.{eq-eqb, le-leb, le-ltb, leb-false, leb-true, lt-leb, ne-eqb, ltb-false, not-false, not-true}
+use borrow.Author.Tests.{le-leb, le-ltb, leb-false, leb-true, lt-leb, ne-eqb, ltb-false}
 use native.Mathlib.Omega.{arith}
 use Rattle.judge_image.specs.Judged.{judged, progressOf}
 use Rattle.judge_said.proofs.Sized.{clause-size}
-use Rattle.judge_said.specs.Said.{askRight, clauseSaid, clauseSize}
+use Rattle.judge_said.specs.Said.{askRight, clauseSaid}
 use Rattle.judge_text.specs.Tests.{Counted, kept, Measures, tested}
 use Rattle.lay_clause.proofs.Fielded.{clause-record, measured}
 use Rattle.lay_clause.specs.Fields.{clauseFields, clauseFits, clauseIn}
@@ -23,17 +23,15 @@ use Rattle.judge_image.proofs.Named.{record-length}
 use Rattle.parlog.specs.Load.{blockWith, kindFault, refuseIf, tooMany}
 use Rattle.parlog.specs.Names.{follows}
 use Rattle.parlog.specs.declared.Progress.{Progress}
-use Rattle.parlog.specs.declared.Verdict.{Verdict}
 use Rattle.parlog.specs.declared.Verdict.the-variants.{Goes, Refuses}
 use Rattle.read_clause.specs.Parts.{ClauseIn, partOf}
 use Rattle.read_clause.specs.declared.ClauseAt.{ClauseAt}
-use Rattle.read_goal.specs.Spans.{goalRight, Spans}
+use Rattle.read_goal.specs.Spans.{goalRight}
 use Rattle.read_goal.specs.declared.Span.{Span}
 use Rattle.read_names.proofs.Tabled.{names-length}
 use Rattle.read_names.specs.Tables.{Adds, modeNames, modesFrom, namesAt, sorted}
 use Rattle.text_names.specs.Bytes.{front}
 use Rattle.text_names.specs.Names.{adds, look, Name}
-use Rattle.text_program.specs.Encoded.{recordBytes}
 use Rattle.text_program.specs.Numbered.{clauseTerms, goalTerms, markBy, uppers, variableNames}
 use Rattle.text_program.specs.Source.{ModeLine, readClause, Said, SaidClause}
 

@@ -2,7 +2,7 @@
 use mathlib.Core.Bool.{Bool, not, true}
 use mathlib.Core.Path.{_≡_}
 use mathlib.Core.List.{List}
-use Prim.Native.Nat.{_+_, _≤_, ℕ}
+use Prim.Native.Nat.{_+_, _≤_}
 use Rattle.judge_said.specs.Said.{clauseSize}
 use Rattle.lay_clause.specs.Fields.{clauseFits}
 use Rattle.lay_lines.specs.Lines.{clauseRight}

@@ -1,7 +1,7 @@
 -- One turn of the walks over clauses.
 use mathlib.Core.Path.{_∙_, _≡_, ap, refl, sym}
-use mathlib.Core.Bool.{_&&_, Bool, false, not, true}
-use mathlib.Core.List.{[], _∷_, List}
+use mathlib.Core.Bool.{Bool, false, not, true}
+use mathlib.Core.List.{[], List}
 use Prim.Native.Nat.{ℕ}
 use lib.ListN.{drop}
 use borrow.Author.Tests.{not-false, not-true}

@@ -4,7 +4,6 @@ use Rattle.judge_lines.proofs.Judging.{ask-wrong, ask-lost, ask-taken}
 use Rattle.read_names.specs.Tables.{modesFrom}
 use Rattle.text_program.specs.Source.{readBody}
 use borrow.Author.Needs.{needs}
-use native.Mathlib.Omega.{arith}
 use Rattle.judge_lines.proofs.ask.Statement.{statement}
 use Rattle.judge_lines.proofs.ask.Tie as tie
 

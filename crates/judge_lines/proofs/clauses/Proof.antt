@@ -6,7 +6,7 @@ use Prim.Native.Nat.{_*_, _+_, _-_, _≤_}
 use Rattle.judge_lines.proofs.Judging.{ask-behind, goes-right, said-end, said-first, said-on, said-stop, size-small}
 use Rattle.judge_lines.specs.Whole.{askFrom}
 use Rattle.judge_said.specs.Said.{clausesSaid}
-use Rattle.judge_text.specs.Tests.{Counted, kept}
+use Rattle.judge_text.specs.Tests.{Counted}
 use Rattle.lay_lines.proofs.Lined.{a-clause, no-clause}
 use Rattle.lay_lines.specs.Lines.{clausesFrom}
 use Rattle.read_names.proofs.Lined.{line-last, line-more, line-none, lines-fuel}

@@ -1,8 +1,6 @@
 use mathlib.Core.Path.{refl}
-use Prim.Native.Nat.{_+_}
 use Rattle.judge_text.proofs.Tried.{block-told}
 use borrow.Author.Needs.{needs}
-use native.Mathlib.Omega.{arith}
 use Rattle.judge_text.proofs.block_with.Statement.{statement}
 use Rattle.judge_text.proofs.block_with.Tie as tie
 

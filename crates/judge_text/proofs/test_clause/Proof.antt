@@ -1,4 +1,4 @@
-use mathlib.Core.Path.{_∙_, ap, refl}
+use mathlib.Core.Path.{_∙_, ap}
 use lib.Dec.{leb, ltb}
 use lib.ListN.{drop}
 use Prim.Native.Nat.{_+_}

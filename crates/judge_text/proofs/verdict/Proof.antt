@@ -1,6 +1,4 @@
 use Rattle.judge_text.proofs.Tried.{tested-many, tested-right, tested-known, tested-full, tested-goes}
-use borrow.Author.Needs.{needs}
-use native.Mathlib.Omega.{arith}
 use Rattle.judge_text.proofs.verdict.Statement.{statement}
 use Rattle.judge_text.proofs.verdict.Tie as tie
 

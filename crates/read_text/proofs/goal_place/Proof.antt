@@ -2,9 +2,8 @@ use mathlib.Core.Bool.{false, true}
 use mathlib.Core.Path.{_∙_, _≡_, ap, refl, sym}
 use mathlib.Core.List.{List}
 use lib.ListN.{drop, length}
-use Prim.Native.Nat.{_-_, _≤_}
+use Prim.Native.Nat.{_≤_}
 use Rattle.lay_lines.proofs.Lined.{a-clause, no-clause}
-use Rattle.lay_lines.specs.Lines.{clausesFrom}
 use Rattle.read_names.proofs.Lined.{line-last, line-more, line-none, lines-fuel}
 use Rattle.text_program.specs.Source.{Got, isClause, lines, linesFor, readClause, SaidClause}
 use Rattle.read_text.proofs.Walks.{rest-end}
