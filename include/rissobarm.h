@@ -53,12 +53,12 @@ enum {
 };
 
 /*
- * Bytes of stack that are enough for any call, by the machine code and as tests/header/stack.c measures it. Resume takes the most,
- * since it holds the three rows until they are tested; of the others turn and run do: under 8,000 bytes of their own. Some 3,200
- * more come to that where the C library's memset or memcpy is bound in that very call (measured with AVX-512; not so in the
- * shared library, which binds them as it is loaded).
+ * Bytes of stack that are enough for any call, by the machine code and as tests/header/stack.c measures it. Parse takes the most,
+ * since it holds the places of a text's constants; then resume, which holds the three rows until they are tested; of the others
+ * turn and run do: under 8,000 bytes of their own. Some 3,200 more come to that where the C library's memset or memcpy is bound in
+ * that very call (measured with AVX-512; not so in the shared library, which binds them as it is loaded).
  */
-enum { RISSOBARM_STACK = 32768 };
+enum { RISSOBARM_STACK = 65536 };
 
 /* The three rows of a run; a row that is lent with another length is refused 8. Only the watch takes any length. */
 enum {

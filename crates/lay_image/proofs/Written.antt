@@ -1,7 +1,7 @@
 -- The ways through the writers of an image.
-use mathlib.Core.Path.{_∙_, _≡_, ap, refl, sym}
+use mathlib.Core.Path.{_∙_, _≡_, ap, sym}
 use mathlib.Core.Bool.{_&&_, Bool, false, true}
-use mathlib.Core.List.{[], _++_, _∷_, List}
+use mathlib.Core.List.{[], _++_, List}
 use Prim.Native.Nat.{_≤_, ℕ}
 use lib.Dec.{leb}
 use lib.ListN.{length, take}
@@ -10,7 +10,7 @@ use borrow.Author.Tests.{leb-true}
 use native.Mathlib.Omega.{arith}
 use Rattle.judge_said.specs.Said.{askRight}
 use Rattle.lay_clause.specs.Fields.{askFields}
-use Rattle.lay_image.specs.Imaged.{asking, askWith, imageWith}
+use Rattle.lay_image.specs.Imaged.{askWith, imageWith}
 use Rattle.lay_lines.proofs.Sizes.{ask-long, both}
 use Rattle.lay_lines.specs.Lines.{clausesWith, modesOf}
 use Rattle.lay_literal.proofs.Laid.{lows-append, writes-both}

@@ -1,20 +1,18 @@
 -- One turn of the loops over entries.
 use mathlib.Core.Path.{_∙_, _≡_, ap, refl, sym}
-use mathlib.Core.Bool.{Bool, true}
+use mathlib.Core.Bool.{true}
 use mathlib.Core.List.{[], _++_, _∷_, append-assoc, List}
-use Prim.Native.Nat.{_+_, _<_, _≤_, suc, ℕ}
+use Prim.Native.Nat.{_+_, _<_, _≤_, ℕ}
 use lib.ListN.{drop, drop-of-length-le, getD, length}
 use lib.Seq.{drop-cons}
-use native.Mathlib.Omega.{arith}
 use native.Mathlib.Numerals.{add-one}
 use Rattle.lay_text.proofs.Laws.{left-as, left-end, left-start, left-step}
 use Rattle.lay_text.specs.Laying.{Left, most, Writes}
 use Rattle.lay_text.specs.declared.To.{To}
-use Rattle.read_names.specs.Tables.{modeNames, namesAt}
+use Rattle.read_names.specs.Tables.{namesAt}
 use Rattle.text_names.specs.Bytes.{front}
 use Rattle.text_names.specs.Entries.{entries}
 use Rattle.text_names.specs.Names.{Name}
-use Rattle.text_program.specs.Source.{consGot, got, Got, ModeLine}
 
 entries-cons : (x : Name) (xs : List Name) → entries (x ∷ xs) ≡ (x ++ (10 ∷ [])) ++ entries xs
 unfolding entries

@@ -2,7 +2,7 @@
 use mathlib.Core.Path.{_∙_, _≡_, ap, refl, sym}
 use mathlib.Core.Bool.{_&&_, _||_, Bool, cond, false, not, true}
 use mathlib.Core.List.{[], _++_, _∷_, append-assoc, List}
-use Prim.Native.Nat.{_*_, _+_, _<_, _≤_, suc, zero, ℕ}
+use Prim.Native.Nat.{_<_, _≤_, ℕ}
 use lib.Dec.{leb, ltb}
 use lib.ListN.{drop, length, length-append, take}
 use lib.Seq.{take-all}
@@ -16,12 +16,11 @@ use Rattle.judge_said.proofs.First.{adds-length, lowers-length}
 use Rattle.judge_said.proofs.Told.{numbered-with, records-said}
 use Rattle.judge_said.specs.Said.{askRight, askSaid, clausesSaid}
 use Rattle.lay.proofs.Laws.{laid-start}
-use Rattle.lay.specs.Lay.{laid}
 use Rattle.lay_clause.specs.Fields.{clauseFits}
 use Rattle.lay_goal.specs.Fits.{goalFits, stageFits}
-use Rattle.lay_image.specs.Imaged.{asking, askWith, imageWith}
+use Rattle.lay_image.specs.Imaged.{askWith, imageWith}
 use Rattle.lay_lines.proofs.Sizes.{both}
-use Rattle.lay_lines.specs.Lines.{clauseRight, clausesFrom, clausesWith, modesOf, modesRight}
+use Rattle.lay_lines.specs.Lines.{clauseRight, clausesFrom, modesOf, modesRight}
 use Rattle.lay_literal.proofs.Laid.{writes-both}
 use Rattle.lay_literal.specs.Lows.{literalFits, lows}
 use Rattle.lay_text.proofs.Laws.{capped-in}
@@ -29,9 +28,7 @@ use Rattle.lay_text.specs.Laying.{capped, most, Writes}
 use Rattle.lay_text.specs.declared.To.{To}
 use Rattle.parlog.specs.Load.{after, long, nothingRead, refusal}
 use Rattle.parlog.specs.Tables.{written}
-use Rattle.parlog.specs.declared.Loaded.{Loaded}
 use Rattle.parlog.specs.declared.Loaded.the-variants.{Accepted, Refused}
-use Rattle.parlog.specs.declared.Progress.{Progress}
 use Rattle.parlog.specs.declared.Refusal.{Refusal}
 use Rattle.parse.specs.Says.{constantsIn, Few, fitted, fittedBy, ParseSays, Tells}
 use Rattle.read_names.proofs.Tabled.{adds-then}
@@ -40,13 +37,13 @@ use Rattle.spell.specs.Stuck.{spellingOf}
 use Rattle.spell.specs.declared.Spelt.the-variants.{Right, Stuck}
 use Rattle.text_names.specs.Bytes.{skip}
 use Rattle.text_names.specs.Entries.{entries}
-use Rattle.text_names.specs.Names.{adds, known, Name}
+use Rattle.text_names.specs.Names.{adds, Name}
 use Rattle.text_program.specs.Encoded.{programBytes}
 use Rattle.text_program.specs.Numbered.{clauseTerms, constantNames, goalTerms, joined, lowers, programIn, relationNames}
-use Rattle.text_program.specs.Parsing.{allOf, clauseDeclared, declared, goalDeclared, fitting, imageIn, literalDeclared, namesIn, notLong, ParseCall, parseCall, recordsIn, sourced, tested, unread}
+use Rattle.text_program.specs.Parsing.{allOf, clauseDeclared, declared, goalDeclared, fitting, imageIn, literalDeclared, namesIn, notLong, ParseCall, parseCall, recordsIn, sourced, unread}
 use Rattle.text_program.specs.Source.{behindArrow, calls, equals, isClause, isModeLine, lines, ModeLine, readBody, readClause, readModeLine, Said, SaidClause, Source, sourceOf}
 use Rattle.text_program.specs.declared.Parsed.{Parsed}
-use Rattle.text_program.specs.declared.Parsed.the-variants.{Read, Unread}
+use Rattle.text_program.specs.declared.Parsed.the-variants.{Read}
 use Rattle.text_taken.proofs.Low.{low-image}
 use Rattle.text_taken.proofs.Taken.{ask-taken, clauses-taken, image-long, modes-taken, terms-few}
 use Rattle.judge_said.proofs.Clauses.{goal-few}

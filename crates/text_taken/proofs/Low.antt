@@ -2,14 +2,13 @@
 use mathlib.Core.Path.{_∙_, _≡_, ap, refl, sym}
 use mathlib.Core.Bool.{_&&_, Bool, cond, false, true}
 use mathlib.Core.List.{[], _++_, _∷_, append-assoc, append-nil, List, map}
-use Prim.Native.Nat.{_%_, _*_, _+_, _/_, _<_, _≤_, suc, zero, ℕ}
-use lib.Dec.{eqb, leb, ltb}
+use Prim.Native.Nat.{_%_, _+_, _/_, _<_, _≤_, ℕ}
+use lib.Dec.{leb, ltb}
 use lib.ListN.{length, length-append}
 use borrow.Author.Tests.{leb-true, ltb-true}
 use native.Mathlib.Omega.{arith}
-use Rattle.judge_image.proofs.Named.{record-length}
 use Rattle.judge_image.specs.Judged.{relationSized}
-use Rattle.judge_said.proofs.Clauses.{clause-few, goal-few, lowers-append}
+use Rattle.judge_said.proofs.Clauses.{goal-few, lowers-append}
 use Rattle.judge_said.proofs.First.{terms-okay-in}
 use Rattle.judge_said.proofs.Known.{termOkay}
 use Rattle.judge_said.specs.Said.{askRight}
@@ -17,12 +16,11 @@ use Rattle.lay_clause.proofs.Fielded.{clause-record}
 use Rattle.lay_clause.specs.Fields.{clauseFields, clauseIn}
 use Rattle.lay_image.proofs.Written.{right-parts}
 use Rattle.lay_image.specs.Imaged.{asking, askWith, imageWith}
-use Rattle.lay_lines.proofs.Sizes.{args-length, both, clause-long, goal-long}
+use Rattle.lay_lines.proofs.Sizes.{both, clause-long, goal-long}
 use Rattle.lay_lines.proofs.Sizes as sizes
-use Rattle.lay_lines.specs.Lines.{clauseRight, clausesWith, modesOf, modesRight, withVars}
+use Rattle.lay_lines.specs.Lines.{clauseRight, clausesWith, modesOf, withVars}
 use Rattle.lay_literal.proofs.Laid.{lows-append, map-length}
 use Rattle.lay_literal.specs.Lows.{lows}
-use Rattle.parlog.specs.declared.Term.{Term}
 use Rattle.parlog.specs.declared.Term.the-variants.{Const, Var}
 use Rattle.read_goal.specs.Spans.{goalRight, literalRight, literalsIn, stageRight, stagesRight}
 use Rattle.read_names.specs.Tables.{modeNames}

@@ -1,8 +1,8 @@
 -- A text that passes 4, 5 and 6 is right, and short.
-use mathlib.Core.Path.{_∙_, _≡_, ap, refl, sym}
-use mathlib.Core.Bool.{_&&_, Bool, cond, false, not, true}
+use mathlib.Core.Path.{_∙_, _≡_, ap, refl}
+use mathlib.Core.Bool.{_&&_, Bool, false, not, true}
 use mathlib.Core.List.{[], _++_, _∷_, List}
-use Prim.Native.Nat.{_*_, _+_, _<_, _≤_, suc, zero, ℕ}
+use Prim.Native.Nat.{_*_, _+_, _<_, _≤_, ℕ}
 use lib.Dec.{eqb, leb, ltb}
 use lib.ListN.{length, length-append}
 use borrow.Author.Tests.{le-leb, leb-false, leb-true}
@@ -11,7 +11,7 @@ use Rattle.judge_image.proofs.Named.{record-length}
 use Rattle.judge_image.specs.Judged.{judged, progressOf, relationJudged, relationSized, relationsJudged, taken}
 use Rattle.judge_lines.proofs.Judging.{size-small}
 use Rattle.judge_lines.proofs.Moded.{mode-few, mode-length}
-use Rattle.judge_said.proofs.Clauses.{clause-few, goal-few}
+use Rattle.judge_said.proofs.Clauses.{clause-few}
 use Rattle.judge_said.proofs.Sized.{clause-size}
 use Rattle.judge_said.specs.Said.{askRight, askSaid, clauseSaid, clausesSaid, clauseSize}
 use Rattle.lay_clause.specs.Fields.{clauseIn}
@@ -27,7 +27,7 @@ use Rattle.parlog.specs.declared.Verdict.{Verdict}
 use Rattle.parlog.specs.declared.Verdict.the-variants.{Goes, Refuses}
 use Rattle.read_names.specs.Tables.{modeNames}
 use Rattle.text_names.specs.Names.{look, Name, sameName}
-use Rattle.text_program.specs.Encoded.{askBytes, clauseBytes, goalBytes, recordBytes, relationBytes}
+use Rattle.text_program.specs.Encoded.{askBytes, clauseBytes, goalBytes, relationBytes}
 use Rattle.text_program.specs.Numbered.{clauseTerms, goalNumbered, goalTerms, joined, markBy, variableNames}
 use Rattle.text_program.specs.Parsing.{allOf, onceBy, repeated}
 use Rattle.text_program.specs.Source.{ModeLine, Said, SaidClause}

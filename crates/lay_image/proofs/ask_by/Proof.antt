@@ -4,7 +4,6 @@ use lib.Seq.{length-take-le}
 use Rattle.lay_image.proofs.Written.{ask-short, ask-told}
 use Rattle.lay_literal.specs.Lows.{numbersIn}
 use Rattle.text_program.specs.Source.{readBody}
-use borrow.Author.Needs.{needs}
 use native.Mathlib.Omega.{arith}
 use Rattle.lay_image.proofs.ask_by.Statement.{statement}
 use Rattle.lay_image.proofs.ask_by.Tie as tie

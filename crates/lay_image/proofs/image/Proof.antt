@@ -4,8 +4,6 @@ use Rattle.lay_image.proofs.Written.{image-told}
 use Rattle.lay_lines.specs.Lines.{clausesFrom}
 use Rattle.read_names.specs.Tables.{modesFrom, namesAt}
 use Rattle.text_program.specs.Source.{readBody}
-use borrow.Author.Needs.{needs}
-use native.Mathlib.Omega.{arith}
 use Rattle.lay_image.proofs.image.Statement.{statement}
 use Rattle.lay_image.proofs.image.Tie as tie
 

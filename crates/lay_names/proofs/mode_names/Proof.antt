@@ -1,5 +1,5 @@
 use mathlib.Core.Bool.{true}
-use mathlib.Core.Path.{_∙_, _≡_, ap, refl}
+use mathlib.Core.Path.{ap}
 use mathlib.Core.List.{List}
 use lib.ListN.{drop, length}
 use Prim.Native.Nat.{_-_, _≤_}

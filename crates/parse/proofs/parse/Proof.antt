@@ -1,7 +1,6 @@
 use mathlib.Core.Path.{_∙_, sym}
 use Rattle.parse.proofs.Called.{parse-spelled, parse-stuck, tells}
 use borrow.Author.Needs.{needs}
-use native.Mathlib.Omega.{arith}
 use Rattle.parse.proofs.parse.Statement.{statement}
 use Rattle.parse.proofs.parse.Tie as tie
 

@@ -1,7 +1,6 @@
 use mathlib.Core.Path.{sym}
 use lib.Seq.{length-take-le}
 use borrow.Author.Needs.{needs}
-use native.Mathlib.Omega.{arith}
 use Rattle.parse.proofs.write_by.Statement.{statement}
 use Rattle.parse.proofs.write_by.Tie as tie
 
