@@ -42,10 +42,10 @@ uninstall: ## takes these files out again
 bench: ## measures the archive beside plain and quick C, RUNS times (5); on x86-64 alone
 	@bench/run $(RUNS)
 
-soak: ## drives archive and reference side by side for MINUTES (20), from SEED where one is given
+soak: ## a million texts, then archive and reference side by side for MINUTES (20), from SEED where one is given
 	@tools/soak $(MINUTES) $(SEED)
 
-faults: ## plants faults in a stand-in for the archive: the driver must find each
+faults: ## plants faults in a stand-in for the archive: the driver, or the comparison of texts, must find each
 	@tools/install
 	@tests/faults
 

@@ -14,7 +14,7 @@ void make_arrivals(struct arrivals *arrivals)
     arrivals->slice = LIMIT;
     for (k = 0; k < arrivals->count; k++) {
         arrivals->variable[k] = k;
-        arrivals->value[k] = 1;
+        arrivals->value[k] = 0; /* the first constant of the text */
     }
 }
 

@@ -75,6 +75,18 @@ def load_tables(found):
                      ["Image", "Bytes", "Ratio", "Length", "Archive", "Plain C"], rows)
 
 
+def text_tables(found):
+    """Parse and print, where they were measured."""
+    for what in ("parse", "print"):
+        rows = [[key[1], number(key[3]), spread(lines)] for key, lines in chosen(found, what)]
+        grown = [[key[1], number(key[3]), spread(lines), *multiples(lines)] for key, lines in chosen(found, what + " by size")]
+        if rows:
+            yield from table("%s by sort of text" % what.capitalize(), ["Text", "Bytes", "Ratio"], rows)
+        if grown:
+            yield from table("%s by length of text; times as multiples of those at a sixteenth" % what.capitalize(),
+                             ["Text", "Bytes", "Ratio", "Archive", "Plain C"], grown)
+
+
 def run_table(found):
     yield from table("Run of a whole plan", ["Plan", "Bytes", "Rows at the end", "Ratio", "To quick C"],
                      [[key[1], number(key[3]), str(key[2]), spread(lines), spread(lines, "to_quick")]
@@ -155,6 +167,7 @@ def tables(found):
     yield "Of %d runs: the median, in brackets the least and the greatest." % max(map(len, found.values()))
     yield ""
     yield from load_tables(found)
+    yield from text_tables(found)
     yield from run_table(found)
     yield from traced_table(found)
     yield from woken_table(found)
@@ -167,7 +180,8 @@ def tables(found):
     yield from report_table(found)
 
 
-TARGETS = {"load": 1.2, "run": 1.6, "traced run": 1.2, "step": 2.0, "report": 2.0, "call without a step": 2.0, "supply": 2.0}
+TARGETS = {"load": 1.2, "run": 1.6, "traced run": 1.2, "step": 2.0, "report": 2.0, "call without a step": 2.0, "supply": 2.0,
+           "parse": 2.0, "print": 2.0}
 WILD = ("wild goal", 1.5)  # the images of a load that have a target of their own
 
 
@@ -209,7 +223,7 @@ def over(found, what):
     """The cases over a target: plans and images by name, the others by image size, with the fewest and the most rows."""
     told = []
     cases = [(key, lines, middle(lines) > target_of(what, key[1])) for key, lines in chosen(found, what)]
-    if what in ("load", "run", "traced run"):
+    if what in ("load", "run", "traced run", "parse", "print"):
         return ["%s %.2f" % (key[1], middle(lines)) for key, lines, missed in cases if missed]
     for size in sorted({key[3] for key, _, _ in cases}):
         here = [(key[2], missed) for key, _, missed in cases if key[3] == size]

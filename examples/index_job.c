@@ -1,13 +1,13 @@
 /*
  * An index job: runs a plan whose records are fetched, normalised and placed, while their values still arrive.
  *
- *   index_job IMAGE RECORDS [SLICE [SAVED [TRACE]]] <ARRIVALS
+ *   index_job IMAGE NAMES RECORDS [SLICE [SAVED [TRACE]]] <ARRIVALS
  *
- * IMAGE is a file (build one with plan.c), RECORDS how many records its goal places, SLICE how many turns are made before
- * arrivals are looked for again (default 50). The goal's variables stand as index.plan says: for record r, from 1 on,
+ * IMAGE and NAMES are files (compile.c makes them of a text), RECORDS how many records its goal places, SLICE how many turns are
+ * made before arrivals are looked for again (default 50). The goal's variables stand as index.plan says: for record r, from 1 on,
  * 3(r - 1) is the place that is free before it, the next one its key, the one after that its place. An arrival is a line
  *
- *   RECORD FIELD VALUE [STEPS]            FIELD is free, key or place; # begins a comment
+ *   RECORD FIELD VALUE [STEPS]            FIELD is free, key or place, VALUE a name of the list or a number; # begins a comment
  *
  * and comes in when that many steps are made (0 without the number), or earlier when the run waits: then nothing else
  * can happen. Lines come in as they stand, one read ahead.
@@ -32,7 +32,8 @@
 
 enum { SUCCEEDED = 0, FAILED = 1, WAITS = 2, NO_ROOM = 3, REFUSED = 4, NO_GOOD = 5 };
 enum { FREE = 0, KEY = 1, PLACE = 2, FIELDS = 3 };
-enum { MOST_RECORDS = 5, LAST_RECORD = 9999, LINE_ROOM = 200, PATH_ROOM = 4096, SLICE = 50, SLICE_LIMIT = 1000000 };
+enum { MOST_RECORDS = 5, LAST_RECORD = 9999, SLICE = 50, SLICE_LIMIT = 1000000 };
+enum { NAMES_ROOM = 65536, LINE_ROOM = 200, PATH_ROOM = 4096 };
 enum { TAKEN_SIZE = 4 }; /* bytes before the run in its file: how many arrivals came before */
 enum { TRACE_STEPS = 1000, TRACE_ROOM = TRACE_STEPS * RISSOBARM_TRACE_RECORD_SIZE };
 
@@ -42,6 +43,9 @@ static const char *const field_names[FIELDS] = { "free", "key", "place" };
 struct job {
     uint8_t image[RISSOBARM_IMAGE_LIMIT + 1];
     size_t length;
+    char names[NAMES_ROOM]; /* relations, then constants, each with the end of its line */
+    size_t names_length;
+    unsigned relations;
     struct rissobarm_plan run;
     unsigned records;
     unsigned slice;
@@ -57,7 +61,8 @@ struct job {
 /* A value from outside; there is none when it is not pending. */
 struct arrival {
     int pending;
-    unsigned record, field, value;
+    unsigned record, field;
+    char value[LINE_ROOM];
     unsigned steps; /* not before so many */
 };
 
@@ -87,6 +92,48 @@ static unsigned record_of(const struct job *job, unsigned process)
     return row[RISSOBARM_ROW_LITERAL] + 1u;
 }
 
+/* ---- names of constants ---- */
+
+/* The name with a number in the list, as far as its line goes; NULL where the list ends before. */
+static const char *name_at(const struct job *job, unsigned number, int *length)
+{
+    const char *at = job->names, *end = job->names + job->names_length, *stop;
+
+    for (number += job->relations; (stop = (const char *)memchr(at, '\n', (size_t)(end - at))) != NULL; number--) {
+        *length = (int)(stop - at);
+        if (number == 0)
+            return at;
+        at = stop + 1;
+    }
+    return NULL;
+}
+
+/* The constant of a name, or the number that the digits say; one over the highest constant where it is neither. */
+static unsigned constant_of(const struct job *job, const char *name)
+{
+    unsigned number;
+    const char *known;
+    int length;
+
+    if (name[0] >= '0' && name[0] <= '9')
+        return (unsigned)strtoul(name, NULL, 10);
+    for (number = 0; (known = name_at(job, number, &length)) != NULL; number++)
+        if (strlen(name) == (size_t)length && memcmp(name, known, strlen(name)) == 0)
+            return number;
+    return RISSOBARM_CONSTANT_LIMIT + 1;
+}
+
+static void print_constant(const struct job *job, unsigned number)
+{
+    int length;
+    const char *name = name_at(job, number, &length);
+
+    if (name == NULL)
+        printf("%u", number);
+    else
+        printf("%.*s", length, name);
+}
+
 /* ---- what is told ---- */
 
 /* Tells each place that has come out since the last look: one call gives the values of all goal variables. */
@@ -105,7 +152,9 @@ static void tell_places(struct job *job)
         if (job->placed[r] || variable >= count || rissobarm_sort_at(values, variable) != RISSOBARM_SORT_CONSTANT)
             continue;
         job->placed[r] = 1;
-        printf("step %u: record %u has place %u\n", steps_made(job), r + 1, (unsigned)rissobarm_number_at(values, variable));
+        printf("step %u: record %u has place ", steps_made(job), r + 1);
+        print_constant(job, (unsigned)rissobarm_number_at(values, variable));
+        printf("\n");
     }
 }
 
@@ -345,7 +394,7 @@ static void look_ahead(struct arrival *next)
         if (line[strspn(line, " \t\r\n")] == '\0' || line[0] == '#')
             continue;
         next->steps = 0;
-        got = sscanf(line, "%9u %199s %9u %9u %1s", &next->record, field, &next->value, &next->steps, rest);
+        got = sscanf(line, "%9u %199s %199s %9u %1s", &next->record, field, next->value, &next->steps, rest);
         next->field = got >= 3 ? field_of(field) : (unsigned)FIELDS;
         if (got > 4 || next->field == FIELDS || next->record < 1 || next->record > LAST_RECORD)
             printf("not an arrival: %s", line);
@@ -359,9 +408,9 @@ static void deliver(struct job *job, struct arrival *next)
 {
     uint8_t bound[RISSOBARM_BOUND_SIZE];
     unsigned variable = FIELDS * (next->record - 1) + next->field;
-    uint64_t answer = supply(job, variable, next->value, bound, sizeof bound);
+    uint64_t answer = supply(job, variable, constant_of(job, next->value), bound, sizeof bound);
 
-    printf("step %u: %s of record %u arrives as %u\n", steps_made(job), field_names[next->field], next->record,
+    printf("step %u: %s of record %u arrives as %s\n", steps_made(job), field_names[next->field], next->record,
            next->value);
     if (rissobarm_refusal(answer) == RISSOBARM_ACCEPTED)
         tell_woken(job, bound, 0);
@@ -449,7 +498,7 @@ static int after_slice(struct job *job, struct arrival *next, unsigned end)
 
 static int work(struct job *job)
 {
-    struct arrival next = { 0, 0, 0, 0, 0 };
+    struct arrival next = { 0, 0, 0, "", 0 };
     uint64_t answer;
     int how = -1;
 
@@ -491,43 +540,51 @@ static int ended(struct job *job, int how)
     return how;
 }
 
-/* Reads the image, one byte past the limit at most: that is enough to have it refused as LONG. */
-static int read_image(struct job *job, const char *path)
+/* Reads a file up to a room. */
+static int read_file(const char *path, void *bytes, size_t room, size_t *length)
 {
     FILE *file = fopen(path, "rb");
 
     if (file == NULL)
         return 0;
-    job->length = fread(job->image, 1, sizeof job->image, file);
+    *length = fread(bytes, 1, room, file);
     return fclose(file) == 0;
+}
+
+/* Tests the image, of which one byte past the limit was read at most: that is enough to have it refused as LONG. */
+static int load(struct job *job)
+{
+    uint64_t answer = rissobarm_load(job->image, job->length);
+
+    if (rissobarm_refusal(answer) != RISSOBARM_ACCEPTED) {
+        say_refusal("load", answer);
+        return 0;
+    }
+    job->relations = rissobarm_relations(answer);
+    printf("plan: %u relations, %u clauses\n", job->relations, rissobarm_clauses(answer));
+    return 1;
 }
 
 int main(int count, char **words)
 {
     static struct job job;
-    uint64_t answer;
 
-    if (count < 3 || count > 6 || !read_image(&job, words[1])) {
-        fprintf(stderr, "index_job IMAGE RECORDS [SLICE [SAVED [TRACE]]] <ARRIVALS\n");
+    if (count < 4 || count > 7 || !read_file(words[1], job.image, sizeof job.image, &job.length) ||
+        !read_file(words[2], job.names, sizeof job.names, &job.names_length)) {
+        fprintf(stderr, "index_job IMAGE NAMES RECORDS [SLICE [SAVED [TRACE]]] <ARRIVALS\n");
         return NO_GOOD;
     }
-    job.records = (unsigned)strtoul(words[2], NULL, 10);
-    job.slice = count >= 4 ? (unsigned)strtoul(words[3], NULL, 10) : (unsigned)SLICE;
-    job.saved = count >= 5 && strcmp(words[4], "-") != 0 ? words[4] : NULL;
-    job.trace = count >= 6 ? fopen(words[5], "w+b") : NULL;
-    if (count >= 6 && job.trace == NULL) {
-        fprintf(stderr, "index_job: %s cannot be written\n", words[5]);
+    job.records = (unsigned)strtoul(words[3], NULL, 10);
+    job.slice = count >= 5 ? (unsigned)strtoul(words[4], NULL, 10) : (unsigned)SLICE;
+    job.saved = count >= 6 && strcmp(words[5], "-") != 0 ? words[5] : NULL;
+    job.trace = count >= 7 ? fopen(words[6], "w+b") : NULL;
+    if (count >= 7 && job.trace == NULL) {
+        fprintf(stderr, "index_job: %s cannot be written\n", words[6]);
         return NO_GOOD;
     }
     if (job.records < 1 || job.records > MOST_RECORDS || job.slice < 1 || job.slice > SLICE_LIMIT) {
         fprintf(stderr, "index_job: 1 to %d records, slices of 1 to %d steps\n", MOST_RECORDS, SLICE_LIMIT);
         return NO_GOOD;
     }
-    answer = rissobarm_load(job.image, job.length);
-    if (rissobarm_refusal(answer) != RISSOBARM_ACCEPTED) {
-        say_refusal("load", answer);
-        return REFUSED;
-    }
-    printf("plan: %u relations, %u clauses\n", rissobarm_relations(answer), rissobarm_clauses(answer));
-    return ended(&job, work(&job));
+    return load(&job) ? ended(&job, work(&job)) : (int)REFUSED;
 }

@@ -6,15 +6,36 @@ LIMIT = 65535  # of one run call
 ENDS = {1: 'success', 2: 'failure', 3: 'waiting', 4: 'room', 5: 'budget'}
 ROWS = (10, 12288, 4096)  # bytes of head, processes and variables
 VALUES, BOUND, SAVED = 64, 10, 22546  # bytes for the values of all goal variables, a list of variables bound, a saved run
+IMAGE = 12798  # bytes of the longest image that a text becomes
 LIBRARY = ctypes.CDLL('librissobarm.so.1')
 
 
 class Refused(Exception):
-    """A refused call: its number, and for 1 to 7 the offset of the record."""
+    """A refused call: its number, for 1 to 7 the offset of the record, and for 16 that in the text."""
 
     def __init__(self, word):
         self.number, self.offset = word & 255, word >> 32
         super().__init__('refused %d at %d' % (self.number, self.offset))
+
+
+def called(name, *lent):
+    """The word of a call that is lent these rows and their lengths, and numbers."""
+    function = getattr(LIBRARY, 'rissobarm_' + name)
+    function.restype = ctypes.c_uint64
+    word = function(*lent)
+    if word & 255:
+        raise Refused(word)
+    return word
+
+
+def parse(text):
+    """The image of a PARLOG text, and the names of its relations and of its constants, by number."""
+    rows = ctypes.create_string_buffer(IMAGE), ctypes.create_string_buffer(len(text) + 1)
+    size = ctypes.c_size_t
+    word = called('parse', rows[0], size(IMAGE), rows[1], size(len(text)), text, size(len(text)))
+    image, names = rows[0].raw[:word >> 8 & 65535], rows[1].raw[:word >> 32].decode().splitlines()
+    relations = called('load', image, size(len(image))) >> 8 & 255
+    return image, names[:relations], names[relations:]
 
 
 class Plan:
@@ -40,12 +61,7 @@ class Plan:
         """A call by its name; row is what it is lent behind the tables, and its length."""
         if not all(0 <= number < 2 ** 32 for number in numbers):
             raise ValueError('not a number of 32 bits: ctypes would cut it, and another one be taken')
-        function = getattr(LIBRARY, 'rissobarm_' + name)
-        function.restype = ctypes.c_uint64
-        word = function(*self.lent, *row, *map(ctypes.c_uint32, numbers))
-        if word & 255:
-            raise Refused(word)
-        return word
+        return called(name, *self.lent, *row, *map(ctypes.c_uint32, numbers))
 
     def run(self, limit):
         """Makes turns: how it ended, and how many were made. A call takes 16 bits of limit, so there may be several."""

@@ -53,12 +53,12 @@ enum {
 };
 
 /*
- * Bytes of stack that are enough for any call, by the machine code and as tests/header/stack.c measures it. Resume takes the most,
- * since it holds the three rows until they are tested; of the others turn and run do: under 8,000 bytes of their own. Some 3,200
- * more come to that where the C library's memset or memcpy is bound in that very call (measured with AVX-512; not so in the
- * shared library, which binds them as it is loaded).
+ * Bytes of stack that are enough for any call, by the machine code and as tests/header/stack.c measures it. Parse takes the most,
+ * since it holds the places of a text's constants; then resume, which holds the three rows until they are tested; of the others
+ * turn and run do: under 8,000 bytes of their own. Some 3,200 more come to that where the C library's memset or memcpy is bound in
+ * that very call (measured with AVX-512; not so in the shared library, which binds them as it is loaded).
  */
-enum { RISSOBARM_STACK = 32768 };
+enum { RISSOBARM_STACK = 65536 };
 
 /* The three rows of a run; a row that is lent with another length is refused 8. Only the watch takes any length. */
 enum {
@@ -78,6 +78,9 @@ enum {
     RISSOBARM_BOUND_SIZE = 2 + 2 * RISSOBARM_ARITY_LIMIT,                 /* of a list of variables bound */
     RISSOBARM_SAVED_SIZE = 22546                                          /* of a saved run */
 };
+
+/* Bytes of the longest image that is accepted; a text becomes no longer one. */
+enum { RISSOBARM_TEXT_IMAGE = 12798 };
 
 /* ---- images, saved runs and traces ---- */
 
@@ -226,10 +229,12 @@ enum {
     RISSOBARM_BOUND = 13,   /* the value of that variable is a constant already */
     RISSOBARM_CONST = 14,   /* the value supplied is above RISSOBARM_CONSTANT_LIMIT */
     RISSOBARM_FOREIGN = 15, /* the saved run is one of an image with another length */
+    RISSOBARM_TEXT = 16,    /* no text could go on so */
+    RISSOBARM_UNDECLARED = 17, /* a relation has no mode line, or a name in use is not in the list */
     RISSOBARM_OLDRULE = 18, /* the saved run is one of another rule */
     RISSOBARM_GAP = 19,     /* a record's stamp does not follow that of the record before */
     RISSOBARM_DISAGREES = 20, /* what a record of a trace tells cannot be done, or is another rule */
-    RISSOBARM_REFUSAL_COUNT = 20 /* the highest; 16 and 17 are not given */
+    RISSOBARM_REFUSAL_COUNT = 20 /* the highest */
 };
 
 /* ---- rules: what a step did ---- */
@@ -536,6 +541,49 @@ uint64_t rissobarm_replay(const uint8_t *image, size_t image_len, uint8_t *head,
 
 /* The records that an accepted replay played. */
 static inline uint32_t rissobarm_played(uint64_t answer)
+{
+    return (uint32_t)(answer >> 32);
+}
+
+/* ---- text ---- */
+
+/*
+ * PARLOG text: a line `mode p(?,^).` for each relation, then clauses like `p(a,X) <- q : r, X = b & s.`, then the goal, like
+ * `<- p(a,Y).` A clause that ends in `;` ends its block. Names are letters, digits and `_`; those in lower case are relations or
+ * constants, those in upper case variables. A list of names has one name and a byte 10 for each relation, by number, and then for
+ * each constant.
+ */
+
+/*
+ * Makes an image and its list of names out of a text. Accepted: the image's length in bits 8-23, that of the names in bits 32-63.
+ * Refused: 16 with the offset of the first byte of the text with which none could go on, its length where it ends too early; 17
+ * for a relation without mode line; 4, 5 or 6 with the offset that the refused line's record would have in the image; 11. An image
+ * row of RISSOBARM_TEXT_IMAGE bytes is always long enough, and so is a names row as long as the text.
+ */
+uint64_t rissobarm_parse(uint8_t *image, size_t image_len, uint8_t *names, size_t names_len, const uint8_t *text,
+                         size_t text_len);
+
+/* The length of the image that an accepted parse has made. */
+static inline unsigned rissobarm_parsed_image(uint64_t answer)
+{
+    return (unsigned)(answer >> 8 & 65535);
+}
+
+/* The length of the names that an accepted parse has made. */
+static inline uint32_t rissobarm_parsed_names(uint64_t answer)
+{
+    return (uint32_t)(answer >> 32);
+}
+
+/*
+ * Writes an image with its list of names as text, one line for each record. Accepted: the text's length in bits 32-63. Refused: 1 to
+ * 7; 17 where the list lacks a lower-case name for a relation or for a constant in use; 11.
+ */
+uint64_t rissobarm_print(const uint8_t *image, size_t image_len, const uint8_t *names, size_t names_len, uint8_t *text,
+                         size_t text_len);
+
+/* The length of the text that an accepted print has made. */
+static inline uint32_t rissobarm_printed(uint64_t answer)
 {
     return (uint32_t)(answer >> 32);
 }

@@ -48,7 +48,8 @@ static inline const char *rissobarm_refusal_text(unsigned refusal)
         "BOUND: its value is a constant already",
         "CONST: the value supplied is over 32,767",
         "FOREIGN: the saved run is one of an image with another length",
-        "unknown", "unknown",
+        "TEXT: no text could go on so",
+        "UNDECLARED: a relation has no mode line, or the list lacks a name in use",
         "OLDRULE: the saved run is one of another rule",
         "GAP: a record's stamp does not follow that of the record before",
         "DISAGREES: what a record of a trace tells cannot be done, or is another rule"

@@ -36,7 +36,7 @@ def ended(job):
     if job.returncode == -signal.SIGKILL:
         return None
     with open(SAVED, 'rb') as file:
-        return job.returncode, sorted(re.findall(r'record \d+ has place \d+', told)), file.read()
+        return job.returncode, sorted(re.findall(r'record \d+ has place \w+', told)), file.read()
 
 
 def alone(slice_, arrivals):

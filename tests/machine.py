@@ -18,7 +18,8 @@ TITLES = {'Image': 'The image', 'Refusals': 'The refusal numbers', 'Tables': "A 
           'Turns': 'Turn order and supplies'}
 SENTENCE = re.compile(r'(?ms)^- \*\*(\w+) (\d+[a-z]?)\*\* (.*?\.)((?:\s+`[^`]+`,?)*)\s*?(?=\n\n|\n- |\Z)')
 LATER = {('Tags', '42')}  # sentences of these sections that were ordered after the document
-DEFINING = ['parlog', 'values', 'unify', 'bound_row', 'bound', 'saved', 'resume', 'words', 'trace', 'replay', 'traced', 'run_traced']
+DEFINING = ['parlog', 'values', 'unify', 'bound_row', 'bound', 'saved', 'resume', 'spell', 'text_names', 'text_program', 'words', 'text_words', 'trace', 'replay', 'traced', 'run_traced']
+KEYWORDS = ['pub', 'abbrev', 'unfoldable']
 WIDTH = 160
 
 
@@ -58,7 +59,7 @@ def name_of(line):
     if head:
         return [head.group(1)]
     cases = re.match(r'  ([a-z][^\s:]*(?: [a-z][^\s:]*)*) : ', line)
-    return [name for name in cases.group(1).split() if name != 'pub'] if cases else []
+    return [name for name in cases.group(1).split() if name not in KEYWORDS] if cases else []
 
 
 def comments(path):

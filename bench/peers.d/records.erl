@@ -17,7 +17,7 @@ fetch(Next) -> receive Source -> Next ! fetched(Source) end.
 normalise(Next) -> receive Form -> Next ! normalised(Form) end.
 place(Shelf, Index) -> receive 20 -> Index ! {placed, Shelf} end.
 
-fetched(1) -> 11;
+fetched(0) -> 11;
 fetched(2) -> 12.
 
 normalised(11) -> 20;

@@ -16,7 +16,7 @@ record(S, K, P) :-
     freeze(A, normalise(A, B)),
     freeze(B, place(B, S, P)).
 
-fetch(1, 11).
+fetch(0, 11).
 fetch(2, 12).
 
 normalise(11, 20).

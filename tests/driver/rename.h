@@ -17,6 +17,8 @@
 #define reference_run_traced rissobarm_run_traced
 #define reference_replay rissobarm_replay
 #define reference_resume rissobarm_resume
+#define reference_parse rissobarm_parse
+#define reference_print rissobarm_print
 
 #define ref_load standin_load
 #define ref_block_count standin_block_count
@@ -44,3 +46,5 @@
 #define ref_supply standin_supply
 #define ref_end standin_end
 #define ref_move_answer standin_move_answer
+#define ref_take_apart standin_take_apart
+#define ref_is_lower_name standin_is_lower_name

@@ -5,6 +5,7 @@
 #define _XOPEN_SOURCE 700
 #include "images.h"
 #include "longrun.h"
+#include "texts.h"
 
 #include <stdio.h>
 #include <string.h>
@@ -13,13 +14,14 @@
 enum { STACK_ROOM = 262144, PAINT = 0xA5, IMAGES = 20, LARGE_RUN = 5000 };
 enum deed {
     NOTHING, LOAD, START, STEP, TURN, RUN, SUPPLY, VALUE, WATCH, VALUES, STEP_BOUND, TURN_BOUND, SUPPLY_BOUND, SAVE, RESUME,
-    STEP_TRACED, SUPPLY_TRACED, RUN_TRACED, REPLAY, DEEDS
+    STEP_TRACED, SUPPLY_TRACED, RUN_TRACED, REPLAY, PRINT, PARSE, DEEDS
 };
 
 static const char *const names[DEEDS] = { "nothing", "load",   "start", "step",  "turn",
                                           "run",     "supply", "value", "watch", "values",
                                           "step with a list",  "turn with a list", "supply with a list", "save", "resume",
-                                          "step with a trace", "supply with a trace", "run with a trace",  "replay" };
+                                          "step with a trace", "supply with a trace", "run with a trace",  "replay",
+                                          "print",   "parse" };
 
 static uint8_t stack[STACK_ROOM];
 static ucontext_t here, there;
@@ -28,6 +30,8 @@ static struct image image;
 static enum deed next;
 static uint64_t answer;
 static uint8_t further[LARGE_RUN * RISSOBARM_TRACE_RECORD_SIZE];
+static struct text text;
+static struct list list, listed;
 static size_t most[DEEDS];
 
 static uint32_t last_stepped(void)
@@ -60,6 +64,12 @@ static void make(void)
     case SUPPLY_TRACED: answer = rissobarm_supply_traced(LENT, FURTHER, 0, 1, 0); break;
     case RUN_TRACED: answer = rissobarm_run_traced(LENT, FURTHER, LARGE_RUN, 0); break;
     case REPLAY: answer = rissobarm_replay(LENT, further, RISSOBARM_TRACE_RECORD_SIZE * (size_t)rissobarm_steps(answer)); break;
+    case PRINT:
+        answer = rissobarm_print(image.bytes, image.length, list.bytes, list.length, text.bytes, sizeof text.bytes);
+        break;
+    case PARSE:
+        answer = rissobarm_parse(further, sizeof further, listed.bytes, sizeof listed.bytes, text.bytes, text.length);
+        break;
     default: break;
     }
 }
@@ -101,6 +111,18 @@ static void measure_all(void)
     measure(SUPPLY);
 }
 
+/* The image as text, with a constant for each number that it has, and back. */
+static void measure_text(struct random *random)
+{
+    struct naming naming = { 0, 0 };
+
+    naming.salt = random_bits(random);
+    list_names(&list, &naming, image_relations(&image), image_renumber(&image));
+    measure(PRINT);
+    text.length = rissobarm_printed(answer);
+    measure(PARSE);
+}
+
 /* A whole run of one of the largest images: turn by turn, then from the start by one run call. */
 static void measure_image(struct random *random)
 {
@@ -118,6 +140,7 @@ static void measure_image(struct random *random)
     measure(RUN_TRACED);
     rissobarm_plan_start(&plan, image.bytes, image.length);
     measure(REPLAY); /* of the run before */
+    measure_text(random);
 }
 
 int main(void)

@@ -45,6 +45,8 @@ enum refusal {
     REFUSED_BOUND = 13,
     REFUSED_CONST = 14,
     REFUSED_FOREIGN = 15,
+    REFUSED_TEXT = 16,
+    REFUSED_UNDECLARED = 17,
     REFUSED_OLDRULE = 18,
     REFUSED_GAP = 19,
     REFUSED_DISAGREES = 20
@@ -279,6 +281,12 @@ static inline uint64_t ref_refused(unsigned refusal, size_t offset)
 static inline uint64_t ref_accepted(unsigned bits8, unsigned bits16, uint32_t bits32)
 {
     return (uint64_t)bits8 << 8 | (uint64_t)bits16 << 16 | (uint64_t)bits32 << 32;
+}
+
+/* A length or an offset in 32 bits; what they cannot hold is told as the highest number. */
+static inline uint32_t ref_told(size_t number)
+{
+    return number > UINT32_MAX ? UINT32_MAX : (uint32_t)number;
 }
 
 #endif

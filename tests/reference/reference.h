@@ -93,4 +93,15 @@ uint64_t reference_replay(const uint8_t *image, size_t image_len, uint8_t *head,
 /* Refuses nothing: 1 in bits 8-15 when some row is suspended, the lowest such number in bits 32-63. */
 uint64_t reference_watch(const uint8_t *procs, size_t procs_len);
 
+/*
+ * PARLOG text to an image and its names, one a line: relations by number, then constants. Accepted: the image's length in bits 8-23, that
+ * of the names in bits 32-63. Refused: 16 with the offset in the text; 17; 4, 5 or 6 with the offset in the image; 11.
+ */
+uint64_t reference_parse(uint8_t *image, size_t image_len, uint8_t *names, size_t names_len, const uint8_t *text,
+                         size_t text_len);
+
+/* An image with its names as PARLOG text. Accepted: its length in bits 32-63. Refused: 1 to 7, 17, 11. */
+uint64_t reference_print(const uint8_t *image, size_t image_len, const uint8_t *names, size_t names_len, uint8_t *text,
+                         size_t text_len);
+
 #endif

@@ -8,7 +8,7 @@ use lib.ListN.{length}
 use native.Mathlib.Omega.{arith}
 use Rattle.bound.specs.Calls.{RowCall, RowSays, stepBoundCall, stepTells, supplyBoundCall, supplyTells, tellBy, tellIn, turnBoundCall}
 use Rattle.bound_row.specs.Row.{boundBytes}
-use Rattle.capi.specs.Tells.{ReplayTells, ResumeTells, RowTells, RunTells, SaveTells, StartTells, StepTells, SupplyTells, Tells, TurnTells, ValuesTells, ValueTells, WatchTells}
+use Rattle.capi.specs.Tells.{ParseTells, PrintTells, ReplayTells, ResumeTells, RowTells, RunTells, SaveTells, StartTells, StepTells, SupplyTells, Tells, TurnTells, ValuesTells, ValueTells, WatchTells}
 use Rattle.load.specs.Fields.{refusalOf}
 use Rattle.machine.specs.Starting.{StartSays}
 use Rattle.machine.specs.Supplying.{SupplySays}
@@ -29,6 +29,8 @@ use Rattle.parlog.specs.declared.Stepped.the-variants.{Moved, Unmoved}
 use Rattle.parlog.specs.declared.Supplied.{Supplied}
 use Rattle.parlog.specs.declared.Supplied.the-variants.{Given, Ungiven}
 use Rattle.parlog.specs.declared.Valued.{Valued}
+use Rattle.parse.specs.Says.{ParseSays}
+use Rattle.print.specs.Says.{PrintSays}
 use Rattle.replay.specs.Replay.{replayNumbers, ReplaySays}
 use Rattle.replay.specs.declared.Replayed.{Replayed}
 use Rattle.resume.specs.Says.{ResumeSays, SaveSays}
@@ -37,6 +39,10 @@ use Rattle.resume.specs.declared.Saved.{Saved}
 use Rattle.rows.proofs.Tables.{procs-length}
 use Rattle.run.specs.Running.{RunSays, TurnSays}
 use Rattle.step.specs.Stepping.{StepSays}
+use Rattle.text_program.specs.declared.Parsed.{Parsed}
+use Rattle.text_program.specs.declared.Printed.{Printed}
+use Rattle.text_words.proofs.Laws.{parse-fits}
+use Rattle.text_words.specs.Numbers.{ParseFits, parseNumbers, printNumbers}
 use Rattle.values.specs.Values.{valuesNumbers, ValuesSays}
 use Rattle.values.specs.declared.Gathered.{Gathered}
 use Rattle.words.proofs.Fitting.{run-fits, start-fits, step-fits, supply-fits, turn-fits, value-fits, values-fits, watch-reached}
@@ -168,3 +174,15 @@ resume-tells lim s l x t k = tells-of (t .answer) resumeNumbers (t .head) (t .pr
 
 pub replay-tells : (lim : Limits) (s : List ℕ) (l : Lent) (trace : List ℕ) {a : Replayed} {h p v : List ℕ} → ReplaySays lim s l trace a h p v → {w : ℕ} → w ≡ word (replayNumbers a) → ReplayTells lim s l trace w h p v
 replay-tells lim s l trace t k = tells-of (t .answer) replayNumbers (t .head) (t .procs) (t .vars) k
+
+-- ---- clause text
+
+pub print-tells : (image names text : List ℕ) {a : Printed} {text′ : List ℕ} → PrintSays image names text a text′ → {w : ℕ} → w ≡ word (printNumbers a) → PrintTells image names text w text′
+print-tells image names text t k = record { answer = word-of (t .answers) printNumbers k; text-is = t .leaves }
+
+module _ (image names text : List ℕ) {a : Parsed} {image′ names′ : List ℕ} (told : ParseSays image names text a image′ names′) where
+  pub parse-fit : ParseFits a
+  parse-fit = fits-of (told .answers) ParseFits (parse-fits image names text)
+
+  pub parse-tells : {w : ℕ} → w ≡ word (parseNumbers a) → ParseTells image names text w image′ names′
+  parse-tells k = record { answer = word-of (told .answers) parseNumbers k; image-is = told .imaged; names-is = told .named }

@@ -2,7 +2,7 @@
 use mathlib.Core.Path.{_∙_, _≡_, sym}
 use mathlib.Core.List.{List}
 use Prim.Native.Nat.{ℕ}
-use Rattle.capi.specs.Tells.{RowTells, RunTells, StartTells, StepTells, SupplyTells, Tells, TurnTells, ValuesTells, ValueTells, WatchTells}
+use Rattle.capi.specs.Tells.{ParseTells, PrintTells, RowTells, RunTells, StartTells, StepTells, SupplyTells, Tells, TurnTells, ValuesTells, ValueTells, WatchTells}
 use Rattle.parlog.specs.Limits.{Limits}
 use Rattle.parlog.specs.Load.{loadOf}
 use Rattle.parlog.specs.Numbers.{loadNumbers, Numbers, word}
@@ -47,3 +47,11 @@ watch-once p r q a b = a ∙ sym b
 pub rows-once : (n : Numbers) (l : Lent) (row : List ℕ) {r q : ℕ} {h p v w h′ p′ v′ w′ : List ℕ} → RowTells n l row r h p v w → RowTells n l row q h′ p′ v′ w′
     → (r ≡ q) × (h ≡ h′) × (p ≡ p′) × (v ≡ v′) × (w ≡ w′)
 rows-once n l row a b = (a .answer ∙ sym (b .answer), a .head ∙ sym (b .head), a .procs ∙ sym (b .procs), a .vars ∙ sym (b .vars), a .row ∙ sym (b .row))
+
+-- ---- clause text
+
+pub print-once : (image names text : List ℕ) {r q : ℕ} {a b : List ℕ} → PrintTells image names text r a → PrintTells image names text q b → (r ≡ q) × (a ≡ b)
+print-once image names text x y = (x .answer ∙ sym (y .answer), x .text-is ∙ sym (y .text-is))
+
+pub parse-once : (image names text : List ℕ) {r q : ℕ} {a b c d : List ℕ} → ParseTells image names text r a b → ParseTells image names text q c d → (r ≡ q) × (a ≡ c) × (b ≡ d)
+parse-once image names text x y = (x .answer ∙ sym (y .answer), x .image-is ∙ sym (y .image-is), x .names-is ∙ sym (y .names-is))

@@ -13,6 +13,9 @@ use Rattle.parlog.specs.Tables.{Lent, procsOf, rowSize}
 use Rattle.replay.specs.Replay.{replayCall, replayNumbers}
 use Rattle.resume.specs.Calls.{resumeCall, saveCall}
 use Rattle.run_traced.specs.Traced.{runTracedCall}
+use Rattle.text_program.specs.Parsing.{parseCall}
+use Rattle.text_program.specs.Printing.{printCall}
+use Rattle.text_words.specs.Numbers.{parseNumbers, printNumbers}
 use Rattle.traced.specs.Traced.{stepTracedCall, supplyTracedCall}
 use Rattle.values.specs.Values.{valuesCall, valuesNumbers}
 use Rattle.words.specs.Fits.{reached}
@@ -120,3 +123,16 @@ ResumeTells lim s l x r h p v = Tells (resumeNumbers (resumeCall lim s l x .answ
 -- Traces 6, 7: of a replay of a trace, which is lent to read only
 abbrev pub ReplayTells : Limits → List ℕ → Lent → List ℕ → ℕ → List ℕ → List ℕ → List ℕ → Type 0
 ReplayTells lim s l trace r h p v = Tells (replayNumbers (replayCall lim s l trace .answer)) (replayCall lim s l trace .lent) r h p v
+
+-- ---- clause text
+
+-- Text 27, 28: of a print: the word, and the row afterwards; image and names are lent to read only
+pub record PrintTells (image names text : List ℕ) (r : ℕ) (text′ : List ℕ) : Type 0 where
+  pub answer : r ≡ word (printNumbers (printCall text image names .answer))
+  pub text-is : text′ ≡ printCall text image names .text
+
+-- Text 20, 21: of a parse: the word, and both rows afterwards; the text is lent to read only
+pub record ParseTells (image names text : List ℕ) (r : ℕ) (image′ names′ : List ℕ) : Type 0 where
+  pub answer : r ≡ word (parseNumbers (parseCall image names text .answer))
+  pub image-is : image′ ≡ parseCall image names text .image
+  pub names-is : names′ ≡ parseCall image names text .names

@@ -1,6 +1,6 @@
 // What a C program calls: numbers and byte rows alone. Each answer is one word.
 use parlog::Loaded;
-ghost use Rattle.capi.specs.Tells.{LoadTells, ReplayTells, ResumeTells, RunTells, RunTracedTells, SaveTells, StartTells, StepBoundTells, StepTells, StepTracedTells, SupplyBoundTells, SupplyTells, SupplyTracedTells, TurnBoundTells, TurnTells, ValuesTells, ValueTells, WatchTells};
+ghost use Rattle.capi.specs.Tells.{LoadTells, ParseTells, PrintTells, ReplayTells, ResumeTells, RunTells, RunTracedTells, SaveTells, StartTells, StepBoundTells, StepTells, StepTracedTells, SupplyBoundTells, SupplyTells, SupplyTracedTells, TurnBoundTells, TurnTells, ValuesTells, ValueTells, WatchTells};
 ghost use Rattle.parlog.specs.Limits.{small};
 ghost use Rattle.parlog.specs.Tables.{lent};
 
@@ -281,4 +281,24 @@ pub extern "C" fn rissobarm_replay(
 {
     let a = replay::replay(image, head, procs, vars, trace);
     replay::replay_word(a)
+}
+
+// ---- clause text
+
+// Writes the text of an image to the front of a row, with the names of a list.
+#[no_mangle]
+pub extern "C" fn rissobarm_print(image: &[u8], names: &[u8], text: &mut [u8]) -> u64
+    ensures { λ r. ⌜ PrintTells (now (image .entry)) (now (names .entry)) (now (text .entry)) r (now (text .exit)) ⌝ }
+{
+    let a = print::print(image, names, text);
+    text_words::print_word(a)
+}
+
+// Makes an image and its list of names out of a text, each at the front of its row.
+#[no_mangle]
+pub extern "C" fn rissobarm_parse(image: &mut [u8], names: &mut [u8], text: &[u8]) -> u64
+    ensures { λ r. ⌜ ParseTells (now (image .entry)) (now (names .entry)) (now (text .entry)) r (now (image .exit)) (now (names .exit)) ⌝ }
+{
+    let a = parse::parse(image, names, text);
+    text_words::parse_word(a)
 }

@@ -26,4 +26,6 @@ pub mod Bound
 pub mod BoundSupply
 pub mod Traces
 pub mod Recorded
+pub mod Texts
+pub mod TextsBack
 pub mod Computed

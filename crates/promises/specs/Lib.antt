@@ -8,3 +8,4 @@ pub mod BoundCases
 pub mod Replays
 pub mod Traces
 pub mod TraceCases
+pub mod Texts

@@ -1,0 +1,5 @@
+pub mod Sized
+pub mod Known
+pub mod First
+pub mod Clauses
+pub mod Told

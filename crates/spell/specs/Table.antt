@@ -1,0 +1,23 @@
+-- The run over the tables, as the code makes it.
+use mathlib.Core.List.{[], _∷_, List}
+use Prim.Native.Nat.{_*_, _+_, suc, zero, ℕ}
+use lib.Dec.{eqb}
+use lib.ListN.{getD}
+use Rattle.spell.specs.Rows.{kindCount, kinds, lastState, rows}
+use Rattle.spell.specs.Stuck.{ended}
+use Rattle.spell.specs.declared.Spelt.{Spelt}
+use Rattle.spell.specs.declared.Spelt.the-variants.{Stuck}
+
+-- the state that follows state q at byte b
+unfoldable pub follows : ℕ → ℕ → ℕ
+follows q b = getD rows (q * kindCount + getD kinds b 0) 0
+
+-- state 0 is none: the byte at place i is the one
+abbrev pub moves : (ℕ → ℕ → Spelt) → ℕ → ℕ → Spelt
+moves f zero i = Stuck i
+moves f (suc q) i = f (suc q) (i + 1)
+
+-- the run from state q, at place i
+unfoldable pub run : List ℕ → ℕ → ℕ → Spelt
+run [] q i = ended (eqb q lastState) i
+run (b ∷ s) q i = moves (run s) (follows q b) i

@@ -1,0 +1,2 @@
+-- The laws of these words.
+pub mod Laws

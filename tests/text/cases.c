@@ -1,0 +1,239 @@
+/* Texts and what becomes of them, case by case: the answer, and of what is accepted every byte, forth and back. */
+#include "reference.h"
+
+#include <inttypes.h>
+#include <stdio.h>
+#include <string.h>
+
+enum { ROOM = 16384, BODY = 4, NAME = 5, MANY = 6, NO_ROOM = 11, TEXT = 16, UNDECLARED = 17, UNTOUCHED = 0xA5 };
+
+static uint8_t image[ROOM], names[ROOM], text[ROOM];
+static unsigned passed, failed;
+
+static void judge(int right, const char *what, uint64_t answer)
+{
+    if (right) {
+        passed++;
+        return;
+    }
+    failed++;
+    printf("wrong: %s\n  answers %016" PRIx64 "\n", what, answer);
+}
+
+static int untouched(const uint8_t *row, size_t from)
+{
+    while (from < ROOM && row[from] == UNTOUCHED)
+        from++;
+    return from == ROOM;
+}
+
+static uint64_t parse_into(const char *words, size_t image_room, size_t names_room)
+{
+    memset(image, UNTOUCHED, sizeof image);
+    memset(names, UNTOUCHED, sizeof names);
+    return reference_parse(image, image_room, names, names_room, (const uint8_t *)words, strlen(words));
+}
+
+static void refused_in(const char *words, size_t image_room, size_t names_room, unsigned refusal, uint64_t offset)
+{
+    uint64_t answer = parse_into(words, image_room, names_room);
+
+    judge(answer == (refusal | offset << 32) && untouched(image, 0) && untouched(names, 0), words, answer);
+}
+
+static void refused(const char *words, unsigned refusal, uint64_t offset)
+{
+    refused_in(words, ROOM, ROOM, refusal, offset);
+}
+
+static void print_back(const char *wanted, size_t image_len, size_t names_len)
+{
+    uint64_t answer;
+
+    memset(text, UNTOUCHED, sizeof text);
+    answer = reference_print(image, image_len, names, names_len, text, strlen(wanted));
+    judge(answer == (uint64_t)strlen(wanted) << 32 && memcmp(text, wanted, strlen(wanted)) == 0 &&
+              untouched(text, strlen(wanted)),
+          wanted, answer);
+    memset(text, UNTOUCHED, sizeof text);
+    answer = reference_print(image, image_len, names, names_len, text, strlen(wanted) - 1);
+    judge(answer == NO_ROOM && untouched(text, 0), wanted, answer);
+}
+
+/* A text, its image and names; then how it is written. One byte less of either row is 11. */
+static void accepted(const char *words, const uint8_t *bytes, size_t length, const char *listed, const char *written)
+{
+    uint64_t answer = parse_into(words, length, strlen(listed));
+
+    judge(answer == ((uint64_t)length << 8 | (uint64_t)strlen(listed) << 32) && memcmp(image, bytes, length) == 0 &&
+              memcmp(names, listed, strlen(listed)) == 0 && untouched(image, length) && untouched(names, strlen(listed)),
+          words, answer);
+    refused_in(words, length - 1, strlen(listed), NO_ROOM, 0);
+    if (listed[0] != '\0')
+        refused_in(words, length, strlen(listed) - 1, NO_ROOM, 0);
+    parse_into(words, length, strlen(listed));
+    print_back(written, length, strlen(listed));
+}
+
+/* ---- what is accepted ---- */
+
+static const uint8_t s_five[] = { 6, 0,  1, 0, 1, 1, 12, 0, 2, 0, 0, 1, 0, 0,   0,
+                                  0, 0,  0, 11, 0, 3, 0, 1, 1, 1, 0, 1, 0, 0x80 };
+static const uint8_t nothing[] = { 6, 0, 3, 0, 0, 0 };
+static const uint8_t named_mode[] = { 5, 0, 1, 0, 0, 10, 0, 2, 0, 0, 0, 0, 0, 0, 0, 9, 0, 3, 0, 0, 1, 1, 0, 0 };
+/* mode p(?,^). mode q. mode r. mode s. p(a,A) <- q : r, A = b & s; p(X,Y) <- q : . p(c,c). <- a = A & r. */
+static const uint8_t sides[] = {
+    7,  0, 1, 0, 2, 0, 1,                                                          /* mode p(?,^). */
+    5,  0, 1, 0, 0, 5, 0, 1, 0, 0, 5, 0, 1, 0, 0,                                  /* mode q. mode r. mode s. */
+    29, 0, 2, 0, 0, 2, 0, 1, 0, 0, 0, 0x80,                                        /* p(a,A) <- */
+    1,  1, 1, 0, 2, 2, 2, 0, 255, 2, 0, 0x80, 1, 0, 1, 3, 0,                       /* q : r, A = b & s; */
+    17, 0, 2, 0, 0, 2, 1, 2, 0, 0x80, 1, 0x80, 1, 1, 1, 0, 0,                      /* p(X,Y) <- q : . */
+    14, 0, 2, 0, 0, 2, 0, 0, 2, 0, 2, 0, 0, 0,                                     /* p(c,c). */
+    16, 0, 3, 0, 1, 2, 1, 255, 2, 0, 0, 0, 0x80, 1, 2, 0                           /* <- a = A & r. */
+};
+
+static void what_is_accepted(void)
+{
+    accepted("mode s(^).\ns(five).\n<- s(A).\n", s_five, sizeof s_five, "s\nfive\n", "mode s(^).\ns(five).\n<- s(A).\n");
+    accepted("mode s(^).s(five).<-s(A_9z).", s_five, sizeof s_five, "s\nfive\n", "mode s(^).\ns(five).\n<- s(A).\n");
+    accepted("\r\n\tmode s ( ^ ) . s ( five ) ;<- s ( Zz ) . \t", s_five, sizeof s_five, "s\nfive\n",
+             "mode s(^).\ns(five).\n<- s(A).\n");
+    accepted("<-.", nothing, sizeof nothing, "", "<- .\n");
+    accepted("mode mode. mode. <- mode.", named_mode, sizeof named_mode, "mode\n", "mode mode.\nmode.\n<- mode.\n");
+    accepted("mode p(?,^). mode q. mode r. mode s. p(a,A)<-q:r,A=b&s;p(X,Y)<-q:.p(c,c).<-a=A&r.", sides, sizeof sides,
+             "p\nq\nr\ns\na\nb\nc\n",
+             "mode p(?,^).\nmode q.\nmode r.\nmode s.\np(a,A) <- q : r, A = b & s;\np(A,B) <- q : .\np(c,c).\n"
+             "<- a = A & r.\n");
+}
+
+/* ---- what is refused: the form ---- */
+
+static void form_is_refused(void)
+{
+    refused("mode p.\np <- .", TEXT, 13);
+    refused("mode p.\np < q.", TEXT, 11);
+    refused("mode p.\np.\nmode q.", TEXT, 16);
+    refused("mode p.\n<- p", TEXT, 12);
+    refused("", TEXT, 0);
+    refused("mode p. p <- : q.", TEXT, 13);
+    refused("mode p. <- p;", TEXT, 12);
+    refused("mode p. <- p : p.", TEXT, 13);
+    refused("mode p. <- p. p.", TEXT, 14);
+    refused("mode p(). <- p.", TEXT, 7);
+    refused("mode p(?,). <- p.", TEXT, 9);
+    refused("mode P. <- .", TEXT, 5);
+    refused("mode p <- .", TEXT, 7);
+    refused("mode p. p(). <- p.", TEXT, 10);
+    refused("mode p. P. <- p.", TEXT, 8);
+    refused("mode p. <- P.", TEXT, 12);
+    refused("mode p. <- P(a).", TEXT, 12);
+    refused("mode p. <- p(a) = b.", TEXT, 16);
+    refused("mode p. <- 5 = 5.", TEXT, 11);
+    refused("mode p. <- _x = p.", TEXT, 11);
+    refused("mode p. % a comment", TEXT, 8);
+    refused("mode p. p <- q : r : s.", TEXT, 19);
+    refused("mode p. p = q.", TEXT, 10);
+    refused("<- a = b,.", TEXT, 9);
+    refused("<- a = b & & c = d.", TEXT, 11);
+    refused("<- a == b.", TEXT, 6);
+    refused("mo de p.", TEXT, 3);
+    refused("<- . x", TEXT, 5);
+    refused("\xC3\xA4.", TEXT, 0);
+}
+
+/* ---- what is refused: the meaning ---- */
+
+/* Lines one behind the other, numbered names among them. */
+static void repeat(char *all, const char *line, unsigned count)
+{
+    unsigned k;
+
+    for (k = 0; k < count; k++)
+        sprintf(all + strlen(all), line, k);
+}
+
+static void limits_are_refused(void)
+{
+    static char all[ROOM];
+
+    strcpy(all, "");
+    repeat(all, "mode p%u. ", 33);
+    strcat(all, "<- .");
+    refused(all, MANY, 160);
+    strcpy(all, "mode p. ");
+    repeat(all, "p; ", 65);
+    strcat(all, "<- .");
+    refused(all, MANY, 645);
+    strcpy(all, "mode p. ");
+    repeat(all, "p. ", 9);
+    strcat(all, "<- .");
+    refused(all, MANY, 85);
+    strcpy(all, "mode p. p <- p");
+    repeat(all, ", p", 8);
+    strcat(all, ". <- .");
+    refused(all, BODY, 5);
+    strcpy(all, "<- V = W");
+    repeat(all, " & V = W", 8);
+    strcat(all, ".");
+    refused(all, BODY, 0);
+    strcpy(all, "mode p(?,?,?). <- p(A,B,C), p(D,E,F), p(G,H,I), p(J,K,L), p(M,N,O), p(P,Q,R).");
+    refused(all, BODY, 8);
+}
+
+static void meaning_is_refused(void)
+{
+    refused("<- p.", UNDECLARED, 0);
+    refused("mode p. q. <- p.", UNDECLARED, 0);
+    refused("mode p. p <- q : p. <- p.", UNDECLARED, 0);
+    refused("mode p(?,?,?,?,?). <- q.", UNDECLARED, 0);
+    refused("mode p. <- q", TEXT, 12);
+    refused("mode p(?).\n<- p.", NAME, 6);
+    refused("mode p. mode q. mode p. <- .", NAME, 10);
+    refused("mode p(?,^,?,^,?). <- .", BODY, 0);
+    refused("mode p. mode p(?,^,?,^,?). <- .", BODY, 5);
+    refused("mode p. p(a). <- .", NAME, 5);
+    refused("mode p. p(a,b,c,d,e). <- .", BODY, 5);
+    refused("mode p. mode q. q. p. <- .", NAME, 20);
+    refused("mode p. mode q. p; q; q; p. <- .", NAME, 40);
+    refused("mode p. <- p(a,b,c,d,e).", BODY, 5);
+    limits_are_refused();
+}
+
+/* ---- printing: names that are lacking ---- */
+
+static void lacks(const char *listed, uint64_t wanted)
+{
+    uint64_t answer;
+
+    memset(text, UNTOUCHED, sizeof text);
+    answer = reference_print(s_five, sizeof s_five, (const uint8_t *)listed, strlen(listed), text, ROOM);
+    judge(answer == wanted && (wanted != UNDECLARED || untouched(text, 0)), listed, answer);
+}
+
+static void names_are_lacking(void)
+{
+    lacks("s\nfive\n", (uint64_t)29 << 32);
+    lacks("s\nfive\nrest", (uint64_t)29 << 32);
+    lacks("mode\nmode\n!\n\n", (uint64_t)38 << 32);
+    lacks("s\nfive", UNDECLARED);
+    lacks("s\nFive\n", UNDECLARED);
+    lacks("S\nfive\n", UNDECLARED);
+    lacks("s\n\n", UNDECLARED);
+    lacks("s\nfi ve\n", UNDECLARED);
+    lacks("5\nfive\n", UNDECLARED);
+    lacks("", UNDECLARED);
+}
+
+int main(void)
+{
+    uint64_t answer;
+
+    what_is_accepted();
+    form_is_refused();
+    meaning_is_refused();
+    names_are_lacking();
+    answer = reference_print(s_five, sizeof s_five - 1, names, 0, text, ROOM);
+    judge(answer == ((uint64_t)18 << 32 | 2), "a cut image", answer);
+    printf("text: %u cases right, %u wrong\n", passed, failed);
+    return failed == 0 ? 0 : 1;
+}
