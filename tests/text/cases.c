@@ -160,6 +160,10 @@ static void limits_are_refused(void)
     repeat(all, "mode p%u. ", 33);
     strcat(all, "<- .");
     refused(all, MANY, 160);
+    strcpy(all, "");
+    repeat(all, "mode p%u. ", 32);
+    strcat(all, "mode p0. <- .");
+    refused(all, MANY, 160);
     strcpy(all, "mode p. ");
     repeat(all, "p; ", 65);
     strcat(all, "<- .");
