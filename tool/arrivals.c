@@ -114,7 +114,7 @@ static void no_more(struct arrivals *a)
     a->file = NULL;
 }
 
-/* The next line without its end; one that is too long or has a byte 0 comes as `?`, which is no arrival, unless it is a comment. */
+/* The next line without its end; one that is too long or has a byte 0, and is no comment, comes as `?`, which is no arrival. */
 static int get_line(struct arrivals *a, char *line)
 {
     size_t length = 0;

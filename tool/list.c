@@ -220,7 +220,8 @@ static int test(struct plan *plan, int marked)
         quit(NO_FILE, "no memory is left");
     count = names_in(plan, names);
     right = count >= 0 && (!marked || take_mark(plan, names, &count)) && enough(plan, count) &&
-            all_differ(plan, names, plan->relations) && all_differ(plan, names + plan->relations, (size_t)count - plan->relations);
+            all_differ(plan, names, plan->relations) &&
+            all_differ(plan, names + plan->relations, (size_t)count - plan->relations);
     free(names);
     return right;
 }

@@ -13,7 +13,7 @@ void list_mark(struct plan *plan);
 /* Tests the names of an accepted image; 0 where they are no list, or one that lacks a name in use. list_wrong tells why. */
 int list_test(struct plan *plan);
 
-/* The same for the file at this path, whose mark must be that of the image and is cut off. A list without one was made by hand. */
+/* The same for a list at this path: its mark must be the image's, and is cut off. One without a mark was made by hand. */
 int list_take(struct plan *plan, const char *path);
 
 #endif

@@ -78,10 +78,11 @@ static void take_word(struct options *o, const char *word)
 /* Whether an option stands in a line of options. */
 static int is_among(const char *options, const char *word)
 {
+    const char *at = options;
     size_t length = strlen(word);
 
-    for (; (options = strstr(options, word)) != NULL; options += length)
-        if (options[length] == ' ' || options[length] == '\0')
+    for (; (at = strstr(at, word)) != NULL; at += length)
+        if ((at == options || at[-1] == ' ') && (at[length] == ' ' || at[length] == '\0'))
             return 1;
     return 0;
 }
@@ -98,7 +99,7 @@ static void refuse_shared(const struct known *known)
                 quit(USAGE, "%s and %s: %s cannot be both", known->name, other->name, *known->file);
 }
 
-/* A file of the command that would be written over: its own plan or trace. A saved run may be, by the one that it goes on to. */
+/* A plan, image or trace that would be written over. A saved run may be, by the one that it goes on to. */
 static void refuse_lost(const struct options *o, const char *command)
 {
     const char *const written[] = { o->out, o->trace, strcmp(command, "run") == 0 ? o->save : NULL,

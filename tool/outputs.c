@@ -100,7 +100,8 @@ static int hold(const char *beside, mode_t mode)
         if (file < 0)
             return -1;
         fcntl(file, F_SETLKW, &whole);
-        if (fstat(file, &held) != 0 || (lstat(beside, &named) == 0 && held.st_dev == named.st_dev && held.st_ino == named.st_ino))
+        if (fstat(file, &held) != 0 ||
+            (lstat(beside, &named) == 0 && held.st_dev == named.st_dev && held.st_ino == named.st_ino))
             return file;
         close(file);
     }

@@ -73,7 +73,8 @@ static unsigned end_now(const struct session *session)
 
 /*
  * Whether a trace begins where the run stands, by the stamp of its first record. A saved run knows its stamp, so that a trace
- * of other moves is refused, even one that could be played. On a plan a trace of another program may begin at any: that is told.
+ * of other moves is refused, even one that could be played. On a plan a trace of another program may begin at any stamp:
+ * that is told.
  */
 static void test_stamp(const struct session *session, const struct bytes *trace, const char *path)
 {
@@ -82,8 +83,8 @@ static void test_stamp(const struct session *session, const struct bytes *trace,
     if (first == session->stamp)
         return;
     if (session->run_is_saved)
-        quit(TRACE_REFUSED, "%s: record 1 has the stamp %s, and the saved run goes on with %s: the trace did not begin there", path,
-             grouped(first), grouped(session->stamp));
+        quit(TRACE_REFUSED, "%s: record 1 has the stamp %s, and the saved run goes on with %s: the trace did not begin there",
+             path, grouped(first), grouped(session->stamp));
     warn("%s: record 1 has the stamp %s, not 0: where the tool records, that is no start of a plan", path, grouped(first));
 }
 

@@ -8,7 +8,7 @@
 #include <stddef.h>
 #include <stdint.h>
 
-/* With what the tool ends. docs/PLANS.md, the manual and the help have this table. */
+/* With what the tool ends. The manual and the help have this table. */
 enum status {
     DONE = 0,          /* done; of a run: the goal has succeeded */
     FAILED = 1,        /* the goal has failed */

@@ -158,7 +158,8 @@ static void take_saved(struct session *session, struct bytes *file, const char *
     stamp = take_part(file, &at, "stamp", path);
     saved = take_part(file, &at, "run", path);
     if (at != file->length)
-        quit(RUN_REFUSED, "%s: no saved run: %s behind the part `run`", path, counted(file->length - at, "byte stands", "bytes stand"));
+        quit(RUN_REFUSED, "%s: no saved run: %s behind the part `run`", path,
+             counted(file->length - at, "byte stands", "bytes stand"));
     session->run_is_saved = 1;
     session->plan.is_text = session->plan.text.length > 0;
     session->stamp = stamp_of(&stamp, path);

@@ -16,7 +16,7 @@ import time
 
 ROOT = os.path.dirname(os.path.dirname(os.path.dirname(os.path.abspath(__file__))))
 PROGRAM, MOMENTS = map(os.path.abspath, sys.argv[1:3])
-BESIDE, PAGE, KILLS, CALLS_MOST = '.rissobarm-new', 4096, 12, 60
+BESIDE, PAGE, KILLS, CALLS_MOST, CALLS_THAT_MATTER, PATIENCE = '.rissobarm-new', 4096, 12, 60, 5, 20
 # two plans with as many names and with images of one length: without a mark, either list goes with either image
 OLD = 'mode page(?,^).\npage(a, b).\npage(a, c).\npage(d, c).\n<- page(Key, Page).\n'
 NEW = 'mode leaf(?,^).\nleaf(k, l).\nleaf(m, l).\nleaf(n, k).\n<- leaf(Key, Page).\n'
@@ -171,17 +171,17 @@ def killed(command):
     wrong(command, 'never comes to an end')
 
 
-def failed(command, moments):
-    """A call that fails is told, and nothing is left beside; only behind a rename a file may be new. Calls that do not matter are passed over."""
-    told = 0
-    for moment in range(1, moments + 1):
+def failed(command):
+    """A call that fails is told, and nothing is left beside; only behind a rename a file may be new. Open, truncate, write, sync and rename of each file must not fail."""
+    told = CALLS_THAT_MATTER * len(command.files)
+    for moment in range(1, told + 2):
         status, said = at_call(command, moment, 'fail')
-        state = taken(command)
+        state, last = taken(command), moment > told
         if left_beside():
             wrong(command, 'failing at call %d, it leaves a file beside' % moment)
-        if status == 10 and said in ['rissobarm: %s: not written: No space left on device\n' % path for path in command.files] and state < len(command.files):
-            told += 1
-        elif status != command.status or said or state != len(command.files):
+        if last and (status != command.status or said or state != len(command.files)):
+            wrong(command, 'has more calls than it should')
+        if not last and (status != 10 or said not in ['rissobarm: %s: not written: No space left on device\n' % path for path in command.files] or state == len(command.files)):
             wrong(command, 'failing at call %d, it ends with %d and says: %s' % (moment, status, said))
     return told
 
@@ -296,8 +296,29 @@ def spoken():
             sys.exit('whole: %s does not tell that its output is past a limit' % words)
 
 
+def left_over(command):
+    """What a tool that was killed has left, longer than the file that comes: nothing of it is in the new one."""
+    command.reset()
+    for path in command.files:
+        write(path + BESIDE, bytes(10 * PAGE))
+    if run(command.words)[0] != command.status or command.state() != len(command.files) or left_beside():
+        wrong(command, 'does not use what was left beside as it should')
+
+
+def one_waits():
+    """A tool that writes a file waits for another that does, wherever that one is: both end well, and the later one has the file."""
+    for moment in range(2, 6):
+        first = subprocess.Popen([MOMENTS, 'compile', 'old.plan', '-o', 'both.image'], env=dict(os.environ, MOMENT=str(moment), FATE='pause'))
+        began = time.time()
+        while not left_beside() and first.poll() is None and time.time() - began < PATIENCE:
+            time.sleep(0.002)
+        if run('compile new.plan -o both.image'.split()) != (0, '') or first.wait() != 0 or read('both.image') != read('new.image') or left_beside():
+            sys.exit('whole: of two tools that write one file, one does not wait for the other at call %d' % moment)
+        os.remove('both.image')
+
+
 def at_once():
-    """Several tools that write one file: each waits for the one before, and the file is one of theirs."""
+    """Several tools that write one file: each ends well, and the file is one of theirs."""
     texts = {}
     for k in range(6):
         plan = 'many%d.plan' % k
@@ -320,12 +341,14 @@ def main():
         moments = between = told = count = 0
         for command in commands():
             made, some = killed(command)
-            moments, between, told, count = moments + made, between + some, told + failed(command, made), count + 1
+            moments, between, told, count = moments + made, between + some, told + failed(command), count + 1
             stopped(command, made)
+            left_over(command)
             by_chance(command)
             limited(command)
             on_full_device(command)
         spoken()
+        one_waits()
         at_once()
         os.chdir('/')
     full = small_disk()
