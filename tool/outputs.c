@@ -15,7 +15,7 @@
 
 static const char suffix[] = ".rissobarm-new";
 
-enum { NEW_MODE = 0666, MODE_BITS = 0777 };
+enum { NEW_MODE = 0666, MODE_BITS = 0777, TRIES_MOST = 1000 };
 
 /* A file on its way: where it goes, links followed, and the file beside that place. */
 struct place {
@@ -90,12 +90,12 @@ static int hold(const char *beside, mode_t mode)
 {
     struct stat held, named;
     struct flock whole;
-    int file;
+    int file, tries;
 
     memset(&whole, 0, sizeof whole);
     whole.l_type = F_WRLCK;
     whole.l_whence = SEEK_SET;
-    for (;;) {
+    for (tries = 0; tries < TRIES_MOST; tries++) {
         file = open(beside, O_RDWR | O_CREAT | O_NOFOLLOW, mode);
         if (file < 0)
             return -1;
@@ -105,6 +105,8 @@ static int hold(const char *beside, mode_t mode)
             return file;
         close(file);
     }
+    errno = EBUSY;
+    return -1;
 }
 
 static char *joined(const char *path, const char *end)
