@@ -158,9 +158,12 @@ static void write_beside(const struct output *output)
     if (place->file < 0)
         give_up(place->path);
     refuse_twice(place);
+    /* before the bytes: what was left beside may be open to more readers than the file that stood there */
+    if (stood)
+        fchmod(place->file, mode);
     if (ftruncate(place->file, 0) != 0 || !write_all(place->file, output->bytes) || fsync(place->file) != 0)
         give_up(place->path);
-    if (stood)
+    if (stood && mode != (old.st_mode & MODE_BITS))
         fchmod(place->file, old.st_mode & MODE_BITS);
 }
 
