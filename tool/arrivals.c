@@ -9,6 +9,8 @@
 #include <poll.h>
 #include <string.h>
 
+enum { LINE_MOST = 2 * ARRIVAL_ROOM };
+
 /* ---- one value ---- */
 
 /* Supplies a variable by name; what is wrong with it stands in why. */
@@ -65,9 +67,7 @@ void arrivals_open(struct arrivals *arrivals, const struct options *options)
     arrivals->path = options->arrivals;
     if (options->arrivals == NULL)
         return;
-    arrivals->file = strcmp(options->arrivals, "-") == 0 ? stdin : fopen(options->arrivals, "r");
-    if (arrivals->file == NULL)
-        quit(NO_FILE, "%s: %s", options->arrivals, strerror(errno));
+    arrivals->file = file_open(options->arrivals);
     /* so that what has come in can be asked for */
     setvbuf(arrivals->file, NULL, _IONBF, 0);
 }
@@ -114,18 +114,35 @@ static void no_more(struct arrivals *a)
     a->file = NULL;
 }
 
+/* The next line without its end; one that is too long or has a byte 0, and is no comment, comes as `?`, which is no arrival. */
+static int get_line(struct arrivals *a, char *line)
+{
+    size_t length = 0;
+    int byte, odd = 0;
+
+    while ((byte = fgetc(a->file)) != EOF && byte != '\n') {
+        odd |= byte == 0 || length == LINE_MOST;
+        line[length] = (char)byte;
+        length += length < LINE_MOST;
+    }
+    line[length] = '\0';
+    if (odd && line[strspn(line, " \t")] != '#')
+        strcpy(line, "?");
+    return byte != EOF || (length > 0 && !ferror(a->file));
+}
+
 /* Reads on until an arrival is pending or none is left, or none has come where that is not waited for. */
 static void look_ahead(struct arrivals *a, int wait)
 {
-    char line[2 * ARRIVAL_ROOM];
+    char line[LINE_MOST + 1];
 
     while (!a->pending && a->file != NULL && (wait || has_come(a))) {
-        if (fgets(line, sizeof line, a->file) == NULL) {
+        if (!get_line(a, line)) {
             no_more(a);
             return;
         }
         a->line++;
-        if (line[strspn(line, " \t\r\n")] == '\0' || line[strspn(line, " \t")] == '#')
+        if (line[strspn(line, " \t\r")] == '\0' || line[strspn(line, " \t")] == '#')
             continue;
         a->pending = take_line(a, line);
         if (!a->pending)

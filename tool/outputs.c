@@ -1,0 +1,210 @@
+/* Files written whole. open, fcntl, fsync, realpath and sigprocmask are POSIX, not C99. */
+#define _XOPEN_SOURCE 700
+#include "outputs.h"
+
+#include "say.h"
+
+#include <errno.h>
+#include <fcntl.h>
+#include <signal.h>
+#include <stdio.h>
+#include <stdlib.h>
+#include <string.h>
+#include <sys/stat.h>
+#include <unistd.h>
+
+static const char suffix[] = ".rissobarm-new";
+
+enum { NEW_MODE = 0666, MODE_BITS = 0777, TRIES_MOST = 1000 };
+
+/* A file on its way: where it goes, links followed, and the file beside that place. */
+struct place {
+    const char *path; /* as the command has it */
+    char *target;
+    char *beside;
+    int file; /* the file beside; -1 where there is none to be taken away */
+};
+
+static struct place places[OUTPUTS_MOST];
+static unsigned place_count;
+
+/* Takes the files beside away again and tells why there is no new one. */
+static void give_up(const char *path)
+{
+    int why = errno;
+    unsigned k;
+
+    for (k = 0; k < place_count; k++)
+        if (places[k].file >= 0)
+            unlink(places[k].beside);
+    quit(NO_FILE, "%s: not written: %s", path, strerror(why));
+}
+
+static int write_all(int file, const struct bytes *bytes)
+{
+    size_t done = 0;
+    ssize_t some;
+
+    while (done < bytes->length) {
+        some = write(file, bytes->at + done, bytes->length - done);
+        if (some < 0 && errno != EINTR)
+            return 0;
+        done += some > 0 ? (size_t)some : 0;
+    }
+    return 1;
+}
+
+/* ---- what cannot be renamed ---- */
+
+/* Whether a path leads to standard output, a device or a pipe: a file beside it would take its place. */
+static int stays_in_place(const char *path)
+{
+    struct stat found;
+
+    return strcmp(path, "-") == 0 || (stat(path, &found) == 0 && !S_ISREG(found.st_mode) && !S_ISDIR(found.st_mode));
+}
+
+static void write_in_place(const struct output *output)
+{
+    int file;
+
+    if (strcmp(output->path, "-") == 0) {
+        fwrite(output->bytes->at, 1, output->bytes->length, stdout);
+        if (finish(DONE) != DONE)
+            exit(NO_FILE);
+        return;
+    }
+    file = open(output->path, O_WRONLY);
+    if (file < 0 || !write_all(file, output->bytes) || close(file) != 0)
+        give_up(output->path);
+}
+
+/* ---- beside, and in its place ---- */
+
+/*
+ * Opens the file beside and holds it, so that of two tools one waits for the other. What a tool that was killed left there is
+ * used again. The one that was held may have been renamed meanwhile: then there is another by that name, or none. Where the
+ * disk has no locks, nothing is held.
+ */
+static int hold(const char *beside, mode_t mode)
+{
+    struct stat held, named;
+    struct flock whole;
+    int file, tries;
+
+    memset(&whole, 0, sizeof whole);
+    whole.l_type = F_WRLCK;
+    whole.l_whence = SEEK_SET;
+    for (tries = 0; tries < TRIES_MOST; tries++) {
+        file = open(beside, O_RDWR | O_CREAT | O_NOFOLLOW, mode);
+        if (file < 0)
+            return -1;
+        fcntl(file, F_SETLKW, &whole);
+        if (fstat(file, &held) != 0 ||
+            (lstat(beside, &named) == 0 && held.st_dev == named.st_dev && held.st_ino == named.st_ino))
+            return file;
+        close(file);
+    }
+    errno = EBUSY;
+    return -1;
+}
+
+static char *joined(const char *path, const char *end)
+{
+    char *both = (char *)malloc(strlen(path) + strlen(end) + 1);
+
+    if (both == NULL)
+        quit(NO_FILE, "no memory is left");
+    strcpy(both, path);
+    strcat(both, end);
+    return both;
+}
+
+/* Ends the tool where two files have one place, by whatever names. */
+static void refuse_twice(const struct place *place)
+{
+    const struct place *other;
+    struct stat mine, theirs;
+
+    for (other = places; other < place; other++)
+        if (fstat(place->file, &mine) == 0 && fstat(other->file, &theirs) == 0 && mine.st_dev == theirs.st_dev &&
+            mine.st_ino == theirs.st_ino) {
+            unlink(place->beside);
+            quit(USAGE, "%s: not written: %s leads to the same file", place->path, other->path);
+        }
+}
+
+/* All bytes of a file beside its place and on the disk; a file that stood there keeps its mode. */
+static void write_beside(const struct output *output)
+{
+    struct place *place = &places[place_count++];
+    struct stat old;
+    int stood = stat(output->path, &old) == 0;
+    mode_t mode = NEW_MODE;
+
+    place->path = output->path;
+    place->file = -1;
+    if (stood && S_ISDIR(old.st_mode)) {
+        errno = EISDIR;
+        give_up(place->path);
+    }
+    place->target = stood ? realpath(output->path, NULL) : joined(output->path, "");
+    if (place->target == NULL)
+        give_up(place->path);
+    place->beside = joined(place->target, suffix);
+    if (stood)
+        mode = (old.st_mode & MODE_BITS) | S_IWUSR;
+    place->file = hold(place->beside, mode);
+    if (place->file < 0)
+        give_up(place->path);
+    refuse_twice(place);
+    /* before the bytes: what was left beside may be open to more readers than the file that stood there */
+    if (stood)
+        fchmod(place->file, mode);
+    if (ftruncate(place->file, 0) != 0 || !write_all(place->file, output->bytes) || fsync(place->file) != 0)
+        give_up(place->path);
+    if (stood && mode != (old.st_mode & MODE_BITS))
+        fchmod(place->file, old.st_mode & MODE_BITS);
+}
+
+static void rename_all(void)
+{
+    struct place *place;
+
+    for (place = places; place < places + place_count; place++) {
+        if (rename(place->beside, place->target) != 0)
+            give_up(place->path);
+        close(place->file);
+        place->file = -1;
+        free(place->beside);
+        free(place->target);
+    }
+    place_count = 0;
+}
+
+/* A stop from outside waits until the files are in their places, so that none is left beside. */
+static void hold_signals(int how)
+{
+    sigset_t stops;
+
+    sigemptyset(&stops);
+    sigaddset(&stops, SIGINT);
+    sigaddset(&stops, SIGTERM);
+    sigaddset(&stops, SIGHUP);
+    sigprocmask(how, &stops, NULL);
+}
+
+void outputs_write(const struct output *outputs, unsigned count)
+{
+    unsigned k;
+
+    for (k = 0; k < count; k++)
+        if (outputs[k].path != NULL && stays_in_place(outputs[k].path))
+            write_in_place(&outputs[k]);
+    hold_signals(SIG_BLOCK);
+    for (k = 0; k < count; k++)
+        if (outputs[k].path != NULL && !stays_in_place(outputs[k].path))
+            write_beside(&outputs[k]);
+    rename_all();
+    hold_signals(SIG_UNBLOCK);
+}
