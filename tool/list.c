@@ -190,18 +190,19 @@ static int enough(struct plan *plan, long count)
     return 0;
 }
 
-/* Cuts the mark off; 0 where it is another image's, or names stand behind it. */
+/* Cuts the mark off; 0 where it is another image's, or names stand behind it. A constant may have such a name before the mark. */
 static int take_mark(struct plan *plan, const struct entry *names, long *count)
 {
     char mark[MARK_ROOM];
     size_t length = mark_of(&plan->image, mark);
     long k;
 
-    for (k = 0; k + 1 < *count; k++)
-        if (is_mark(names[k].word))
-            return wrong_at(plan, (size_t)k + 1, "is the mark of an image, and names stand behind it");
-    if (*count == 0 || !is_mark(names[*count - 1].word))
+    if (*count == 0 || !is_mark(names[*count - 1].word)) {
+        for (k = 0; k < *count; k++)
+            if (is_mark(names[k].word))
+                return wrong_at(plan, (size_t)k + 1, "is the mark of an image, and names stand behind it");
         return 1;
+    }
     --*count;
     if (names[*count].word.length != length || memcmp(names[*count].word.at, mark, length) != 0)
         return wrong_at(plan, (size_t)*count + 1, "is the mark of another image: list and image were not compiled together");
