@@ -109,6 +109,19 @@ static struct bytes take_part(const struct bytes *file, size_t *at, const char *
     return part;
 }
 
+/* The machine's own tests of the image; those of the run make them once more, and could not tell whose they are. */
+static void take_image(struct plan *plan, const char *path)
+{
+    uint64_t loaded = rissobarm_load(plan->image.at, plan->image.length);
+    unsigned refusal = rissobarm_refusal(loaded);
+
+    if (refusal != RISSOBARM_ACCEPTED)
+        quit(RUN_REFUSED, "%s: the saved run is refused %u at byte %s of the part `image` (%s)", path, refusal,
+             grouped(rissobarm_offset(loaded)), rissobarm_refusal_text(refusal));
+    plan->relations = rissobarm_relations(loaded);
+    plan->clauses = rissobarm_clauses(loaded);
+}
+
 /* The machine's own tests of the run. */
 static void take_up(struct session *session, const struct bytes *saved, const char *path)
 {
@@ -150,7 +163,6 @@ static void take_saved(struct session *session, struct bytes *file, const char *
 {
     struct bytes stamp, saved;
     size_t at = sizeof SAVED_LINE - 1;
-    uint64_t loaded;
 
     session->plan.image = take_part(file, &at, "image", path);
     session->plan.names = take_part(file, &at, "names", path);
@@ -163,10 +175,8 @@ static void take_saved(struct session *session, struct bytes *file, const char *
     session->run_is_saved = 1;
     session->plan.is_text = session->plan.text.length > 0;
     session->stamp = stamp_of(&stamp, path);
+    take_image(&session->plan, path);
     take_up(session, &saved, path);
-    loaded = rissobarm_load(session->plan.image.at, session->plan.image.length);
-    session->plan.relations = rissobarm_relations(loaded);
-    session->plan.clauses = rissobarm_clauses(loaded);
     test_names(session, path);
     bytes_add(&session->trace, "", 0);
     program_read(&session->program, &session->plan.image);
