@@ -7,9 +7,10 @@
 #include <ctype.h>
 #include <errno.h>
 #include <poll.h>
+#include <stdlib.h>
 #include <string.h>
 
-enum { LINE_MOST = 2 * ARRIVAL_ROOM };
+enum { LINE_MOST = 2 * ARRIVAL_ROOM, DIGITS_ROOM = 11 };
 
 /* ---- one value ---- */
 
@@ -93,16 +94,18 @@ static void complain(const struct arrivals *a, const char *why)
 
 static int take_line(struct arrivals *a, const char *line)
 {
-    unsigned long steps = 0;
+    char digits[DIGITS_ROOM] = "0";
+    unsigned long steps;
     const char *rest;
     int used = 0;
 
     if (!take_pair(line, a->name, a->value, &rest))
         return 0;
-    if (sscanf(rest, "@ %9lu %n", &steps, &used) == 1)
+    if (sscanf(rest, "@ %10[0-9] %n", digits, &used) == 1)
         rest += used;
+    steps = strtoul(digits, NULL, 10);
     a->steps = (uint32_t)steps;
-    return *rest == '\0';
+    return *rest == '\0' && steps <= UINT32_MAX;
 }
 
 static void no_more(struct arrivals *a)
