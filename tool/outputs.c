@@ -23,6 +23,8 @@ struct place {
     char *target;
     char *beside;
     int file; /* the file beside; -1 where there is none to be taken away */
+    int shut; /* whether who owns it may not write to it, which it becomes in its place */
+    mode_t mode;
 };
 
 static struct place places[OUTPUTS_MOST];
@@ -82,27 +84,47 @@ static void write_in_place(const struct output *output)
 /* ---- beside, and in its place ---- */
 
 /*
- * Opens the file beside and holds it, so that of two tools one waits for the other. What a tool that was killed left there is
- * used again. The one that was held may have been renamed meanwhile: then there is another by that name, or none. Where the
+ * Waits until no other tool holds a file. 0 where that would be for ever, since each of two has what the other wants. Where the
  * disk has no locks, nothing is held.
  */
-static int hold(const char *beside, mode_t mode)
+static int lock(int file)
 {
-    struct stat held, named;
     struct flock whole;
-    int file, tries;
+    int done;
 
     memset(&whole, 0, sizeof whole);
     whole.l_type = F_WRLCK;
     whole.l_whence = SEEK_SET;
+    do
+        done = fcntl(file, F_SETLKW, &whole);
+    while (done != 0 && errno == EINTR);
+    return done == 0 || errno != EDEADLK;
+}
+
+/* Whether it is a file with one name alone: no tool leaves anything else, and another name would lose its bytes. errno tells. */
+static int is_plain(const struct stat *found)
+{
+    errno = S_ISREG(found->st_mode) ? EMLINK : EEXIST;
+    return S_ISREG(found->st_mode) && found->st_nlink <= 1;
+}
+
+/*
+ * Opens the file beside and holds it, so that of two tools one waits for the other. What a tool that was killed left there is
+ * used again. The one that was held may have been renamed meanwhile: then there is another by that name, or none.
+ */
+static int hold(const char *beside, mode_t mode)
+{
+    struct stat held, named;
+    int file, tries;
+
     for (tries = 0; tries < TRIES_MOST; tries++) {
         file = open(beside, O_RDWR | O_CREAT | O_NOFOLLOW, mode);
-        if (file < 0)
+        if (file < 0 || !lock(file))
             return -1;
-        fcntl(file, F_SETLKW, &whole);
-        if (fstat(file, &held) != 0 ||
-            (lstat(beside, &named) == 0 && held.st_dev == named.st_dev && held.st_ino == named.st_ino))
-            return file;
+        if (fstat(file, &held) != 0)
+            return -1;
+        if (lstat(beside, &named) == 0 && held.st_dev == named.st_dev && held.st_ino == named.st_ino)
+            return is_plain(&held) ? file : -1;
         close(file);
     }
     errno = EBUSY;
@@ -144,6 +166,7 @@ static void write_beside(const struct output *output)
 
     place->path = output->path;
     place->file = -1;
+    place->shut = stood && !(old.st_mode & S_IWUSR);
     if (stood && S_ISDIR(old.st_mode)) {
         errno = EISDIR;
         give_up(place->path);
@@ -153,7 +176,7 @@ static void write_beside(const struct output *output)
         give_up(place->path);
     place->beside = joined(place->target, suffix);
     if (stood)
-        mode = (old.st_mode & MODE_BITS) | S_IWUSR;
+        place->mode = mode = (old.st_mode & MODE_BITS) | S_IWUSR;
     place->file = hold(place->beside, mode);
     if (place->file < 0)
         give_up(place->path);
@@ -163,8 +186,6 @@ static void write_beside(const struct output *output)
         fchmod(place->file, mode);
     if (ftruncate(place->file, 0) != 0 || !write_all(place->file, output->bytes) || fsync(place->file) != 0)
         give_up(place->path);
-    if (stood && mode != (old.st_mode & MODE_BITS))
-        fchmod(place->file, old.st_mode & MODE_BITS);
 }
 
 static void rename_all(void)
@@ -174,6 +195,9 @@ static void rename_all(void)
     for (place = places; place < places + place_count; place++) {
         if (rename(place->beside, place->target) != 0)
             give_up(place->path);
+        /* not before: what a kill leaves beside could not be opened again */
+        if (place->shut)
+            fchmod(place->file, place->mode & ~(mode_t)S_IWUSR);
         close(place->file);
         place->file = -1;
         free(place->beside);

@@ -2,7 +2,7 @@
 """whole.py PROGRAM MOMENTS [SEED]: whatever stops a command that writes files, each file is the old one or the new one, whole; nothing is left beside but by a kill, and that the next writer
 takes; and files that do not belong together are not taken for a pair. MOMENTS is the program with the calls of moments.c around it.
 
-Each command below is stopped at each of its calls: killed, told to stop, and by a call that fails; killed by chance; past a limit on the size of files; on /dev/full; and, where one can be
+Each command below is stopped at each of its calls: killed, and by a call that fails; told to stop at every second one; killed by chance; past a limit on the size of files; on /dev/full; and, where one can be
 mounted, on a small disk (whole.py PROGRAM MOMENTS --disk FOLDER, in a space of its own)."""
 import os
 import random
@@ -317,6 +317,35 @@ def one_waits():
         os.remove('both.image')
 
 
+def crossed():
+    """Of two tools that each hold what the other wants one gives up, and the files are those of the other; where the second comes too late for that, both end well."""
+    first = subprocess.Popen([MOMENTS] + 'compile old.plan -o two.b --names two.a'.split(), env=dict(os.environ, MOMENT='2', FATE='pause'), stderr=subprocess.PIPE, universal_newlines=True)
+    began = time.time()
+    while not left_beside() and first.poll() is None and time.time() - began < PATIENCE:
+        time.sleep(0.002)
+    ends = [run('compile new.plan -o two.a --names two.b'.split()), (first.communicate()[1], first.returncode)[::-1]]
+    given_up = (10, 'rissobarm: two.%s: not written: Resource deadlock avoided\n')
+    if not all(end in ((0, ''), (given_up[0], given_up[1] % name)) for end, name in zip(ends, 'ab')) or (0, '') not in ends or left_beside():
+        sys.exit('whole: of two tools whose files are crossed, not one gives up and one ends well: %s' % ends)
+    if (read('two.a'), read('two.b')) not in ((read('old.names'), read('old.image')), (read('new.image'), read('new.names'))):
+        sys.exit('whole: of two tools whose files are crossed, each has one file')
+
+
+def shut():
+    """A file that its owner may not write to stays so, and what a kill leaves beside it can be written to by the next tool."""
+    for moment in range(1, CALLS_MOST):
+        shutil.copy('old.image', 'shut.image')
+        os.chmod('shut.image', 0o444)
+        status = run('compile new.plan -o shut.image'.split(), MOMENTS, env=dict(os.environ, MOMENT=str(moment), FATE='kill'))[0]
+        if any(not os.stat(path).st_mode & 0o200 for path in left_beside()):
+            sys.exit('whole: killed at call %d, it leaves a file beside that cannot be written to' % moment)
+        mode = os.stat('shut.image').st_mode & 0o777
+        os.remove('shut.image')
+        if status == 0 and mode == 0o444 and not left_beside():
+            return
+    sys.exit('whole: a file that may not be written to does not stay so')
+
+
 def at_once():
     """Several tools that write one file: each ends well, and the file is one of theirs."""
     texts = {}
@@ -349,6 +378,8 @@ def main():
             on_full_device(command)
         spoken()
         one_waits()
+        crossed()
+        shut()
         at_once()
         os.chdir('/')
     full = small_disk()
