@@ -1,6 +1,7 @@
 /* The words of a command. */
 #include "options.h"
 
+#include "outputs.h"
 #include "rissobarm_plan.h"
 #include "say.h"
 
@@ -94,8 +95,7 @@ static void refuse_shared(const struct known *known)
 
     for (; known->name != NULL; known++)
         for (other = known + 1; other->name != NULL && known->file != NULL; other++)
-            if (other->file != NULL && *known->file != NULL && *other->file != NULL && strcmp(*known->file, "-") != 0 &&
-                strcmp(*known->file, *other->file) == 0)
+            if (other->file != NULL && *known->file != NULL && *other->file != NULL && is_same_file(*known->file, *other->file))
                 quit(USAGE, "%s and %s: %s cannot be both", known->name, other->name, *known->file);
 }
 
@@ -108,7 +108,7 @@ static void refuse_lost(const struct options *o, const char *command)
 
     for (k = 0; k < sizeof written / sizeof written[0]; k++)
         for (w = 0; w < o->word_count; w++)
-            if (written[k] != NULL && strcmp(written[k], "-") != 0 && strcmp(written[k], o->words[w]) == 0)
+            if (written[k] != NULL && is_same_file(written[k], o->words[w]))
                 quit(USAGE, "%s: would be written over", written[k]);
 }
 

@@ -56,6 +56,27 @@ static int write_all(int file, const struct bytes *bytes)
     return 1;
 }
 
+/* Standard input and output are no files here; what is no file that could be renamed is not lost when it is written to. */
+int is_same_file(const char *left, const char *right)
+{
+    struct stat found;
+    char *one, *other;
+    int same;
+
+    if (strcmp(left, "-") == 0 || strcmp(right, "-") == 0)
+        return 0;
+    if (strcmp(left, right) == 0)
+        return 1;
+    if (stat(left, &found) != 0 || !S_ISREG(found.st_mode))
+        return 0;
+    one = realpath(left, NULL);
+    other = realpath(right, NULL);
+    same = one != NULL && other != NULL && strcmp(one, other) == 0;
+    free(one);
+    free(other);
+    return same;
+}
+
 /* ---- what cannot be renamed ---- */
 
 /* Whether a path leads to standard output, a device or a pipe: a file beside it would take its place. */

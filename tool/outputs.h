@@ -12,6 +12,9 @@ struct output {
 
 enum { OUTPUTS_MOST = 2 };
 
+/* Whether two paths lead to one file, links followed; "-" leads to none. */
+int is_same_file(const char *left, const char *right);
+
 /*
  * Writes all files of a command. The bytes of each go into a file beside its place, and when all are on the disk each is
  * renamed, in this order: whatever happens, a path leads to the old bytes or to the new ones, whole, and a disk that is full

@@ -111,8 +111,8 @@ enum status command_replay(const struct options *options)
     struct output output = { options->save, &saved };
 
     session_open(&session, options->words[0], options->names);
-    if (options->save != NULL && (strcmp(options->save, options->words[1]) == 0 ||
-                                  (!session.run_is_saved && strcmp(options->save, options->words[0]) == 0)))
+    if (options->save != NULL && (is_same_file(options->save, options->words[1]) ||
+                                  (!session.run_is_saved && is_same_file(options->save, options->words[0]))))
         quit(USAGE, "%s: would be written over", options->save);
     trace = file_read(options->words[1]);
     play(&session, &trace, options->words[1]);
