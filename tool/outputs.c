@@ -1,11 +1,13 @@
-/* Files written whole. open, fcntl, fsync, realpath and sigprocmask are POSIX, not C99. */
+/* Files written whole. open, fcntl, fsync, realpath, sigprocmask and sigsetjmp are POSIX, not C99. */
 #define _XOPEN_SOURCE 700
 #include "outputs.h"
 
 #include "say.h"
+#include "stops.h"
 
 #include <errno.h>
 #include <fcntl.h>
+#include <setjmp.h>
 #include <signal.h>
 #include <stdio.h>
 #include <stdlib.h>
@@ -30,15 +32,21 @@ struct place {
 static struct place places[OUTPUTS_MOST];
 static unsigned place_count;
 
-/* Takes the files beside away again and tells why there is no new one. */
-static void give_up(const char *path)
+static void take_away(void)
 {
-    int why = errno;
     unsigned k;
 
     for (k = 0; k < place_count; k++)
         if (places[k].file >= 0)
             unlink(places[k].beside);
+}
+
+/* Takes the files beside away again and tells why there is no new one. */
+static void give_up(const char *path)
+{
+    int why = errno;
+
+    take_away();
     quit(NO_FILE, "%s: not written: %s", path, strerror(why));
 }
 
@@ -104,6 +112,46 @@ static void write_in_place(const struct output *output)
 
 /* ---- beside, and in its place ---- */
 
+/* A stop from outside waits until the files are in their places, so that none is left beside. */
+static void hold_stops(int how)
+{
+    sigset_t stops;
+    unsigned k;
+
+    sigemptyset(&stops);
+    for (k = 0; k < STOPS; k++)
+        sigaddset(&stops, stop_signals[k]);
+    sigprocmask(how, &stops, NULL);
+}
+
+static sigjmp_buf before_wait;
+
+static void end_wait(int number)
+{
+    (void)number;
+    siglongjmp(before_wait, 1);
+}
+
+/* A lock that another tool has: here alone a stop is let through, and it leaves the old files. What fcntl says otherwise. */
+static int wait_for(int file, struct flock *whole)
+{
+    static struct sigaction heard[STOPS];
+    int done, why;
+
+    if (sigsetjmp(before_wait, 1) != 0) {
+        take_away();
+        quit(NO_FILE, "%s: not written: stopped while another tool writes it", places[place_count - 1].path);
+    }
+    stops_hear(end_wait, 0, heard);
+    hold_stops(SIG_UNBLOCK);
+    done = fcntl(file, F_SETLKW, whole);
+    why = errno;
+    hold_stops(SIG_BLOCK);
+    stops_restore(heard);
+    errno = why;
+    return done;
+}
+
 /*
  * Waits until no other tool holds a file. 0 where that would be for ever, since each of two has what the other wants. Where the
  * disk has no locks, nothing is held.
@@ -116,9 +164,11 @@ static int lock(int file)
     memset(&whole, 0, sizeof whole);
     whole.l_type = F_WRLCK;
     whole.l_whence = SEEK_SET;
-    do
-        done = fcntl(file, F_SETLKW, &whole);
-    while (done != 0 && errno == EINTR);
+    done = fcntl(file, F_SETLK, &whole);
+    if (done != 0 && (errno == EAGAIN || errno == EACCES))
+        do
+            done = wait_for(file, &whole);
+        while (done != 0 && errno == EINTR);
     return done == 0 || errno != EDEADLK;
 }
 
@@ -227,18 +277,6 @@ static void rename_all(void)
     place_count = 0;
 }
 
-/* A stop from outside waits until the files are in their places, so that none is left beside. */
-static void hold_signals(int how)
-{
-    sigset_t stops;
-
-    sigemptyset(&stops);
-    sigaddset(&stops, SIGINT);
-    sigaddset(&stops, SIGTERM);
-    sigaddset(&stops, SIGHUP);
-    sigprocmask(how, &stops, NULL);
-}
-
 void outputs_write(const struct output *outputs, unsigned count)
 {
     unsigned k;
@@ -246,10 +284,10 @@ void outputs_write(const struct output *outputs, unsigned count)
     for (k = 0; k < count; k++)
         if (outputs[k].path != NULL && stays_in_place(outputs[k].path))
             write_in_place(&outputs[k]);
-    hold_signals(SIG_BLOCK);
+    hold_stops(SIG_BLOCK);
     for (k = 0; k < count; k++)
         if (outputs[k].path != NULL && !stays_in_place(outputs[k].path))
             write_beside(&outputs[k]);
     rename_all();
-    hold_signals(SIG_UNBLOCK);
+    hold_stops(SIG_UNBLOCK);
 }

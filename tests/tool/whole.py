@@ -4,6 +4,7 @@ takes; and files that do not belong together are not taken for a pair. MOMENTS i
 
 Each command below is stopped at each of its calls: killed, and by a call that fails; told to stop at every second one; killed by chance; past a limit on the size of files; on /dev/full; and, where one can be
 mounted, on a small disk (whole.py PROGRAM MOMENTS --disk FOLDER, in a space of its own)."""
+import fcntl
 import os
 import random
 import resource
@@ -317,6 +318,35 @@ def one_waits():
         os.remove('both.image')
 
 
+def waits_for_lock(job):
+    """Until a program waits for a lock; a system that does not tell leaves only to be patient."""
+    began = time.time()
+    while time.time() - began < PATIENCE // 4 and job.poll() is None:
+        with open('/proc/locks') as locks:
+            if any('->' in line and line.split()[5] == str(job.pid) for line in locks):
+                return
+        time.sleep(0.005)
+
+
+def stopped_waiting():
+    """A tool that waits for another is ended by each of three signals: all files are the old ones, and beside is what the other tool has, alone."""
+    for command in commands():
+        last = command.files[-1]
+        for number in (signal.SIGINT, signal.SIGTERM, signal.SIGHUP):
+            command.reset()
+            with open(last + BESIDE, 'wb') as held:
+                fcntl.lockf(held, fcntl.LOCK_EX)
+                job = subprocess.Popen([PROGRAM] + command.words, stdin=subprocess.DEVNULL, stdout=subprocess.DEVNULL, stderr=subprocess.PIPE, universal_newlines=True)
+                waits_for_lock(job)
+                job.send_signal(number)
+                said = job.communicate(timeout=PATIENCE)[1]
+            if job.returncode != 10 or said != 'rissobarm: %s: not written: stopped while another tool writes it\n' % last:
+                wrong(command, 'stopped by %s while it waits, it ends with %d and says: %s' % (number.name, job.returncode, said))
+            if command.stand() != command.old or left_beside() != [last + BESIDE]:
+                wrong(command, 'stopped by %s while it waits, it does not leave all files alone' % number.name)
+    command.reset()
+
+
 def crossed():
     """Of two tools that each hold what the other wants one gives up, and the files are those of the other; where the second comes too late for that, both end well."""
     first = subprocess.Popen([MOMENTS] + 'compile old.plan -o two.b --names two.a'.split(), env=dict(os.environ, MOMENT='2', FATE='pause'), stderr=subprocess.PIPE, universal_newlines=True)
@@ -378,6 +408,7 @@ def main():
             on_full_device(command)
         spoken()
         one_waits()
+        stopped_waiting()
         crossed()
         shut()
         at_once()
