@@ -89,6 +89,8 @@ enum status command_compile(const struct options *options)
         quit(USAGE, "compile: -o FILE says where the image goes");
     if (options->names != NULL && strcmp(options->names, "-") == 0 && strcmp(options->out, "-") == 0)
         quit(USAGE, "-o and --names: standard output cannot be both");
+    output_test(options->names);
+    output_test(options->out);
     plan_need(&plan, options->words[0], NULL);
     if (!plan.is_text)
         quit(PLAN_REFUSED, "%s: is an image already", options->words[0]);
@@ -103,6 +105,7 @@ enum status command_print(const struct options *options)
     static struct plan plan;
     struct output output = { options->out != NULL ? options->out : "-", &text };
 
+    output_test(options->out);
     plan_need(&plan, options->words[0], options->names);
     plan_hold(&plan, plan_print(&plan, &text), options->words[0]);
     outputs_write(&output, 1);

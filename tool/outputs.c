@@ -25,6 +25,7 @@ struct place {
     char *target;
     char *beside;
     int file; /* the file beside; -1 where there is none to be taken away */
+    int stood; /* whether there is an old one */
     int shut; /* whether who owns it may not write to it, which it becomes in its place */
     mode_t mode;
 };
@@ -64,6 +65,55 @@ static int write_all(int file, const struct bytes *bytes)
     return 1;
 }
 
+static char *joined(const char *path, const char *end)
+{
+    char *both = (char *)malloc(strlen(path) + strlen(end) + 1);
+
+    if (both == NULL)
+        quit(NO_FILE, "no memory is left");
+    strcpy(both, path);
+    strcat(both, end);
+    return both;
+}
+
+/* ---- paths ---- */
+
+/* The last part of a path. */
+static const char *name_in(const char *path)
+{
+    const char *slash = strrchr(path, '/');
+
+    return slash != NULL ? slash + 1 : path;
+}
+
+/* The folder of a path, by a name that leads to folders alone. */
+static char *folder_of(const char *path)
+{
+    char *folder = joined(path, ".");
+
+    strcpy(folder + (name_in(path) - path), ".");
+    return folder;
+}
+
+/* Where a path leads, links followed, to a file that is there or that would be made; NULL where there is no folder for it. */
+static char *end_of(const char *path)
+{
+    char *whole = realpath(path, NULL), *folder, *slashed;
+
+    if (whole != NULL)
+        return whole;
+    folder = folder_of(path);
+    whole = realpath(folder, NULL);
+    free(folder);
+    if (whole == NULL)
+        return NULL;
+    slashed = joined(whole, "/");
+    free(whole);
+    whole = joined(slashed, name_in(path));
+    free(slashed);
+    return whole;
+}
+
 /* Standard input and output are no files here; what is no file that could be renamed is not lost when it is written to. */
 int is_same_file(const char *left, const char *right)
 {
@@ -75,10 +125,10 @@ int is_same_file(const char *left, const char *right)
         return 0;
     if (strcmp(left, right) == 0)
         return 1;
-    if (stat(left, &found) != 0 || !S_ISREG(found.st_mode))
+    if (stat(left, &found) == 0 && !S_ISREG(found.st_mode))
         return 0;
-    one = realpath(left, NULL);
-    other = realpath(right, NULL);
+    one = end_of(left);
+    other = end_of(right);
     same = one != NULL && other != NULL && strcmp(one, other) == 0;
     free(one);
     free(other);
@@ -202,17 +252,6 @@ static int hold(const char *beside, mode_t mode)
     return -1;
 }
 
-static char *joined(const char *path, const char *end)
-{
-    char *both = (char *)malloc(strlen(path) + strlen(end) + 1);
-
-    if (both == NULL)
-        quit(NO_FILE, "no memory is left");
-    strcpy(both, path);
-    strcat(both, end);
-    return both;
-}
-
 /* Ends the tool where two files have one place, by whatever names. */
 static void refuse_twice(const struct place *place)
 {
@@ -227,34 +266,39 @@ static void refuse_twice(const struct place *place)
         }
 }
 
+/* Fills a place in, all but its file. 0 where there is none for a file; errno tells. */
+static int find_place(struct place *place, const char *path)
+{
+    struct stat old;
+    int stood = stat(path, &old) == 0;
+
+    place->path = path;
+    place->file = -1;
+    place->stood = stood;
+    place->shut = stood && !(old.st_mode & S_IWUSR);
+    place->mode = stood ? (old.st_mode & MODE_BITS) | S_IWUSR : (mode_t)NEW_MODE;
+    place->target = NULL;
+    errno = path[0] == '\0' ? ENOENT : EISDIR;
+    if (path[0] != '\0' && (!stood || !S_ISDIR(old.st_mode)))
+        place->target = stood ? realpath(path, NULL) : joined(path, "");
+    place->beside = place->target != NULL ? joined(place->target, suffix) : NULL;
+    return place->target != NULL;
+}
+
 /* All bytes of a file beside its place and on the disk; a file that stood there keeps its mode. */
 static void write_beside(const struct output *output)
 {
     struct place *place = &places[place_count++];
-    struct stat old;
-    int stood = stat(output->path, &old) == 0;
-    mode_t mode = NEW_MODE;
 
-    place->path = output->path;
-    place->file = -1;
-    place->shut = stood && !(old.st_mode & S_IWUSR);
-    if (stood && S_ISDIR(old.st_mode)) {
-        errno = EISDIR;
-        give_up(place->path);
-    }
-    place->target = stood ? realpath(output->path, NULL) : joined(output->path, "");
-    if (place->target == NULL)
-        give_up(place->path);
-    place->beside = joined(place->target, suffix);
-    if (stood)
-        place->mode = mode = (old.st_mode & MODE_BITS) | S_IWUSR;
-    place->file = hold(place->beside, mode);
+    if (!find_place(place, output->path))
+        give_up(output->path);
+    place->file = hold(place->beside, place->mode);
     if (place->file < 0)
         give_up(place->path);
     refuse_twice(place);
     /* before the bytes: what was left beside may be open to more readers than the file that stood there */
-    if (stood)
-        fchmod(place->file, mode);
+    if (place->stood)
+        fchmod(place->file, place->mode);
     if (ftruncate(place->file, 0) != 0 || !write_all(place->file, output->bytes) || fsync(place->file) != 0)
         give_up(place->path);
 }
@@ -276,6 +320,52 @@ static void rename_all(void)
     }
     place_count = 0;
 }
+
+/* ---- before there are bytes ---- */
+
+/* Whether files can be made, and renamed, in the folder of a path. */
+static int folder_takes(const char *path)
+{
+    char *folder = folder_of(path);
+    int takes = access(folder, W_OK | X_OK) == 0;
+
+    free(folder);
+    return takes;
+}
+
+/* Whether hold could open a file beside; errno tells. One that another tool renames meanwhile is none. */
+static int could_hold(const char *beside)
+{
+    struct stat found;
+
+    if (!folder_takes(beside))
+        return 0;
+    if (lstat(beside, &found) != 0)
+        return errno == ENOENT;
+    errno = S_ISDIR(found.st_mode) ? EISDIR : ELOOP;
+    if (S_ISDIR(found.st_mode) || S_ISLNK(found.st_mode))
+        return 0;
+    return is_plain(&found) && (access(beside, R_OK | W_OK) == 0 || errno == ENOENT);
+}
+
+void output_test(const char *path)
+{
+    struct place place;
+
+    if (path == NULL || strcmp(path, "-") == 0)
+        return;
+    if (stays_in_place(path)) {
+        if (access(path, W_OK) != 0)
+            give_up(path);
+        return;
+    }
+    if (!find_place(&place, path) || !could_hold(place.beside))
+        give_up(path);
+    free(place.target);
+    free(place.beside);
+}
+
+/* ---- all ---- */
 
 void outputs_write(const struct output *outputs, unsigned count)
 {

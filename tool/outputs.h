@@ -16,6 +16,12 @@ enum { OUTPUTS_MOST = 2 };
 int is_same_file(const char *left, const char *right);
 
 /*
+ * Ends the tool where a file could not be written now, as far as that can be seen without making one: before anything is read
+ * or run that would be lost. NULL is none.
+ */
+void output_test(const char *path);
+
+/*
  * Writes all files of a command. The bytes of each go into a file beside its place, and when all are on the disk each is
  * renamed, in this order: whatever happens, a path leads to the old bytes or to the new ones, whole, and a disk that is full
  * leaves every old file. What is no file that could be renamed, a device or a pipe, is written as it stands, before the

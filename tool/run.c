@@ -146,6 +146,8 @@ enum status command_run(const struct options *options)
 {
     static struct session session;
 
+    output_test(options->trace);
+    output_test(options->save);
     plan_need(&session.plan, options->words[0], options->names);
     session_start(&session);
     return run_and_tell(&session, options);
@@ -157,6 +159,8 @@ enum status command_resume(const struct options *options)
 
     if (options->names != NULL && options->plan == NULL)
         quit(USAGE, "--names: a saved run has names of its own; they are those of --plan");
+    output_test(options->trace);
+    output_test(options->save);
     session_load(&session, options->words[0]);
     if (options->plan != NULL)
         session_same_plan(&session, options->words[0], options->plan, options->names);
