@@ -1,4 +1,4 @@
-/* Values from outside. poll and fileno are POSIX, not C99. */
+/* Values from outside. poll, fileno and isatty are POSIX, not C99. */
 #define _POSIX_C_SOURCE 200809L
 #include "arrivals.h"
 
@@ -9,6 +9,7 @@
 #include <poll.h>
 #include <stdlib.h>
 #include <string.h>
+#include <unistd.h>
 
 enum { LINE_MOST = 2 * ARRIVAL_ROOM, DIGITS_ROOM = 11 };
 
@@ -69,6 +70,7 @@ void arrivals_open(struct arrivals *arrivals, const struct options *options)
     if (options->arrivals == NULL)
         return;
     arrivals->file = file_open(options->arrivals);
+    arrivals->is_terminal = isatty(fileno(arrivals->file));
     /* so that what has come in can be asked for */
     setvbuf(arrivals->file, NULL, _IONBF, 0);
 }
@@ -108,9 +110,10 @@ static int take_line(struct arrivals *a, const char *line)
     return *rest == '\0' && steps <= UINT32_MAX;
 }
 
+/* A read is ended by a stop too, and from a terminal that goes away there is nothing more to come: the run can still be saved. */
 static void no_more(struct arrivals *a)
 {
-    if (ferror(a->file) && errno != EINTR)
+    if (ferror(a->file) && errno != EINTR && !(errno == EIO && a->is_terminal))
         quit(NO_FILE, "%s: %s", a->path, strerror(errno));
     if (a->file != stdin)
         fclose(a->file);

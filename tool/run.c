@@ -5,9 +5,9 @@
 #include "outputs.h"
 #include "run.h"
 #include "session.h"
+#include "stops.h"
 #include "tell.h"
 
-#include <signal.h>
 #include <stdio.h>
 #include <stdlib.h>
 #include <time.h>
@@ -21,16 +21,12 @@ static void stop(int number)
     stopped = 1;
 }
 
-/* A stop from keyboard or system ends the run behind its slice, so that it can still be saved; a second one ends the tool. */
+/* A stop ends the run behind its slice, so that it can still be saved; a second one of its sort ends the tool. */
 static void hear_stop(void)
 {
-    struct sigaction action;
+    struct sigaction before[STOPS];
 
-    action.sa_handler = stop;
-    action.sa_flags = (int)SA_RESETHAND;
-    sigemptyset(&action.sa_mask);
-    sigaction(SIGINT, &action, NULL);
-    sigaction(SIGTERM, &action, NULL);
+    stops_hear(stop, (int)SA_RESETHAND, before);
 }
 
 /* ---- the line that shows how far a long run is ---- */
