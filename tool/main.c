@@ -36,9 +36,9 @@ static const struct command commands[] = {
 static const char *const statuses[] = {
     "done; of a run: the goal has succeeded",
     "the goal has failed",
-    "the run waits, and no arrival is left",
+    "the run waits, and no arrival is left or a stop came",
     "a move needs more rows than a run has",
-    "the steps that were allowed are made",
+    "the steps that were allowed are made, or a stop came before",
     "the plan or its list of names is refused",
     "the saved run is refused, or is of another plan",
     "the trace is refused, or disagrees",
