@@ -1,5 +1,5 @@
 # `make` alone tells the targets: those with a text behind two # signs, in this order.
-.PHONY: help run test archive shared tool install uninstall bench soak faults clean
+.PHONY: help run test archive shared tool install uninstall first-steps bench soak faults clean
 
 VERSION = $(shell sed -n 's/^.define RISSOBARM_VERSION "\(.*\)"$$/\1/p' include/rissobarm.h)
 MAJOR = $(firstword $(subst ., ,$(VERSION)))
@@ -10,7 +10,7 @@ MINUTES = 20
 RUNS = 5
 
 help:
-	@sed -n 's/^\([a-z]*\):.*## /\1:/p' Makefile | awk -F: '{ printf "make %-10s %s\n", $$1, substr($$0, length($$1) + 2) }'
+	@sed -n 's/^\([a-z-]*\):.*## /\1:/p' Makefile | awk -F: '{ printf "make %-11s %s\n", $$1, substr($$0, length($$1) + 2) }'
 
 run: ## the main job: builds the runner, minutes the first time, and runs the plan s(^)
 	@tools/hex <tests/runner/cases/s-five.hex | tools/run-image
@@ -50,6 +50,9 @@ uninstall: ## takes these files out again
 	rm -f '$(into)/share/man/man1/rissobarm.1' '$(into)/share/man/man3/rissobarm.3'
 	rm -f '$(into)/share/bash-completion/completions/rissobarm'
 	rm -f '$(into)/share/doc/rissobarm/LAYOUT.md' '$(into)/share/doc/rissobarm/PLANS.md'
+
+first-steps: ## README.md's first steps on a copy of what git has, with nothing handed over: all that the tool stands on is proved anew
+	@tests/first-steps nothing
 
 bench: ## measures the archive beside plain and quick C, RUNS times (5); on x86-64 alone
 	@bench/run $(RUNS)

@@ -218,7 +218,7 @@ enum {
     RISSOBARM_CUT = 2,      /* a record is cut short, or says that it is shorter than it can be */
     RISSOBARM_KIND = 3,     /* no kind of record is meant, or it stands at the wrong place */
     RISSOBARM_BODY = 4,     /* a number is out of its range, or the fields do not fill the record */
-    RISSOBARM_NAME = 5,     /* something is named that is not there, or a clause is out of place */
+    RISSOBARM_NAME = 5,     /* something is named that is not there, a clause is out of place, or (of a text) a relation has two mode lines */
     RISSOBARM_MANY = 6,     /* one relation, clause or clause of a block too many */
     RISSOBARM_NOGOAL = 7,   /* there is no goal */
     RISSOBARM_STATE = 8,    /* the tables break a table rule, or a lent row has another length */
@@ -298,10 +298,12 @@ enum {
 /* ---- answers ---- */
 
 /*
- * Every call answers one 64-bit number. Bits 0-7 hold the refusal number, 0 when the call is accepted. Refusals 1 to 7
- * hold the offset of the refused record in bits 32-63 (0 for LONG, the image's length for NOGOAL), in the image or, where that
- * is accepted by a load, in the other row of records that the call takes. What an accepted call answers stands at the call.
- * Every bit that is not named is 0.
+ * Every call answers one 64-bit number. Bits 0-7 hold the refusal number, 0 when the call is accepted. Bits 32-63 of a refusal
+ * hold an offset: for 1 to 7 that of the refused record (0 for LONG, the image's length for NOGOAL), in the image or, where that
+ * is accepted by a load, in the other row of records that the call takes; for 4, 5 and 6 of a parse the one that the record would
+ * have in the image; for 16 that of a byte of the text; for 19 and 20 that of a record of the trace. One that 32 bits cannot hold
+ * is told as the largest number, and every other refusal holds 0. What an accepted call answers stands at the call. Every bit
+ * that is not named is 0.
  *
  * Every call that takes an image tests it first, as the load does, and may refuse with 1 to 7. Then come the lent rows:
  * 8 when one is not of its full length or, in every call but start and resume, when the tables break a table rule. Tables
@@ -557,8 +559,9 @@ static inline uint32_t rissobarm_played(uint64_t answer)
 /*
  * Makes an image and its list of names out of a text. Accepted: the image's length in bits 8-23, that of the names in bits 32-63.
  * Refused: 16 with the offset of the first byte of the text with which none could go on, its length where it ends too early; 17
- * for a relation without mode line; 4, 5 or 6 with the offset that the refused line's record would have in the image; 11. An image
- * row of RISSOBARM_TEXT_IMAGE bytes is always long enough, and so is a names row as long as the text.
+ * for a relation without mode line; 4, 5 (for a second mode line of a relation too) or 6 with the offset that the refused line's
+ * record would have in the image; 11. An image row of RISSOBARM_TEXT_IMAGE bytes is always long enough, and so is a names row as
+ * long as the text.
  */
 uint64_t rissobarm_parse(uint8_t *image, size_t image_len, uint8_t *names, size_t names_len, const uint8_t *text,
                          size_t text_len);

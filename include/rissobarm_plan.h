@@ -37,7 +37,7 @@ static inline const char *rissobarm_refusal_text(unsigned refusal)
         "CUT: a record's length is under 4 or passes the end, or 1 to 3 bytes are left",
         "KIND: a kind is unknown, out of order, or stands after the goal",
         "BODY: a field of a record is out of range, or the fields do not end with it",
-        "NAME: a relation, arity or variable is unknown, a clause out of place",
+        "NAME: a relation, arity or variable is unknown, a clause out of place, or a relation has two mode lines",
         "MANY: too many relations, clauses, or clauses in a block",
         "NOGOAL: there is no goal",
         "STATE: the tables break a table rule, or a lent row has another size",

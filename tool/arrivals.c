@@ -1,4 +1,4 @@
-/* Values from outside. poll and fileno are POSIX, not C99. */
+/* Values from outside. poll, fileno and isatty are POSIX, not C99. */
 #define _POSIX_C_SOURCE 200809L
 #include "arrivals.h"
 
@@ -7,7 +7,11 @@
 #include <ctype.h>
 #include <errno.h>
 #include <poll.h>
+#include <stdlib.h>
 #include <string.h>
+#include <unistd.h>
+
+enum { LINE_MOST = 2 * ARRIVAL_ROOM, DIGITS_ROOM = 11 };
 
 /* ---- one value ---- */
 
@@ -65,9 +69,8 @@ void arrivals_open(struct arrivals *arrivals, const struct options *options)
     arrivals->path = options->arrivals;
     if (options->arrivals == NULL)
         return;
-    arrivals->file = strcmp(options->arrivals, "-") == 0 ? stdin : fopen(options->arrivals, "r");
-    if (arrivals->file == NULL)
-        quit(NO_FILE, "%s: %s", options->arrivals, strerror(errno));
+    arrivals->file = file_open(options->arrivals);
+    arrivals->is_terminal = isatty(fileno(arrivals->file));
     /* so that what has come in can be asked for */
     setvbuf(arrivals->file, NULL, _IONBF, 0);
 }
@@ -93,39 +96,59 @@ static void complain(const struct arrivals *a, const char *why)
 
 static int take_line(struct arrivals *a, const char *line)
 {
-    unsigned long steps = 0;
+    char digits[DIGITS_ROOM] = "0";
+    unsigned long steps;
     const char *rest;
     int used = 0;
 
     if (!take_pair(line, a->name, a->value, &rest))
         return 0;
-    if (sscanf(rest, "@ %9lu %n", &steps, &used) == 1)
+    if (sscanf(rest, "@ %10[0-9] %n", digits, &used) == 1)
         rest += used;
+    steps = strtoul(digits, NULL, 10);
     a->steps = (uint32_t)steps;
-    return *rest == '\0';
+    return *rest == '\0' && steps <= UINT32_MAX;
 }
 
+/* A read is ended by a stop too, and from a terminal that goes away there is nothing more to come: the run can still be saved. */
 static void no_more(struct arrivals *a)
 {
-    if (ferror(a->file) && errno != EINTR)
+    if (ferror(a->file) && errno != EINTR && !(errno == EIO && a->is_terminal))
         quit(NO_FILE, "%s: %s", a->path, strerror(errno));
     if (a->file != stdin)
         fclose(a->file);
     a->file = NULL;
 }
 
+/* The next line without its end; one that is too long or has a byte 0, and is no comment, comes as `?`, which is no arrival. */
+static int get_line(struct arrivals *a, char *line)
+{
+    size_t length = 0;
+    int byte, odd = 0;
+
+    while ((byte = fgetc(a->file)) != EOF && byte != '\n') {
+        odd |= byte == 0 || length == LINE_MOST;
+        line[length] = (char)byte;
+        length += length < LINE_MOST;
+    }
+    line[length] = '\0';
+    if (odd && line[strspn(line, " \t")] != '#')
+        strcpy(line, "?");
+    return byte != EOF || (length > 0 && !ferror(a->file));
+}
+
 /* Reads on until an arrival is pending or none is left, or none has come where that is not waited for. */
 static void look_ahead(struct arrivals *a, int wait)
 {
-    char line[2 * ARRIVAL_ROOM];
+    char line[LINE_MOST + 1];
 
     while (!a->pending && a->file != NULL && (wait || has_come(a))) {
-        if (fgets(line, sizeof line, a->file) == NULL) {
+        if (!get_line(a, line)) {
             no_more(a);
             return;
         }
         a->line++;
-        if (line[strspn(line, " \t\r\n")] == '\0' || line[strspn(line, " \t")] == '#')
+        if (line[strspn(line, " \t\r")] == '\0' || line[strspn(line, " \t")] == '#')
             continue;
         a->pending = take_line(a, line);
         if (!a->pending)

@@ -15,6 +15,7 @@ struct arrivals {
     const char *path;
     unsigned long line;
     int strict;  /* a line that is no good ends the tool */
+    int is_terminal; /* which may go away while the run goes on */
     int pending; /* an arrival has been read and has not come in */
     char name[ARRIVAL_ROOM], value[ARRIVAL_ROOM];
     uint32_t steps; /* not before so many */

@@ -4,6 +4,8 @@
 #include "program.h"
 
 #include "items.h"
+#include "list.h"
+#include "outputs.h"
 
 #include <stdio.h>
 #include <string.h>
@@ -73,35 +75,39 @@ enum status command_check(const struct options *options)
 
 /* ---- compile and print ---- */
 
+/*
+ * The list is renamed before the image, and has the image's mark: killed between the two, the tool leaves an old image and a
+ * list that is refused with it. The other way round an old list made by hand, which has no mark, would pass for that of the
+ * new image.
+ */
 enum status command_compile(const struct options *options)
 {
     static struct plan plan;
+    struct output outputs[2] = { { options->names, &plan.names }, { options->out, &plan.image } };
 
+    if (options->out == NULL)
+        quit(USAGE, "compile: -o FILE says where the image goes");
+    if (options->names != NULL && strcmp(options->names, "-") == 0 && strcmp(options->out, "-") == 0)
+        quit(USAGE, "-o and --names: standard output cannot be both");
+    output_test(options->names);
+    output_test(options->out);
     plan_need(&plan, options->words[0], NULL);
     if (!plan.is_text)
         quit(PLAN_REFUSED, "%s: is an image already", options->words[0]);
-    if (options->out == NULL)
-        quit(USAGE, "compile: -o FILE says where the image goes");
-    /* the names first: an image whose names are not there yet is worse than names without their image */
-    if (options->names != NULL)
-        file_write(options->names, &plan.names);
-    file_write(options->out, &plan.image);
+    list_mark(&plan);
+    outputs_write(outputs, 2);
     return DONE;
 }
 
 enum status command_print(const struct options *options)
 {
     static struct bytes text;
-    char words[WORDS_ROOM];
     static struct plan plan;
-    uint64_t answer;
+    struct output output = { options->out != NULL ? options->out : "-", &text };
 
+    output_test(options->out);
     plan_need(&plan, options->words[0], options->names);
-    answer = plan_print(&plan, &text);
-    if (rissobarm_refusal(answer) != RISSOBARM_ACCEPTED) {
-        plan_words(&plan, answer, words);
-        quit(PLAN_REFUSED, "%s: %s", options->words[0], words);
-    }
-    file_write(options->out != NULL ? options->out : "-", &text);
+    plan_hold(&plan, plan_print(&plan, &text), options->words[0]);
+    outputs_write(&output, 1);
     return DONE;
 }

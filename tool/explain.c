@@ -167,8 +167,7 @@ enum status command_why(const struct options *options)
     uint32_t process = number_from("why", options->words[0], 0, 4294967295u);
 
     session_open(&session, options->words[1], options->names);
-    if (!session.run_is_saved || options->supply_count > 0 || options->arrivals != NULL)
-        run_to_end(&session, options);
+    run_to_show(&session, options);
     if (process >= rissobarm_plan_processes(&session.run))
         quit(NO_PROCESS, "there is no process %s: %s", grouped(process),
              counted(rissobarm_plan_processes(&session.run), "process has been made", "processes have been made"));

@@ -1,9 +1,10 @@
-/* Whole files: read at once, written beside and renamed. */
+/* Whole files, read at once. */
 #ifndef TOOL_FILES_H
 #define TOOL_FILES_H
 
 #include <stddef.h>
 #include <stdint.h>
+#include <stdio.h>
 
 /* Bytes with their length; there is always a byte of room at least, so that the pointer is none of null. */
 struct bytes {
@@ -15,13 +16,10 @@ struct bytes {
 /* Puts bytes behind the others. */
 void bytes_add(struct bytes *bytes, const void *more, size_t count);
 
+/* A file to be read, "-" being standard input, which is one file alone; ends the tool where it cannot be had. */
+FILE *file_open(const char *path);
+
 /* All bytes of a file, "-" being standard input; ends the tool where that cannot be had. */
 struct bytes file_read(const char *path);
-
-/*
- * Writes a file, "-" being standard output. The bytes go into a file beside it, which is renamed once they are on the disk:
- * whatever happens, the path leads to the old bytes or to the new ones, whole. Ends the tool where that cannot be done.
- */
-void file_write(const char *path, const struct bytes *bytes);
 
 #endif

@@ -1,8 +1,10 @@
-/* rissobarm: plans, runs and traces of the PARLOG process machine from the command line. */
+/* rissobarm: plans, runs and traces of the PARLOG process machine from the command line. SIGXFSZ is POSIX, not C99. */
+#define _POSIX_C_SOURCE 200809L
 #include "commands.h"
 
 #include "rissobarm_plan.h"
 
+#include <signal.h>
 #include <stdio.h>
 #include <string.h>
 
@@ -10,30 +12,34 @@ struct command {
     const char *name;
     unsigned words; /* how many stand behind it */
     const char *usage;
+    const char *options; /* that it takes */
     enum status (*run)(const struct options *options);
 };
 
+#define RUNS "--supply --arrivals --strict --steps --slice --progress --json"
+
 static const struct command commands[] = {
-    { "check", 1, "check PLAN [--names FILE]", command_check },
-    { "compile", 1, "compile TEXT -o IMAGE [--names FILE]", command_compile },
-    { "print", 1, "print IMAGE [--names FILE] [-o TEXT]", command_print },
+    { "check", 1, "check PLAN [--names FILE]", "--names --json", command_check },
+    { "compile", 1, "compile TEXT -o IMAGE [--names FILE]", "-o --names --json", command_compile },
+    { "print", 1, "print IMAGE [--names FILE] [-o TEXT]", "-o --names --json", command_print },
     { "run", 1,
       "run PLAN [--names FILE] [--supply NAME=VALUE].. [--arrivals FILE] [--steps N] [--slice N] [--save FILE] "
       "[--trace FILE]",
-      command_run },
-    { "resume", 1, "resume SAVED [--plan PLAN] and as run", command_resume },
-    { "replay", 2, "replay PLAN|SAVED TRACE [--save FILE]", command_replay },
-    { "show", 1, "show PLAN|SAVED [--all] [--dot] and, for a plan, as run", command_show },
-    { "why", 2, "why PROCESS PLAN|SAVED and, for a plan, as run", command_why },
+      "--names --save --trace " RUNS, command_run },
+    { "resume", 1, "resume SAVED [--plan PLAN] and as run", "--plan --names --save --trace " RUNS, command_resume },
+    { "replay", 2, "replay PLAN|SAVED TRACE [--names FILE] [--save FILE]", "--names --save --json", command_replay },
+    { "show", 1, "show PLAN|SAVED [--all] [--dot] and as run, without --save and --trace", "--names --all --dot " RUNS,
+      command_show },
+    { "why", 2, "why PROCESS PLAN|SAVED and as run, without --save and --trace", "--names " RUNS, command_why },
 };
 
 static const char *const statuses[] = {
     "done; of a run: the goal has succeeded",
     "the goal has failed",
-    "the run waits, and no arrival is left",
+    "the run waits, and no arrival is left or a stop came",
     "a move needs more rows than a run has",
-    "the steps that were allowed are made",
-    "the plan is refused",
+    "the steps that were allowed are made, or a stop came before",
+    "the plan or its list of names is refused",
     "the saved run is refused, or is of another plan",
     "the trace is refused, or disagrees",
     "a value or a variable is refused",
@@ -58,25 +64,35 @@ static enum status help(void)
     return DONE;
 }
 
-int main(int count, char **words)
+static enum status carry_out(const struct command *command, int count, char **words)
 {
     struct options options;
-    unsigned k;
 
-    options_read(&options, count, words);
-    if (strcmp(options.command, "help") == 0 || strcmp(options.command, "--help") == 0)
+    options_read(&options, command->options, count, words);
+    if (options.word_count != command->words)
+        quit(USAGE, "usage: rissobarm %s", command->usage);
+    return command->run(&options);
+}
+
+int main(int count, char **words)
+{
+    const char *name = count > 1 ? words[1] : "help";
+    int k;
+
+    /* past a limit of the shell, a write is to fail and not to end the tool */
+    signal(SIGXFSZ, SIG_IGN);
+    /* first, so that every complaint is JSON where it is asked for */
+    for (k = 1; k < count; k++)
+        say_json |= strcmp(words[k], "--json") == 0;
+    if (strcmp(name, "help") == 0 || strcmp(name, "--help") == 0)
         return finish(help());
-    if (strcmp(options.command, "--version") == 0) {
+    if (strcmp(name, "--version") == 0) {
         printf("rissobarm %s\n", RISSOBARM_VERSION);
         return finish(DONE);
     }
-    for (k = 0; k < COMMANDS; k++) {
-        if (strcmp(commands[k].name, options.command) != 0)
-            continue;
-        if (options.word_count != commands[k].words)
-            quit(USAGE, "usage: rissobarm %s", commands[k].usage);
-        return finish(commands[k].run(&options));
-    }
-    quit(USAGE, "%s: no such command; rissobarm help", options.command);
+    for (k = 0; k < COMMANDS; k++)
+        if (strcmp(commands[k].name, name) == 0)
+            return finish(carry_out(&commands[k], count, words));
+    quit(USAGE, "%s: no such command; rissobarm help", name);
     return USAGE;
 }

@@ -8,7 +8,8 @@
 #include <stdlib.h>
 #include <string.h>
 
-enum { TERM_MOST = 4384 + 64 };
+/* Room for a text at first, and at most: a list may have names of any length. */
+enum { TEXT_ROOM = 1 << 16, TEXT_MOST = 1 << 30 };
 
 /* ---- the list ---- */
 
@@ -41,6 +42,18 @@ static size_t entries(const struct plan *plan)
     return count;
 }
 
+/* The number of the first entry with this name, from an entry on; -1 where there is none. */
+static long find_entry(const struct plan *plan, size_t from, const char *name)
+{
+    const char *at = (const char *)plan->names.at, *end = at + plan->names.length, *stop;
+    size_t length = strlen(name), k;
+
+    for (k = 0; at < end && (stop = (const char *)memchr(at, 10, (size_t)(end - at))) != NULL; at = stop + 1, k++)
+        if (k >= from && (size_t)(stop - at) == length && memcmp(at, name, length) == 0)
+            return (long)k;
+    return -1;
+}
+
 /* The name, cut where it is longer than the room; or the number behind these letters. */
 static void name_of(struct word word, const char *letters, unsigned number, char *name)
 {
@@ -62,10 +75,11 @@ void name_constant(const struct plan *plan, unsigned constant, char *name)
 
 long find_constant(struct plan *plan, const char *name)
 {
-    size_t count = entries(plan), k;
+    size_t count = entries(plan);
     char *end;
     unsigned long number;
     const char *c;
+    long found;
 
     if (isdigit((unsigned char)name[0])) {
         number = strtoul(name, &end, 10);
@@ -76,9 +90,9 @@ long find_constant(struct plan *plan, const char *name)
             return -1;
     if (!islower((unsigned char)name[0]) || count < plan->relations || (count == 0 && !plan->is_text))
         return -1;
-    for (k = plan->relations; k < count; k++)
-        if (entry(plan, k).length == strlen(name) && memcmp(entry(plan, k).at, name, strlen(name)) == 0)
-            return (long)(k - plan->relations);
+    found = find_entry(plan, plan->relations, name);
+    if (found >= 0)
+        return found - (long)plan->relations;
     if (count - plan->relations > RISSOBARM_CONSTANT_LIMIT)
         return -1;
     bytes_add(&plan->names, name, strlen(name));
@@ -142,27 +156,17 @@ static struct bytes made_up(const struct plan *plan)
     return list;
 }
 
-static size_t longest_name(const struct bytes *list)
-{
-    size_t longest = 0, length = 0, k;
-
-    for (k = 0; k < list->length; k++) {
-        length = list->at[k] == 10 ? 0 : length + 1;
-        longest = length > longest ? length : longest;
-    }
-    return longest;
-}
-
 uint64_t plan_print(const struct plan *plan, struct bytes *text)
 {
     struct bytes list = plan->names.length > 0 ? plan->names : made_up(plan);
-    uint64_t answer;
+    uint64_t answer = RISSOBARM_ROOM;
 
-    text->room = 4 * RISSOBARM_TEXT_IMAGE + TERM_MOST * (longest_name(&list) + 4);
-    text->at = (uint8_t *)realloc(text->at, text->room);
-    if (text->at == NULL)
-        quit(NO_FILE, "no memory is left");
-    answer = rissobarm_print(plan->image.at, plan->image.length, list.at, list.length, text->at, text->room);
+    for (text->room = TEXT_ROOM; rissobarm_refusal(answer) == RISSOBARM_ROOM && text->room <= TEXT_MOST; text->room *= 2) {
+        text->at = (uint8_t *)realloc(text->at, text->room);
+        if (text->at == NULL)
+            quit(NO_FILE, "no memory is left");
+        answer = rissobarm_print(plan->image.at, plan->image.length, list.at, list.length, text->at, text->room);
+    }
     text->length = rissobarm_refusal(answer) == RISSOBARM_ACCEPTED ? rissobarm_printed(answer) : 0;
     if (list.at != plan->names.at)
         free(list.at);

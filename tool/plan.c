@@ -2,6 +2,7 @@
 #include "plan.h"
 
 #include "items.h"
+#include "list.h"
 #include "say.h"
 
 #include <stdio.h>
@@ -12,6 +13,11 @@
 static int looks_like_image(const struct bytes *bytes)
 {
     return bytes->length > 0 && memchr(bytes->at, 0, bytes->length) != NULL;
+}
+
+int is_saved(const struct bytes *bytes)
+{
+    return bytes->length >= sizeof SAVED_LINE - 1 && memcmp(bytes->at, SAVED_LINE, sizeof SAVED_LINE - 1) == 0;
 }
 
 /* ---- reading ---- */
@@ -35,39 +41,17 @@ static uint64_t read_text(struct plan *plan)
     return answer;
 }
 
-/* An image, and its list of names tried by printing: what lacks a name in use is refused. */
-static uint64_t read_image(struct plan *plan, const char *names_path)
+static uint64_t read_image(struct plan *plan)
 {
-    struct bytes printed = { NULL, 0, 0 };
-    uint64_t answer;
-
     bytes_add(&plan->text, "", 0);
-    if (names_path == NULL) {
-        bytes_add(&plan->names, "", 0);
-        return 0;
-    }
-    plan->names = file_read(names_path);
-    answer = plan_print(plan, &printed);
-    free(printed.at);
-    return answer;
+    bytes_add(&plan->names, "", 0);
+    return RISSOBARM_ACCEPTED;
 }
 
-uint64_t plan_read(struct plan *plan, const char *path, const char *names_path)
+static uint64_t load(struct plan *plan)
 {
-    struct bytes read = file_read(path);
-    uint64_t answer;
+    uint64_t answer = rissobarm_load(plan->image.at, plan->image.length);
 
-    memset(plan, 0, sizeof *plan);
-    plan->is_text = !looks_like_image(&read);
-    if (plan->is_text) {
-        plan->text = read;
-        answer = read_text(plan);
-    } else {
-        plan->image = read;
-        answer = read_image(plan, names_path);
-    }
-    if (rissobarm_refusal(answer) == RISSOBARM_ACCEPTED)
-        answer = rissobarm_load(plan->image.at, plan->image.length);
     if (rissobarm_refusal(answer) == RISSOBARM_ACCEPTED) {
         plan->relations = rissobarm_relations(answer);
         plan->clauses = rissobarm_clauses(answer);
@@ -75,15 +59,56 @@ uint64_t plan_read(struct plan *plan, const char *path, const char *names_path)
     return answer;
 }
 
-void plan_need(struct plan *plan, const char *path, const char *names_path)
+/* The list of names of an accepted image. One that is refused has the number that a print has for it. */
+static uint64_t read_list(struct plan *plan, const char *path)
+{
+    free(plan->names.at);
+    plan->names = file_read(path);
+    return list_take(plan, path) ? RISSOBARM_ACCEPTED : RISSOBARM_UNDECLARED;
+}
+
+uint64_t plan_take(struct plan *plan, struct bytes read, const char *path, const char *names_path)
+{
+    uint64_t answer;
+
+    memset(plan, 0, sizeof *plan);
+    plan->is_text = !looks_like_image(&read);
+    if (plan->is_text && names_path != NULL)
+        quit(USAGE, "--names: %s is text, which has names of its own", path);
+    if (plan->is_text)
+        plan->text = read;
+    else
+        plan->image = read;
+    answer = plan->is_text ? read_text(plan) : read_image(plan);
+    if (rissobarm_refusal(answer) == RISSOBARM_ACCEPTED)
+        answer = load(plan);
+    if (rissobarm_refusal(answer) == RISSOBARM_ACCEPTED && names_path != NULL)
+        answer = read_list(plan, names_path);
+    return answer;
+}
+
+uint64_t plan_read(struct plan *plan, const char *path, const char *names_path)
+{
+    struct bytes read = file_read(path);
+
+    if (is_saved(&read))
+        quit(PLAN_REFUSED, "%s: is a saved run, not a plan", path);
+    return plan_take(plan, read, path, names_path);
+}
+
+void plan_hold(const struct plan *plan, uint64_t answer, const char *path)
 {
     char words[WORDS_ROOM];
-    uint64_t answer = plan_read(plan, path, names_path);
 
     if (rissobarm_refusal(answer) == RISSOBARM_ACCEPTED)
         return;
     plan_words(plan, answer, words);
     quit(PLAN_REFUSED, "%s: %s", path, words);
+}
+
+void plan_need(struct plan *plan, const char *path, const char *names_path)
+{
+    plan_hold(plan, plan_read(plan, path, names_path), path);
 }
 
 /* ---- refusals of a text ---- */
@@ -238,6 +263,8 @@ void plan_words(const struct plan *plan, uint64_t answer, char *words)
 
     if (plan->is_text)
         text_words(plan, answer, words);
+    else if (plan->list_wrong[0] != '\0')
+        snprintf(words, WORDS_ROOM, "%s (refused %u, %s)", plan->list_wrong, refusal, refusal_name(refusal));
     else if (refusal > RISSOBARM_NOGOAL || refusal == RISSOBARM_LONG)
         snprintf(words, WORDS_ROOM, "refused %u (%s)", refusal, rissobarm_refusal_text(refusal));
     else

@@ -8,6 +8,8 @@
 #include <stddef.h>
 #include <stdint.h>
 
+enum { WORDS_ROOM = 1024, LIST_WORDS = 512, NAME_ROOM = 128 };
+
 struct plan {
     struct bytes image;
     struct bytes names;
@@ -15,17 +17,28 @@ struct plan {
     unsigned relations;
     unsigned clauses;
     int is_text;
+    char list_wrong[LIST_WORDS]; /* why its list of names is refused; empty where it is not */
 };
 
-enum { WORDS_ROOM = 1024, NAME_ROOM = 128 };
+/* The line that a saved run begins with, which no plan does. */
+#define SAVED_LINE "rissobarm run 1\n"
+
+/* Whether these bytes begin so. */
+int is_saved(const struct bytes *bytes);
 
 /*
- * Reads a plan, image or text, with a list of names for an image (NULL for none), and answers the word of the call that
- * tested it.
+ * Takes the bytes of a file for a plan, image or text, with a list of names for an image (NULL for none), and answers the word
+ * of the call that tested it.
  */
+uint64_t plan_take(struct plan *plan, struct bytes read, const char *path, const char *names_path);
+
+/* Reads the file first. */
 uint64_t plan_read(struct plan *plan, const char *path, const char *names_path);
 
-/* The same, but ends the tool where the plan is refused. */
+/* Ends the tool where the answer is a refusal. */
+void plan_hold(const struct plan *plan, uint64_t answer, const char *path);
+
+/* Reads a plan, and ends the tool where it is refused. */
 void plan_need(struct plan *plan, const char *path, const char *names_path);
 
 /* Why a plan was refused, in words, with line and column of a text or the record of an image; writes at most WORDS_ROOM bytes. */

@@ -1,5 +1,6 @@
 /* replay: a trace on its plan, or on the saved run that it began at. */
 #include "commands.h"
+#include "outputs.h"
 #include "session.h"
 #include "tell.h"
 #include "words.h"
@@ -70,23 +71,55 @@ static unsigned end_now(const struct session *session)
     return rissobarm_end(rissobarm_plan_run(&copy, 0));
 }
 
+/*
+ * Whether a trace begins where the run stands, by the stamp of its first record. A saved run knows its stamp, so that a trace
+ * of other moves is refused, even one that could be played. On a plan a trace of another program may begin at any stamp:
+ * that is told.
+ */
+static void test_stamp(const struct session *session, const struct bytes *trace, const char *path)
+{
+    unsigned first = trace->length > 0 ? rissobarm_word_at(trace->at + RISSOBARM_TRACE_STAMP) : session->stamp;
+
+    if (first == session->stamp)
+        return;
+    if (session->run_is_saved)
+        quit(TRACE_REFUSED, "%s: record 1 has the stamp %s, and the saved run goes on with %s: the trace did not begin there",
+             path, grouped(first), grouped(session->stamp));
+    warn("%s: record 1 has the stamp %s, not 0: where the tool records, that is no start of a plan", path, grouped(first));
+}
+
+/* Plays the trace; ends the tool where its records are no good, do not begin here or disagree. */
+static void play(struct session *session, const struct bytes *trace, const char *path)
+{
+    uint64_t answer = rissobarm_replay(RISSOBARM_PLAN_LENT(&session->run), trace->at, trace->length);
+    unsigned refusal = rissobarm_refusal(answer);
+
+    if (refusal == RISSOBARM_ACCEPTED || refusal == RISSOBARM_DISAGREES)
+        test_stamp(session, trace, path);
+    if (refusal != RISSOBARM_ACCEPTED)
+        tell_refused(session, trace, path, answer);
+    if (!say_json)
+        printf("%s: %s played, and all agree\n", path, counted(answer >> 32, "record", "records"));
+    if (trace->length > 0)
+        session->stamp = (uint16_t)(rissobarm_word_at(trace->at + trace->length - TRACE_RECORD + RISSOBARM_TRACE_STAMP) + 1);
+}
+
 enum status command_replay(const struct options *options)
 {
     static struct session session;
-    static struct bytes trace;
-    uint64_t answer;
+    static struct bytes trace, saved;
+    struct output output = { options->save, &saved };
 
+    output_test(options->save);
     session_open(&session, options->words[0], options->names);
+    if (options->save != NULL && (is_same_file(options->save, options->words[1]) ||
+                                  (!session.run_is_saved && is_same_file(options->save, options->words[0]))))
+        quit(USAGE, "%s: would be written over", options->save);
     trace = file_read(options->words[1]);
-    answer = rissobarm_replay(RISSOBARM_PLAN_LENT(&session.run), trace.at, trace.length);
-    if (rissobarm_refusal(answer) != RISSOBARM_ACCEPTED)
-        tell_refused(&session, &trace, options->words[1], answer);
-    if (!say_json)
-        printf("%s: %s played, and all agree\n", options->words[1], counted(answer >> 32, "record", "records"));
-    if (trace.length > 0)
-        session.stamp = (uint16_t)(rissobarm_word_at(trace.at + trace.length - TRACE_RECORD + RISSOBARM_TRACE_STAMP) + 1);
+    play(&session, &trace, options->words[1]);
     if (options->save != NULL)
-        session_save(&session, options->save);
+        saved = session_bytes(&session);
+    outputs_write(&output, 1);
     tell_run(&session, end_now(&session));
     return DONE;
 }

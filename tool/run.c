@@ -2,12 +2,14 @@
 #define _POSIX_C_SOURCE 200809L
 #include "arrivals.h"
 #include "commands.h"
+#include "outputs.h"
 #include "run.h"
 #include "session.h"
+#include "stops.h"
 #include "tell.h"
 
-#include <signal.h>
 #include <stdio.h>
+#include <stdlib.h>
 #include <time.h>
 #include <unistd.h>
 
@@ -19,16 +21,12 @@ static void stop(int number)
     stopped = 1;
 }
 
-/* A stop from keyboard or system ends the run behind its slice, so that it can still be saved; a second one ends the tool. */
+/* A stop ends the run behind its slice, so that it can still be saved; a second one of its sort ends the tool. */
 static void hear_stop(void)
 {
-    struct sigaction action;
+    struct sigaction before[STOPS];
 
-    action.sa_handler = stop;
-    action.sa_flags = (int)SA_RESETHAND;
-    sigemptyset(&action.sa_mask);
-    sigaction(SIGINT, &action, NULL);
-    sigaction(SIGTERM, &action, NULL);
+    stops_hear(stop, (int)SA_RESETHAND, before);
 }
 
 /* ---- the line that shows how far a long run is ---- */
@@ -106,19 +104,36 @@ unsigned run_to_end(struct session *session, const struct options *options)
     return end;
 }
 
+void run_to_show(struct session *session, const struct options *options)
+{
+    if (!session->run_is_saved || options->supply_count > 0 || options->arrivals != NULL || options->has_steps)
+        run_to_end(session, options);
+}
+
 /* ---- commands ---- */
 
-/* The trace before the run: a run that is saved has its trace, should one of the two fail. */
+/*
+ * The trace is renamed before the run: killed between the two, the tool leaves a run that has not moved and a trace that begins
+ * there. The other way round the moves between two saved runs would be lost.
+ */
+static void write_run(const struct session *session, const struct options *options)
+{
+    struct bytes saved = { NULL, 0, 0 };
+    struct output outputs[2] = { { options->trace, &session->trace }, { options->save, &saved } };
+
+    if (options->save != NULL)
+        saved = session_bytes(session);
+    outputs_write(outputs, 2);
+    free(saved.at);
+}
+
 static enum status run_and_tell(struct session *session, const struct options *options)
 {
     unsigned end;
 
     session->traced = options->trace != NULL;
     end = run_to_end(session, options);
-    if (options->trace != NULL)
-        file_write(options->trace, &session->trace);
-    if (options->save != NULL)
-        session_save(session, options->save);
+    write_run(session, options);
     tell_run(session, end);
     return status_of(end);
 }
@@ -127,6 +142,8 @@ enum status command_run(const struct options *options)
 {
     static struct session session;
 
+    output_test(options->trace);
+    output_test(options->save);
     plan_need(&session.plan, options->words[0], options->names);
     session_start(&session);
     return run_and_tell(&session, options);
@@ -136,6 +153,10 @@ enum status command_resume(const struct options *options)
 {
     static struct session session;
 
+    if (options->names != NULL && options->plan == NULL)
+        quit(USAGE, "--names: a saved run has names of its own; they are those of --plan");
+    output_test(options->trace);
+    output_test(options->save);
     session_load(&session, options->words[0]);
     if (options->plan != NULL)
         session_same_plan(&session, options->words[0], options->plan, options->names);

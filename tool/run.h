@@ -11,4 +11,7 @@
  */
 unsigned run_to_end(struct session *session, const struct options *options);
 
+/* The same before a run is shown; a saved one that is given nothing is shown as it stands. */
+void run_to_show(struct session *session, const struct options *options);
+
 #endif

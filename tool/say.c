@@ -59,18 +59,38 @@ int finish(enum status status)
 
 /* ---- JSON ---- */
 
+/* How many bytes the character has that begins here, by UTF-8; 0 where none does, or it is one of ASCII. */
+static unsigned wide_length(const unsigned char *at)
+{
+    unsigned length = at[0] < 0xc2 ? 0 : at[0] < 0xe0 ? 2 : at[0] < 0xf0 ? 3 : at[0] < 0xf5 ? 4 : 0, k;
+
+    for (k = 1; k < length; k++)
+        if (at[k] < 0x80 || at[k] > 0xbf)
+            return 0;
+    /* longer than it need be, half of a pair, past the last character */
+    if ((at[0] == 0xe0 && at[1] < 0xa0) || (at[0] == 0xed && at[1] > 0x9f) || (at[0] == 0xf0 && at[1] < 0x90) ||
+        (at[0] == 0xf4 && at[1] > 0x8f))
+        return 0;
+    return length;
+}
+
+/* A byte that is no part of a character, as names of files may have it, is written as the character of its number. */
 static void json_string(const char *text)
 {
-    putchar('"');
-    for (; *text != '\0'; text++) {
-        unsigned char byte = (unsigned char)*text;
+    const unsigned char *at = (const unsigned char *)text;
+    unsigned wide;
 
-        if (byte == '"' || byte == '\\')
-            printf("\\%c", byte);
-        else if (byte < 32 || byte > 126)
-            printf("\\u%04x", byte);
+    putchar('"');
+    for (; *at != '\0'; at += wide > 0 ? wide : 1) {
+        wide = wide_length(at);
+        if (wide > 0)
+            fwrite(at, 1, wide, stdout);
+        else if (*at == '"' || *at == '\\')
+            printf("\\%c", *at);
+        else if (*at < 32 || *at > 126)
+            printf("\\u%04x", *at);
         else
-            putchar(byte);
+            putchar(*at);
     }
     putchar('"');
 }

@@ -8,14 +8,14 @@
 #include <stddef.h>
 #include <stdint.h>
 
-/* With what the tool ends. docs/PLANS.md, the manual and the help have this table. */
+/* With what the tool ends. The manual and the help have this table. */
 enum status {
     DONE = 0,          /* done; of a run: the goal has succeeded */
     FAILED = 1,        /* the goal has failed */
-    WAITS = 2,         /* the run waits, and no arrival is left */
+    WAITS = 2,         /* the run waits, and no arrival is left or a stop came */
     NO_ROOM = 3,       /* a move needs more rows than a run has */
-    STEPS_USED = 4,    /* the steps that were allowed are made */
-    PLAN_REFUSED = 5,  /* the plan is refused */
+    STEPS_USED = 4,    /* the steps that were allowed are made, or a stop came before */
+    PLAN_REFUSED = 5,  /* the plan or its list of names is refused */
     RUN_REFUSED = 6,   /* the saved run is refused, or is of another plan */
     TRACE_REFUSED = 7, /* the trace is refused, or disagrees */
     VALUE_REFUSED = 8, /* a value or a variable is refused */

@@ -1,6 +1,7 @@
 /* A run in the tool: begun, moved, saved and taken up again. */
 #include "session.h"
 
+#include "list.h"
 #include "say.h"
 
 #include <stdio.h>
@@ -8,8 +9,6 @@
 #include <string.h>
 
 enum { PART_LINE = 64 };
-
-static const char first_line[] = "rissobarm run 1\n";
 
 /* ---- moving ---- */
 
@@ -68,7 +67,7 @@ static void add_part(struct bytes *file, const char *name, const void *bytes, si
     bytes_add(file, "\n", 1);
 }
 
-void session_save(const struct session *session, const char *path)
+struct bytes session_bytes(const struct session *session)
 {
     static uint8_t saved[RISSOBARM_SAVED_SIZE];
     struct bytes file = { NULL, 0, 0 };
@@ -77,22 +76,16 @@ void session_save(const struct session *session, const char *path)
 
     if (rissobarm_refusal(answer) != RISSOBARM_ACCEPTED)
         quit(RUN_REFUSED, "the run is not saved: %s", rissobarm_refusal_text(rissobarm_refusal(answer)));
-    bytes_add(&file, first_line, sizeof first_line - 1);
+    bytes_add(&file, SAVED_LINE, sizeof SAVED_LINE - 1);
     add_part(&file, "image", session->plan.image.at, session->plan.image.length);
     add_part(&file, "names", session->plan.names.at, session->plan.names.length);
     add_part(&file, "text", session->plan.text.at, session->plan.text.length);
     add_part(&file, "stamp", stamp, (size_t)sprintf(stamp, "%u", session->stamp));
     add_part(&file, "run", saved, rissobarm_saved(answer));
-    file_write(path, &file);
-    free(file.at);
+    return file;
 }
 
 /* ---- taking up ---- */
-
-int is_saved(const struct bytes *bytes)
-{
-    return bytes->length >= sizeof first_line - 1 && memcmp(bytes->at, first_line, sizeof first_line - 1) == 0;
-}
 
 /* The part of this name at a place, which moves behind it; ends the tool where it is not there, whole. */
 static struct bytes take_part(const struct bytes *file, size_t *at, const char *name, const char *path)
@@ -114,6 +107,19 @@ static struct bytes take_part(const struct bytes *file, size_t *at, const char *
     bytes_add(&part, file->at + *at, length);
     *at += length + 1;
     return part;
+}
+
+/* The machine's own tests of the image; those of the run make them once more, and could not tell whose they are. */
+static void take_image(struct plan *plan, const char *path)
+{
+    uint64_t loaded = rissobarm_load(plan->image.at, plan->image.length);
+    unsigned refusal = rissobarm_refusal(loaded);
+
+    if (refusal != RISSOBARM_ACCEPTED)
+        quit(RUN_REFUSED, "%s: the saved run is refused %u at byte %s of the part `image` (%s)", path, refusal,
+             grouped(rissobarm_offset(loaded)), rissobarm_refusal_text(refusal));
+    plan->relations = rissobarm_relations(loaded);
+    plan->clauses = rissobarm_clauses(loaded);
 }
 
 /* The machine's own tests of the run. */
@@ -146,51 +152,59 @@ static uint16_t stamp_of(struct bytes *stamp, const char *path)
     return (uint16_t)number;
 }
 
-void session_load(struct session *session, const char *path)
+/* Names that are told must be such: a part that was changed by hand is none. A plan without a list has none. */
+static void test_names(struct session *session, const char *path)
 {
-    struct bytes file = file_read(path), stamp, saved;
-    size_t at = sizeof first_line - 1;
-    uint64_t loaded;
+    if (session->plan.names.length > 0 && !list_test(&session->plan))
+        quit(RUN_REFUSED, "%s: no saved run: the part `names`, %s", path, session->plan.list_wrong);
+}
 
-    if (!is_saved(&file))
-        quit(RUN_REFUSED, "%s: no saved run", path);
-    session->plan.image = take_part(&file, &at, "image", path);
-    session->plan.names = take_part(&file, &at, "names", path);
-    session->plan.text = take_part(&file, &at, "text", path);
-    stamp = take_part(&file, &at, "stamp", path);
-    saved = take_part(&file, &at, "run", path);
+static void take_saved(struct session *session, struct bytes *file, const char *path)
+{
+    struct bytes stamp, saved;
+    size_t at = sizeof SAVED_LINE - 1;
+
+    session->plan.image = take_part(file, &at, "image", path);
+    session->plan.names = take_part(file, &at, "names", path);
+    session->plan.text = take_part(file, &at, "text", path);
+    stamp = take_part(file, &at, "stamp", path);
+    saved = take_part(file, &at, "run", path);
+    if (at != file->length)
+        quit(RUN_REFUSED, "%s: no saved run: %s behind the part `run`", path,
+             counted(file->length - at, "byte stands", "bytes stand"));
     session->run_is_saved = 1;
     session->plan.is_text = session->plan.text.length > 0;
     session->stamp = stamp_of(&stamp, path);
+    take_image(&session->plan, path);
     take_up(session, &saved, path);
-    loaded = rissobarm_load(session->plan.image.at, session->plan.image.length);
-    session->plan.relations = rissobarm_relations(loaded);
-    session->plan.clauses = rissobarm_clauses(loaded);
+    test_names(session, path);
     bytes_add(&session->trace, "", 0);
     program_read(&session->program, &session->plan.image);
-    free(file.at);
+    free(file->at);
     free(stamp.at);
     free(saved.at);
 }
 
+void session_load(struct session *session, const char *path)
+{
+    struct bytes file = file_read(path);
+
+    if (!is_saved(&file))
+        quit(RUN_REFUSED, "%s: no saved run", path);
+    take_saved(session, &file, path);
+}
+
 void session_open(struct session *session, const char *path, const char *names_path)
 {
-    struct bytes file;
-    int saved;
+    struct bytes file = file_read(path);
 
-    if (strcmp(path, "-") == 0) {
-        plan_need(&session->plan, path, names_path);
-        session_start(session);
+    if (is_saved(&file)) {
+        if (names_path != NULL)
+            quit(USAGE, "--names: %s is a saved run, which has names of its own", path);
+        take_saved(session, &file, path);
         return;
     }
-    file = file_read(path);
-    saved = is_saved(&file);
-    free(file.at);
-    if (saved) {
-        session_load(session, path);
-        return;
-    }
-    plan_need(&session->plan, path, names_path);
+    plan_hold(&session->plan, plan_take(&session->plan, file, path, names_path), path);
     session_start(session);
 }
 

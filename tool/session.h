@@ -29,13 +29,10 @@ uint64_t session_supply(struct session *session, unsigned variable, unsigned val
 /* ---- the file of a saved run ---- */
 
 /*
- * Writes the run with its plan into one file, so that the two cannot be parted: a line that says what it is, then parts,
- * each a line with its name and length and then so many bytes. The part `run` is what rissobarm_save gives.
+ * The run with its plan as one file, so that the two cannot be parted: a line that says what it is, then parts, each a line
+ * with its name and length and then so many bytes. The part `run` is what rissobarm_save gives.
  */
-void session_save(const struct session *session, const char *path);
-
-/* Whether these bytes begin as such a file does. */
-int is_saved(const struct bytes *bytes);
+struct bytes session_bytes(const struct session *session);
 
 /* Reads such a file and takes the run up; ends the tool where it is refused. */
 void session_load(struct session *session, const char *path);

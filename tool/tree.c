@@ -135,8 +135,7 @@ enum status command_show(const struct options *options)
     static struct session session;
 
     session_open(&session, options->words[0], options->names);
-    if (!session.run_is_saved || options->supply_count > 0 || options->arrivals != NULL)
-        run_to_end(&session, options);
+    run_to_show(&session, options);
     if (options->json)
         show_json(&session, options);
     else if (options->dot)

@@ -9,14 +9,16 @@
 /* The try-clause whose block a variable is in; 0 where there is none, for process 0 is no try-clause. */
 static unsigned owner_of(const struct session *session, unsigned variable)
 {
-    unsigned p;
+    const struct clause *clause;
+    unsigned p, first;
 
     for (p = 1; p < rissobarm_plan_processes(&session->run); p++) {
-        const struct clause *clause = &session->program.clause[row_byte(session, p, RISSOBARM_ROW_FOUND)];
-        unsigned first = row_word(session, p, RISSOBARM_ROW_FIRST);
-
-        if (row_byte(session, p, RISSOBARM_ROW_TAG) == RISSOBARM_TAG_TRY_CLAUSE && variable >= first &&
-            variable < first + clause->own + clause->outputs)
+        /* other tags may have anything in these fields */
+        if (row_byte(session, p, RISSOBARM_ROW_TAG) != RISSOBARM_TAG_TRY_CLAUSE)
+            continue;
+        clause = &session->program.clause[row_byte(session, p, RISSOBARM_ROW_FOUND)];
+        first = row_word(session, p, RISSOBARM_ROW_FIRST);
+        if (variable >= first && variable < first + clause->own + clause->outputs)
             return p;
     }
     return 0;
@@ -103,13 +105,21 @@ int names_literal(unsigned tag)
     return tag == RISSOBARM_TAG_EQUATE || (tag >= RISSOBARM_TAG_OR_PAR && tag <= RISSOBARM_TAG_INPUT_MATCH);
 }
 
+/* The clause whose guard or body a process names; NULL where that is the goal of the image, and the field may have anything. */
+static const struct clause *clause_of(const struct session *session, unsigned process)
+{
+    if (row_byte(session, process, RISSOBARM_ROW_KIND) == RISSOBARM_GOAL_IMAGE)
+        return NULL;
+    return &session->program.clause[row_byte(session, process, RISSOBARM_ROW_CLAUSE)];
+}
+
 const struct goal *goal_of(const struct session *session, unsigned process)
 {
-    const struct clause *clause = &session->program.clause[row_byte(session, process, RISSOBARM_ROW_CLAUSE)];
+    const struct clause *clause = clause_of(session, process);
 
-    switch (row_byte(session, process, RISSOBARM_ROW_KIND)) {
-    case RISSOBARM_GOAL_IMAGE:
+    if (clause == NULL)
         return &session->program.goal;
+    switch (row_byte(session, process, RISSOBARM_ROW_KIND)) {
     case RISSOBARM_GOAL_GUARD:
         return &clause->guard;
     case RISSOBARM_GOAL_WRITTEN:
@@ -143,7 +153,7 @@ static void clause_words(const struct session *session, unsigned clause, char *w
 /* Whether a process has the output equations of a clause, and beside them its whole body. */
 static int has_both(const struct session *session, unsigned process)
 {
-    const struct clause *clause = &session->program.clause[row_byte(session, process, RISSOBARM_ROW_CLAUSE)];
+    const struct clause *clause = clause_of(session, process);
 
     return row_byte(session, process, RISSOBARM_ROW_KIND) == RISSOBARM_GOAL_BODY && clause->outputs > 0 &&
            clause->written.stages > 1;

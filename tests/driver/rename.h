@@ -42,6 +42,7 @@
 #define ref_get16 standin_get16
 #define ref_open standin_open
 #define ref_step standin_step
+#define ref_open_step standin_open_step
 #define ref_next_in_turn standin_next_in_turn
 #define ref_supply standin_supply
 #define ref_end standin_end

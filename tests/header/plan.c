@@ -160,6 +160,27 @@ static void try_traced(void)
     hold("traced: a gap", rissobarm_plan_replay(&other, trace, 19 * record) == (RISSOBARM_GAP | (uint64_t)record << 32));
 }
 
+/* A turn that records is a recording run of one move: beside a plain turn, to the end, the same rows, and in the record its process and rule. */
+static void try_turn_traced(void)
+{
+    uint8_t trace[RISSOBARM_TRACE_RECORD_SIZE];
+    uint16_t stamp = 0;
+    uint64_t turn;
+
+    rissobarm_plan_start(&run, waits, sizeof waits);
+    rissobarm_plan_supply(&run, 0, 1);
+    other = run;
+    while (rissobarm_refusal(turn = rissobarm_plan_turn(&other)) == RISSOBARM_ACCEPTED) {
+        hold("traced turn: one move", rissobarm_steps(rissobarm_plan_run_traced(&run, trace, sizeof trace, 1, stamp)) == 1 && same_rows());
+        hold("traced turn: its process", rissobarm_word_at(trace + RISSOBARM_TRACE_PROCESS) == rissobarm_word_at(other.head + RISSOBARM_HEAD_LAST));
+        hold("traced turn: its rule", rissobarm_word_at(trace + RISSOBARM_TRACE_RULE) == rissobarm_rule(turn));
+        hold("traced turn: its stamp", rissobarm_word_at(trace + RISSOBARM_TRACE_STAMP) == stamp);
+        stamp++;
+    }
+    hold("traced turn: the end", rissobarm_refusal(turn) == RISSOBARM_STILL && stamp == rissobarm_plan_steps(&run));
+    hold("traced turn: no more", ran(rissobarm_plan_run_traced(&run, trace, sizeof trace, 1, stamp), RISSOBARM_END_SUCCESS, 0) && same_rows());
+}
+
 static void try_room(void)
 {
     rissobarm_plan_start(&run, fills, sizeof fills);
@@ -256,6 +277,7 @@ int main(void)
     try_bound();
     try_saved();
     try_traced();
+    try_turn_traced();
     try_room();
     try_refused();
     try_long();

@@ -266,6 +266,9 @@ struct move ref_move(const struct program *program, struct tables *tables, unsig
 struct verdict ref_open(const uint8_t *image, size_t image_len, const struct lent *lent, struct program *program,
                         struct tables *tables);
 struct move ref_step(const struct program *p, struct tables *t, unsigned number);
+/* Opens a run and makes the step of a process by its number, in the tables alone; the move where nothing was refused. */
+struct verdict ref_open_step(const uint8_t *image, size_t image_len, const struct lent *lent, struct tables *tables,
+                             uint32_t process, struct move *move);
 bool ref_next_in_turn(const struct program *p, const struct tables *t, unsigned *number);
 unsigned ref_end(const struct program *p, const struct tables *t, bool used_up, unsigned *number);
 unsigned ref_supply(const struct program *p, struct tables *t, uint32_t variable, uint32_t value, uint32_t *bound);

@@ -53,23 +53,33 @@ uint64_t ref_move_answer(struct move move)
     return ref_accepted(move.rule, move.touches_variable ? 1 : 0, move.touched);
 }
 
+struct verdict ref_open_step(const uint8_t *image, size_t image_len, const struct lent *lent, struct tables *tables,
+                             uint32_t process, struct move *move)
+{
+    struct program program;
+    struct verdict verdict = ref_open(image, image_len, lent, &program, tables);
+
+    if (verdict.refusal == ACCEPTED && process >= tables->process_count)
+        verdict.refusal = REFUSED_NODE;
+    if (verdict.refusal == ACCEPTED) {
+        *move = ref_step(&program, tables, process);
+        verdict.refusal = move->refusal;
+    }
+    return verdict;
+}
+
 uint64_t reference_step(const uint8_t *image, size_t image_len, uint8_t *head, size_t head_len,
                         uint8_t *procs, size_t procs_len, uint8_t *vars, size_t vars_len,
                         uint32_t process)
 {
     struct lent lent = { head, head_len, procs, procs_len, vars, vars_len };
-    struct program program;
     struct tables tables;
-    struct verdict verdict = ref_open(image, image_len, &lent, &program, &tables);
     struct move move;
+    struct verdict verdict = ref_open_step(image, image_len, &lent, &tables, process, &move);
 
     if (verdict.refusal != ACCEPTED)
         return ref_refused(verdict.refusal, verdict.offset);
-    if (process >= tables.process_count)
-        return ref_refused(REFUSED_NODE, 0);
-    move = ref_step(&program, &tables, process);
-    if (move.refusal == ACCEPTED)
-        ref_encode(&tables, &lent);
+    ref_encode(&tables, &lent);
     return ref_move_answer(move);
 }
 

@@ -21,22 +21,16 @@ uint64_t reference_step_traced(const uint8_t *image, size_t image_len, uint8_t *
                                uint8_t *trace, size_t trace_len, uint32_t process, uint16_t stamp)
 {
     struct lent lent = { head, head_len, procs, procs_len, vars, vars_len };
-    struct program program;
     struct tables tables;
-    struct verdict verdict = ref_open(image, image_len, &lent, &program, &tables);
     struct move move;
+    struct verdict verdict = ref_open_step(image, image_len, &lent, &tables, process, &move);
 
+    if (verdict.refusal == ACCEPTED && trace_len < RECORD_SIZE)
+        verdict.refusal = REFUSED_ROOM;
     if (verdict.refusal != ACCEPTED)
         return ref_refused(verdict.refusal, verdict.offset);
-    if (process >= tables.process_count)
-        return ref_refused(REFUSED_NODE, 0);
-    move = ref_step(&program, &tables, process);
-    if (move.refusal == ACCEPTED && trace_len < RECORD_SIZE)
-        move.refusal = REFUSED_ROOM;
-    if (move.refusal == ACCEPTED) {
-        ref_encode(&tables, &lent);
-        put_record(trace, KIND_STEP, process, move.rule, stamp);
-    }
+    ref_encode(&tables, &lent);
+    put_record(trace, KIND_STEP, process, move.rule, stamp);
     return ref_move_answer(move);
 }
 

@@ -46,18 +46,21 @@ static void refused(const char *words, unsigned refusal, uint64_t offset)
     refused_in(words, ROOM, ROOM, refusal, offset);
 }
 
-static void print_back(const char *wanted, size_t image_len, size_t names_len)
+/* Prints what was parsed into so many bytes; whether it answers so, writes no more than that, and nothing behind it. */
+static void print_into(size_t room, size_t image_len, size_t names_len, const char *wanted, uint64_t word)
 {
+    size_t written = word == NO_ROOM ? 0 : strlen(wanted);
     uint64_t answer;
 
     memset(text, UNTOUCHED, sizeof text);
-    answer = reference_print(image, image_len, names, names_len, text, strlen(wanted));
-    judge(answer == (uint64_t)strlen(wanted) << 32 && memcmp(text, wanted, strlen(wanted)) == 0 &&
-              untouched(text, strlen(wanted)),
-          wanted, answer);
-    memset(text, UNTOUCHED, sizeof text);
-    answer = reference_print(image, image_len, names, names_len, text, strlen(wanted) - 1);
-    judge(answer == NO_ROOM && untouched(text, 0), wanted, answer);
+    answer = reference_print(image, image_len, names, names_len, text, room);
+    judge(answer == word && memcmp(text, wanted, written) == 0 && untouched(text, written), wanted, answer);
+}
+
+static void print_back(const char *wanted, size_t image_len, size_t names_len)
+{
+    print_into(strlen(wanted), image_len, names_len, wanted, (uint64_t)strlen(wanted) << 32);
+    print_into(strlen(wanted) - 1, image_len, names_len, wanted, NO_ROOM);
 }
 
 /* A text, its image and names; then how it is written. One byte less of either row is 11. */
@@ -92,12 +95,17 @@ static const uint8_t sides[] = {
     16, 0, 3, 0, 1, 2, 1, 255, 2, 0, 0, 0, 0x80, 1, 2, 0                           /* <- a = A & r. */
 };
 
+/* One plan, however it is spaced and its variable named. */
+static void accepted_s_five(const char *words)
+{
+    accepted(words, s_five, sizeof s_five, "s\nfive\n", "mode s(^).\ns(five).\n<- s(A).\n");
+}
+
 static void what_is_accepted(void)
 {
-    accepted("mode s(^).\ns(five).\n<- s(A).\n", s_five, sizeof s_five, "s\nfive\n", "mode s(^).\ns(five).\n<- s(A).\n");
-    accepted("mode s(^).s(five).<-s(A_9z).", s_five, sizeof s_five, "s\nfive\n", "mode s(^).\ns(five).\n<- s(A).\n");
-    accepted("\r\n\tmode s ( ^ ) . s ( five ) ;<- s ( Zz ) . \t", s_five, sizeof s_five, "s\nfive\n",
-             "mode s(^).\ns(five).\n<- s(A).\n");
+    accepted_s_five("mode s(^).\ns(five).\n<- s(A).\n");
+    accepted_s_five("mode s(^).s(five).<-s(A_9z).");
+    accepted_s_five("\r\n\tmode s ( ^ ) . s ( five ) ;<- s ( Zz ) . \t");
     accepted("<-.", nothing, sizeof nothing, "", "<- .\n");
     accepted("mode mode. mode. <- mode.", named_mode, sizeof named_mode, "mode\n", "mode mode.\nmode.\n<- mode.\n");
     accepted("mode p(?,^). mode q. mode r. mode s. p(a,A)<-q:r,A=b&s;p(X,Y)<-q:.p(c,c).<-a=A&r.", sides, sizeof sides,
@@ -143,41 +151,29 @@ static void form_is_refused(void)
 
 /* ---- what is refused: the meaning ---- */
 
-/* Lines one behind the other, numbered names among them. */
-static void repeat(char *all, const char *line, unsigned count)
+/* A text with a line so many times, each with its number where it has room for one. */
+static void refused_repeated(const char *before, const char *line, unsigned count, const char *behind, unsigned refusal,
+                             uint64_t offset)
 {
+    static char all[ROOM];
     unsigned k;
 
+    strcpy(all, before);
     for (k = 0; k < count; k++)
         sprintf(all + strlen(all), line, k);
+    strcat(all, behind);
+    refused(all, refusal, offset);
 }
 
 static void limits_are_refused(void)
 {
-    static char all[ROOM];
-
-    strcpy(all, "");
-    repeat(all, "mode p%u. ", 33);
-    strcat(all, "<- .");
-    refused(all, MANY, 160);
-    strcpy(all, "mode p. ");
-    repeat(all, "p; ", 65);
-    strcat(all, "<- .");
-    refused(all, MANY, 645);
-    strcpy(all, "mode p. ");
-    repeat(all, "p. ", 9);
-    strcat(all, "<- .");
-    refused(all, MANY, 85);
-    strcpy(all, "mode p. p <- p");
-    repeat(all, ", p", 8);
-    strcat(all, ". <- .");
-    refused(all, BODY, 5);
-    strcpy(all, "<- V = W");
-    repeat(all, " & V = W", 8);
-    strcat(all, ".");
-    refused(all, BODY, 0);
-    strcpy(all, "mode p(?,?,?). <- p(A,B,C), p(D,E,F), p(G,H,I), p(J,K,L), p(M,N,O), p(P,Q,R).");
-    refused(all, BODY, 8);
+    refused_repeated("", "mode p%u. ", 33, "<- .", MANY, 160);
+    refused_repeated("", "mode p%u. ", 32, "mode p0. <- .", MANY, 160);
+    refused_repeated("mode p. ", "p; ", 65, "<- .", MANY, 645);
+    refused_repeated("mode p. ", "p. ", 9, "<- .", MANY, 85);
+    refused_repeated("mode p. p <- p", ", p", 8, ". <- .", BODY, 5);
+    refused_repeated("<- V = W", " & V = W", 8, ".", BODY, 0);
+    refused("mode p(?,?,?). <- p(A,B,C), p(D,E,F), p(G,H,I), p(J,K,L), p(M,N,O), p(P,Q,R).", BODY, 8);
 }
 
 static void meaning_is_refused(void)

@@ -1,6 +1,6 @@
 #!/usr/bin/env python3
 """manual.py PROGRAM: the manual has every command, option and status that the tool tells, every call of the header, every refusal of README.md and the version; the completion has
-every command and option; and where groff or mandoc is installed they find nothing wrong with the pages."""
+every command and option; and mandoc, and groff where it is installed, find nothing wrong with the pages."""
 import os
 import re
 import shutil
@@ -26,7 +26,9 @@ def missing(words, text):
 
 
 def lint():
-    """What groff and mandoc say, where they are installed."""
+    """What mandoc says, and groff where it is installed."""
+    if shutil.which('mandoc') is None:
+        sys.exit('manual: there is no mandoc to look at the pages; tools/install tests brings it')
     tools = [['groff', '-man', '-Tutf8', '-ww', '-z'], ['mandoc', '-Tlint', '-Wwarning']]
     used = [tool for tool in tools if shutil.which(tool[0])]
     for tool in used:
@@ -52,7 +54,7 @@ def main():
     if lacks or len(commands) < 8 or len(statuses) < 12 or len(refusals) < 17:
         sys.exit('manual: missing: %s' % ', '.join(lacks))
     print('manual: %d commands, %d options, %d statuses, %d calls, %d refusals; %s' % (
-        len(commands), len(options), len(statuses), len(calls), len(refusals), ' and '.join(lint()) or 'no tool to look at the pages'))
+        len(commands), len(options), len(statuses), len(calls), len(refusals), ' and '.join(lint())))
 
 
 main()

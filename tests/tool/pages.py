@@ -1,27 +1,14 @@
 #!/usr/bin/env python3
 """pages.py PROGRAM PAGE [--write]: holds a page to the tool. Blocks ```prolog NAME are files, blocks ```console are commands behind `$ ` and what they print,
-all in one folder, where `rissobarm` is the program. A status other than 0 is a line `status N`. --write puts in what is printed now. With - for the program, the
-commands of the block ```sh setup are run in the repository before, and `rissobarm` is what they leave on the path: the page's own words, and nothing else."""
+all in one folder, where `rissobarm` is the program, or, with - for the program, what the path has. A status other than 0 is a line `status N`. --write puts in what is
+printed now."""
 import os
 import re
 import subprocess
 import sys
 import tempfile
 
-ROOT = os.path.dirname(os.path.dirname(os.path.dirname(os.path.abspath(__file__))))
 BLOCK = re.compile(r'(?ms)^```(prolog|console)(?: (\S+))?\n(.*?)^```$')
-SETUP = re.compile(r'(?ms)^```sh setup\n(.*?)^```$')
-
-
-def path_left(text):
-    """The path behind the page's own commands; what they print is not the page's."""
-    setup = SETUP.search(text)
-    if setup is None:
-        sys.exit('pages: no block of commands that set up')
-    done = subprocess.run(['bash', '-ec', 'exec 3>&1 >&2\n%sprintf %%s "$PATH" >&3' % setup.group(1)], cwd=ROOT, stdin=subprocess.DEVNULL, stdout=subprocess.PIPE)
-    if done.returncode != 0:
-        sys.exit('pages: the commands that set up end with %d' % done.returncode)
-    return done.stdout.decode()
 
 
 def played(program, folder, block):
@@ -54,11 +41,9 @@ def page_now(program, text, folder):
 
 
 def main():
-    program, path = os.path.abspath(sys.argv[1]), sys.argv[2]
+    program, path = None if sys.argv[1] == '-' else os.path.abspath(sys.argv[1]), sys.argv[2]
     with open(path) as page:
         text = page.read()
-    if sys.argv[1] == '-':
-        program, os.environ['PATH'] = None, path_left(text)
     with tempfile.TemporaryDirectory() as folder:
         now, count = page_now(program, text, folder)
     if sys.argv[3:] == ['--write']:

@@ -1,15 +1,20 @@
 #!/usr/bin/env python3
-"""stopped.py PROGRAM PLAN: a run that waits for arrivals and is stopped, from the keyboard or by the system, is saved as it stands; and on a terminal a long run tells how far it is."""
+"""stopped.py PROGRAM PLAN: a run that waits for arrivals and is stopped, from the keyboard, by the system or by a terminal that goes away, is saved as it stands, and one that could go on is saved where it is;
+and on a terminal a long run tells how far it is."""
+import fcntl
 import os
 import pty
 import signal
 import subprocess
 import sys
 import tempfile
+import termios
 import time
 
 PROGRAM, PLAN = map(os.path.abspath, sys.argv[1:])
-SAVED, PATIENCE = 'stopped.run', 2
+SAVED, PATIENCE, SET_PIPE_SIZE = 'stopped.run', 2, 1031
+# it goes round and round until there is no room
+ROUND = 'mode p.\nmode q(?).\np <- q(a).\nq(a) <- p.\n<- p.\n'
 
 
 def wrong(words):
@@ -32,9 +37,7 @@ def stop(number, wanted):
     if os.path.exists(SAVED):
         os.remove(SAVED)
     job = run('--arrivals', '-', '--slice', '1', '--save', SAVED, stdin=subprocess.PIPE)
-    began = time.time()
-    while not waits(job.pid) and time.time() - began < PATIENCE:
-        time.sleep(0.01)
+    wait_for(job)
     job.send_signal(number)
     status = job.wait(20)
     if status != 2:
@@ -45,10 +48,71 @@ def stop(number, wanted):
     job.communicate()
 
 
+def stop_on_its_way(number):
+    """Stops a run that could go on, while it tells how far it is and is not listened to: it is saved, and goes on from there."""
+    with open('round.plan', 'w') as file:
+        file.write(ROUND)
+    ours, theirs = os.pipe()
+    fcntl.fcntl(theirs, SET_PIPE_SIZE, 4096)
+    job = subprocess.Popen([PROGRAM, 'run', 'round.plan', '--slice', '1', '--progress', '--save', SAVED], stdout=subprocess.PIPE, stderr=theirs)
+    os.close(theirs)
+    wait_for(job)
+    job.send_signal(number)
+    with open(ours, 'rb') as progress:
+        progress.read()
+    told = job.communicate(timeout=20)[0].decode()
+    ends = [subprocess.run([PROGRAM] + words, stdout=subprocess.PIPE) for words in (['run', 'round.plan'], ['resume', SAVED])]
+    if job.returncode != 4 or not told.startswith('budget after ') or ends[0].returncode != 3 or (ends[0].stdout, 3) != (ends[1].stdout, ends[1].returncode):
+        wrong('stopped on its way by %s it ends with %d, or cannot go on: %s' % (number.name, job.returncode, told))
+
+
+def take_terminal():
+    """Has a child a terminal of its own, which is its standard input."""
+    os.setsid()
+    fcntl.ioctl(0, termios.TIOCSCTTY, 0)
+
+
+def terminal_gone(wanted, ignored):
+    """A run whose terminal goes away while it waits for an arrival from there, where SIGHUP is ignored too."""
+    os.remove(SAVED)
+    ours, theirs = pty.openpty()
+
+    def begin():
+        take_terminal()
+        if ignored:
+            signal.signal(signal.SIGHUP, signal.SIG_IGN)
+
+    job = run('--arrivals', '-', '--save', SAVED, stdin=theirs, preexec_fn=begin)
+    os.close(theirs)
+    wait_for(job)
+    os.close(ours)
+    job.communicate(timeout=20)
+    with open(SAVED, 'rb') as file:
+        if job.returncode != 2 or file.read() != wanted:
+            wrong('when its terminal goes away it ends with %d, or saves another run' % job.returncode)
+
+
+def hung_up_ignored(wanted):
+    """SIGHUP that is ignored, as by nohup, stays so: the run takes its arrival."""
+    job = run('--arrivals', '-', stdin=subprocess.PIPE, preexec_fn=lambda: signal.signal(signal.SIGHUP, signal.SIG_IGN))
+    wait_for(job)
+    job.send_signal(signal.SIGHUP)
+    job.communicate(b'Key = one\n', timeout=20)
+    if job.returncode != 0:
+        wrong('SIGHUP, where it is ignored, ends it with %d' % job.returncode)
+
+
 def waits(pid):
-    """Whether a program sleeps in a read of its pipe; a system that does not tell leaves only to be patient."""
+    """Whether a program sleeps at a pipe or a terminal; a system that does not tell leaves only to be patient."""
     with open('/proc/%d/wchan' % pid) as file:
-        return 'pipe' in file.read()
+        place = file.read()
+    return any(word in place for word in ('pipe', 'tty', 'woken'))
+
+
+def wait_for(job):
+    began = time.time()
+    while not waits(job.pid) and time.time() - began < PATIENCE:
+        time.sleep(0.01)
 
 
 def on_terminal():
@@ -67,11 +131,15 @@ def main():
     with tempfile.TemporaryDirectory() as folder:
         os.chdir(folder)
         wanted = whole()
-        for number in (signal.SIGINT, signal.SIGTERM):
+        for number in (signal.SIGINT, signal.SIGTERM, signal.SIGHUP):
             stop(number, wanted)
+            stop_on_its_way(number)
+        for ignored in (False, True):
+            terminal_gone(wanted, ignored)
+        hung_up_ignored(wanted)
         on_terminal()
         os.chdir('/')
-    print('tool: stopped by two signals it saves the run; on a terminal it tells how far it is')
+    print('tool: stopped by three signals, or by a terminal that goes away, it saves the run; on a terminal it tells how far it is')
 
 
 main()

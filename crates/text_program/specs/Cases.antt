@@ -65,6 +65,30 @@ backwards = 109 ∷ 111 ∷ 100 ∷ 101 ∷ 32 ∷ 112 ∷ 46 ∷ 10 ∷ 109 ∷
 abbrev pub manyVariables : List ℕ
 manyVariables = 109 ∷ 111 ∷ 100 ∷ 101 ∷ 32 ∷ 112 ∷ 40 ∷ 63 ∷ 44 ∷ 63 ∷ 44 ∷ 63 ∷ 44 ∷ 63 ∷ 41 ∷ 46 ∷ 10 ∷ 60 ∷ 45 ∷ 32 ∷ 112 ∷ 40 ∷ 65 ∷ 44 ∷ 66 ∷ 44 ∷ 67 ∷ 44 ∷ 68 ∷ 41 ∷ 44 ∷ 32 ∷ 112 ∷ 40 ∷ 69 ∷ 44 ∷ 70 ∷ 44 ∷ 71 ∷ 44 ∷ 72 ∷ 41 ∷ 44 ∷ 32 ∷ 112 ∷ 40 ∷ 73 ∷ 44 ∷ 74 ∷ 44 ∷ 75 ∷ 44 ∷ 76 ∷ 41 ∷ 44 ∷ 32 ∷ 112 ∷ 40 ∷ 77 ∷ 44 ∷ 78 ∷ 44 ∷ 79 ∷ 44 ∷ 80 ∷ 41 ∷ 44 ∷ 32 ∷ 81 ∷ 32 ∷ 61 ∷ 32 ∷ 97 ∷ 46 ∷ []
 
+-- 33 mode lines
+abbrev pub manyRelations : List ℕ
+manyRelations = 109 ∷ 111 ∷ 100 ∷ 101 ∷ 32 ∷ 97 ∷ 46 ∷ 109 ∷ 111 ∷ 100 ∷ 101 ∷ 32 ∷ 98 ∷ 46 ∷ 109 ∷ 111 ∷ 100 ∷ 101 ∷ 32 ∷ 99 ∷ 46 ∷ 109 ∷ 111 ∷ 100 ∷ 101 ∷ 32 ∷ 100 ∷ 46 ∷ 109 ∷ 111 ∷ 100 ∷ 101 ∷ 32 ∷ 101 ∷ 46 ∷ 109 ∷ 111 ∷ 100 ∷ 101 ∷ 32 ∷ 102 ∷ 46 ∷ 109 ∷ 111 ∷ 100 ∷ 101 ∷ 32 ∷ 103 ∷ 46 ∷ 109 ∷ 111 ∷ 100 ∷ 101 ∷ 32 ∷ 104 ∷ 46 ∷ 109 ∷ 111 ∷ 100 ∷ 101 ∷ 32 ∷ 105 ∷ 46 ∷ 109 ∷ 111 ∷ 100 ∷ 101 ∷ 32 ∷ 106 ∷ 46 ∷ 109 ∷ 111 ∷ 100 ∷ 101 ∷ 32 ∷ 107 ∷ 46 ∷ 109 ∷ 111 ∷ 100 ∷ 101 ∷ 32 ∷ 108 ∷ 46 ∷ 109 ∷ 111 ∷ 100 ∷ 101 ∷ 32 ∷ 109 ∷ 46 ∷ 109 ∷ 111 ∷ 100 ∷ 101 ∷ 32 ∷ 110 ∷ 46 ∷ 109 ∷ 111 ∷ 100 ∷ 101 ∷ 32 ∷ 111 ∷ 46 ∷ 109 ∷ 111 ∷ 100 ∷ 101 ∷ 32 ∷ 112 ∷ 46 ∷ 109 ∷ 111 ∷ 100 ∷ 101 ∷ 32 ∷ 113 ∷ 46 ∷ 109 ∷ 111 ∷ 100 ∷ 101 ∷ 32 ∷ 114 ∷ 46 ∷ 109 ∷ 111 ∷ 100 ∷ 101 ∷ 32 ∷ 115 ∷ 46 ∷ 109 ∷ 111 ∷ 100 ∷ 101 ∷ 32 ∷ 116 ∷ 46 ∷ 109 ∷ 111 ∷ 100 ∷ 101 ∷ 32 ∷ 117 ∷ 46 ∷ 109 ∷ 111 ∷ 100 ∷ 101 ∷ 32 ∷ 118 ∷ 46 ∷ 109 ∷ 111 ∷ 100 ∷ 101 ∷ 32 ∷ 119 ∷ 46 ∷ 109 ∷ 111 ∷ 100 ∷ 101 ∷ 32 ∷ 120 ∷ 46 ∷ 109 ∷ 111 ∷ 100 ∷ 101 ∷ 32 ∷ 121 ∷ 46 ∷ 109 ∷ 111 ∷ 100 ∷ 101 ∷ 32 ∷ 122 ∷ 46 ∷ 109 ∷ 111 ∷ 100 ∷ 101 ∷ 32 ∷ 97 ∷ 97 ∷ 46 ∷ 109 ∷ 111 ∷ 100 ∷ 101 ∷ 32 ∷ 97 ∷ 98 ∷ 46 ∷ 109 ∷ 111 ∷ 100 ∷ 101 ∷ 32 ∷ 97 ∷ 99 ∷ 46 ∷ 109 ∷ 111 ∷ 100 ∷ 101 ∷ 32 ∷ 97 ∷ 100 ∷ 46 ∷ 109 ∷ 111 ∷ 100 ∷ 101 ∷ 32 ∷ 97 ∷ 101 ∷ 46 ∷ 109 ∷ 111 ∷ 100 ∷ 101 ∷ 32 ∷ 97 ∷ 102 ∷ 46 ∷ 109 ∷ 111 ∷ 100 ∷ 101 ∷ 32 ∷ 97 ∷ 103 ∷ 46 ∷ 60 ∷ 45 ∷ 46 ∷ []
+
+-- 32 mode lines, and one more of the first relation
+abbrev pub manyAndTwice : List ℕ
+manyAndTwice = 109 ∷ 111 ∷ 100 ∷ 101 ∷ 32 ∷ 97 ∷ 46 ∷ 109 ∷ 111 ∷ 100 ∷ 101 ∷ 32 ∷ 98 ∷ 46 ∷ 109 ∷ 111 ∷ 100 ∷ 101 ∷ 32 ∷ 99 ∷ 46 ∷ 109 ∷ 111 ∷ 100 ∷ 101 ∷ 32 ∷ 100 ∷ 46 ∷ 109 ∷ 111 ∷ 100 ∷ 101 ∷ 32 ∷ 101 ∷ 46 ∷ 109 ∷ 111 ∷ 100 ∷ 101 ∷ 32 ∷ 102 ∷ 46 ∷ 109 ∷ 111 ∷ 100 ∷ 101 ∷ 32 ∷ 103 ∷ 46 ∷ 109 ∷ 111 ∷ 100 ∷ 101 ∷ 32 ∷ 104 ∷ 46 ∷ 109 ∷ 111 ∷ 100 ∷ 101 ∷ 32 ∷ 105 ∷ 46 ∷ 109 ∷ 111 ∷ 100 ∷ 101 ∷ 32 ∷ 106 ∷ 46 ∷ 109 ∷ 111 ∷ 100 ∷ 101 ∷ 32 ∷ 107 ∷ 46 ∷ 109 ∷ 111 ∷ 100 ∷ 101 ∷ 32 ∷ 108 ∷ 46 ∷ 109 ∷ 111 ∷ 100 ∷ 101 ∷ 32 ∷ 109 ∷ 46 ∷ 109 ∷ 111 ∷ 100 ∷ 101 ∷ 32 ∷ 110 ∷ 46 ∷ 109 ∷ 111 ∷ 100 ∷ 101 ∷ 32 ∷ 111 ∷ 46 ∷ 109 ∷ 111 ∷ 100 ∷ 101 ∷ 32 ∷ 112 ∷ 46 ∷ 109 ∷ 111 ∷ 100 ∷ 101 ∷ 32 ∷ 113 ∷ 46 ∷ 109 ∷ 111 ∷ 100 ∷ 101 ∷ 32 ∷ 114 ∷ 46 ∷ 109 ∷ 111 ∷ 100 ∷ 101 ∷ 32 ∷ 115 ∷ 46 ∷ 109 ∷ 111 ∷ 100 ∷ 101 ∷ 32 ∷ 116 ∷ 46 ∷ 109 ∷ 111 ∷ 100 ∷ 101 ∷ 32 ∷ 117 ∷ 46 ∷ 109 ∷ 111 ∷ 100 ∷ 101 ∷ 32 ∷ 118 ∷ 46 ∷ 109 ∷ 111 ∷ 100 ∷ 101 ∷ 32 ∷ 119 ∷ 46 ∷ 109 ∷ 111 ∷ 100 ∷ 101 ∷ 32 ∷ 120 ∷ 46 ∷ 109 ∷ 111 ∷ 100 ∷ 101 ∷ 32 ∷ 121 ∷ 46 ∷ 109 ∷ 111 ∷ 100 ∷ 101 ∷ 32 ∷ 122 ∷ 46 ∷ 109 ∷ 111 ∷ 100 ∷ 101 ∷ 32 ∷ 97 ∷ 97 ∷ 46 ∷ 109 ∷ 111 ∷ 100 ∷ 101 ∷ 32 ∷ 97 ∷ 98 ∷ 46 ∷ 109 ∷ 111 ∷ 100 ∷ 101 ∷ 32 ∷ 97 ∷ 99 ∷ 46 ∷ 109 ∷ 111 ∷ 100 ∷ 101 ∷ 32 ∷ 97 ∷ 100 ∷ 46 ∷ 109 ∷ 111 ∷ 100 ∷ 101 ∷ 32 ∷ 97 ∷ 101 ∷ 46 ∷ 109 ∷ 111 ∷ 100 ∷ 101 ∷ 32 ∷ 97 ∷ 102 ∷ 46 ∷ 109 ∷ 111 ∷ 100 ∷ 101 ∷ 32 ∷ 97 ∷ 46 ∷ 60 ∷ 45 ∷ 46 ∷ []
+
+-- a second mode line, with five marks
+abbrev pub marksAndTwice : List ℕ
+marksAndTwice = 109 ∷ 111 ∷ 100 ∷ 101 ∷ 32 ∷ 112 ∷ 46 ∷ 109 ∷ 111 ∷ 100 ∷ 101 ∷ 32 ∷ 112 ∷ 40 ∷ 63 ∷ 44 ∷ 63 ∷ 44 ∷ 63 ∷ 44 ∷ 63 ∷ 44 ∷ 63 ∷ 41 ∷ 46 ∷ 60 ∷ 45 ∷ 46 ∷ []
+
+-- 65 clauses, a block each
+abbrev pub manyClauses : List ℕ
+manyClauses = 109 ∷ 111 ∷ 100 ∷ 101 ∷ 32 ∷ 112 ∷ 46 ∷ 112 ∷ 59 ∷ 112 ∷ 59 ∷ 112 ∷ 59 ∷ 112 ∷ 59 ∷ 112 ∷ 59 ∷ 112 ∷ 59 ∷ 112 ∷ 59 ∷ 112 ∷ 59 ∷ 112 ∷ 59 ∷ 112 ∷ 59 ∷ 112 ∷ 59 ∷ 112 ∷ 59 ∷ 112 ∷ 59 ∷ 112 ∷ 59 ∷ 112 ∷ 59 ∷ 112 ∷ 59 ∷ 112 ∷ 59 ∷ 112 ∷ 59 ∷ 112 ∷ 59 ∷ 112 ∷ 59 ∷ 112 ∷ 59 ∷ 112 ∷ 59 ∷ 112 ∷ 59 ∷ 112 ∷ 59 ∷ 112 ∷ 59 ∷ 112 ∷ 59 ∷ 112 ∷ 59 ∷ 112 ∷ 59 ∷ 112 ∷ 59 ∷ 112 ∷ 59 ∷ 112 ∷ 59 ∷ 112 ∷ 59 ∷ 112 ∷ 59 ∷ 112 ∷ 59 ∷ 112 ∷ 59 ∷ 112 ∷ 59 ∷ 112 ∷ 59 ∷ 112 ∷ 59 ∷ 112 ∷ 59 ∷ 112 ∷ 59 ∷ 112 ∷ 59 ∷ 112 ∷ 59 ∷ 112 ∷ 59 ∷ 112 ∷ 59 ∷ 112 ∷ 59 ∷ 112 ∷ 59 ∷ 112 ∷ 59 ∷ 112 ∷ 59 ∷ 112 ∷ 59 ∷ 112 ∷ 59 ∷ 112 ∷ 59 ∷ 112 ∷ 59 ∷ 112 ∷ 59 ∷ 112 ∷ 59 ∷ 112 ∷ 59 ∷ 112 ∷ 59 ∷ 112 ∷ 59 ∷ 112 ∷ 59 ∷ 112 ∷ 59 ∷ 112 ∷ 59 ∷ 112 ∷ 59 ∷ 112 ∷ 59 ∷ 112 ∷ 59 ∷ 112 ∷ 59 ∷ 112 ∷ 59 ∷ 60 ∷ 45 ∷ 46 ∷ []
+
+-- nine clauses in one block
+abbrev pub nineInBlock : List ℕ
+nineInBlock = 109 ∷ 111 ∷ 100 ∷ 101 ∷ 32 ∷ 112 ∷ 46 ∷ 112 ∷ 46 ∷ 112 ∷ 46 ∷ 112 ∷ 46 ∷ 112 ∷ 46 ∷ 112 ∷ 46 ∷ 112 ∷ 46 ∷ 112 ∷ 46 ∷ 112 ∷ 46 ∷ 112 ∷ 46 ∷ 60 ∷ 45 ∷ 46 ∷ []
+
+-- `mode p.<- q`: no text, and no mode line of `q`
+abbrev pub stuckAndNoMode : List ℕ
+stuckAndNoMode = 109 ∷ 111 ∷ 100 ∷ 101 ∷ 32 ∷ 112 ∷ 46 ∷ 60 ∷ 45 ∷ 32 ∷ 113 ∷ []
+
 -- what a parse answers over rows without a byte
 abbrev pub answerTo : List ℕ → Parsed
 answerTo t = parseCall [] [] t .answer
@@ -75,7 +99,11 @@ pub record TextsParsed : Type 0 where
   pub much : parseCall (0 ∷ 0 ∷ 0 ∷ 0 ∷ 0 ∷ 0 ∷ 0 ∷ 0 ∷ 0 ∷ 0 ∷ 0 ∷ 0 ∷ 0 ∷ 0 ∷ 0 ∷ 0 ∷ 0 ∷ 0 ∷ 0 ∷ 0 ∷ 0 ∷ 0 ∷ 0 ∷ 0 ∷ 0 ∷ 0 ∷ 0 ∷ 0 ∷ 0 ∷ 0 ∷ 0 ∷ 0 ∷ 0 ∷ 0 ∷ 0 ∷ 0 ∷ 0 ∷ 0 ∷ 0 ∷ 0 ∷ 0 ∷ 0 ∷ 0 ∷ 0 ∷ 0 ∷ 0 ∷ 0 ∷ 0 ∷ 0 ∷ 0 ∷ 0 ∷ 0 ∷ 0 ∷ 0 ∷ 0 ∷ 0 ∷ 0 ∷ 0 ∷ 0 ∷ 0 ∷ 0 ∷ 0 ∷ 0 ∷ 0 ∷ 0 ∷ 0 ∷ 0 ∷ 0 ∷ 0 ∷ 0 ∷ 0 ∷ 0 ∷ 0 ∷ 0 ∷ 0 ∷ 0 ∷ 0 ∷ 0 ∷ 0 ∷ 0 ∷ 0 ∷ 0 ∷ 0 ∷ 0 ∷ 0 ∷ 0 ∷ 0 ∷ 0 ∷ 0 ∷ 0 ∷ 0 ∷ 0 ∷ 0 ∷ 0 ∷ 0 ∷ 0 ∷ 0 ∷ 0 ∷ 0 ∷ 0 ∷ 0 ∷ 0 ∷ 0 ∷ 0 ∷ 0 ∷ 0 ∷ 0 ∷ 0 ∷ 0 ∷ 0 ∷ 0 ∷ 0 ∷ 0 ∷ 0 ∷ 0 ∷ []) (0 ∷ 0 ∷ 0 ∷ 0 ∷ 0 ∷ 0 ∷ 0 ∷ 0 ∷ 0 ∷ 0 ∷ []) loose ≡ record { answer = Read 115 10; image = looseImage; names = looseNames }
   pub again : parseCall looseImage looseNames tidy ≡ record { answer = Read 115 10; image = looseImage; names = looseNames }
 
--- Text 16 to 20: refusals of texts, in their order
+-- a refused parse of a text, over two rows that are as they were afterwards
+abbrev pub Leaves : List ℕ → List ℕ → List ℕ → ℕ → ℕ → Type 0
+Leaves image names t n o = parseCall image names t ≡ record { answer = Unread (refusal n o); image = image; names = names }
+
+-- Text 16, 17, 19: texts that are refused: with 17, with 5, 4 and 6 at their places, with 11
 pub record TextsRefused : Type 0 where
   pub no-mode : answerTo noMode ≡ Unread (refusal 17 0)
   pub other-arity : answerTo otherArity ≡ Unread (refusal 5 6)
@@ -84,7 +112,22 @@ pub record TextsRefused : Type 0 where
   pub late-no-mode : answerTo lateNoMode ≡ Unread (refusal 17 0)
   pub out-of-order : answerTo backwards ≡ Unread (refusal 5 20)
   pub many-variables : answerTo manyVariables ≡ Unread (refusal 4 9)
+  pub many-relations : answerTo manyRelations ≡ Unread (refusal 6 160)
+  pub many-and-twice : answerTo manyAndTwice ≡ Unread (refusal 6 160)
+  pub marks-and-twice : answerTo marksAndTwice ≡ Unread (refusal 4 5)
+  pub many-clauses : answerTo manyClauses ≡ Unread (refusal 6 645)
+  pub nine-in-block : answerTo nineInBlock ≡ Unread (refusal 6 85)
   pub no-room : answerTo oneFact ≡ Unread (refusal 11 0)
+
+-- Text 19, 20: 16 goes before 17; whatever refuses, both rows stay, and either row may be the one that is short
+pub record TextsLeave : Type 0 where
+  pub stuck-first : Leaves (1 ∷ 2 ∷ []) (3 ∷ []) stuckAndNoMode 16 11
+  pub no-mode : Leaves (1 ∷ 2 ∷ []) (3 ∷ []) noMode 17 0
+  pub five-marks : Leaves (1 ∷ 2 ∷ []) (3 ∷ []) fiveMarks 4 0
+  pub mode-twice : Leaves (1 ∷ 2 ∷ []) (3 ∷ []) modeTwice 5 10
+  pub nine-in-block : Leaves (1 ∷ 2 ∷ []) (3 ∷ []) nineInBlock 6 85
+  pub short-image : Leaves (9 ∷ 9 ∷ 9 ∷ 9 ∷ 9 ∷ 9 ∷ 9 ∷ 9 ∷ 9 ∷ 9 ∷ 9 ∷ 9 ∷ 9 ∷ 9 ∷ 9 ∷ 9 ∷ 9 ∷ 9 ∷ 9 ∷ 9 ∷ 9 ∷ 9 ∷ 9 ∷ 9 ∷ 9 ∷ 9 ∷ 9 ∷ 9 ∷ []) oneFactNames oneFact 11 0
+  pub short-names : Leaves oneFactImage (9 ∷ 9 ∷ 9 ∷ 9 ∷ 9 ∷ 9 ∷ []) oneFact 11 0
 
 -- Text 22 to 28: images become text; what a list lacks is refused
 pub record ImagesPrinted : Type 0 where

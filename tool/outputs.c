@@ -1,0 +1,383 @@
+/* Files written whole. open, fcntl, fsync, realpath, sigprocmask and sigsetjmp are POSIX, not C99. */
+#define _XOPEN_SOURCE 700
+#include "outputs.h"
+
+#include "say.h"
+#include "stops.h"
+
+#include <errno.h>
+#include <fcntl.h>
+#include <setjmp.h>
+#include <signal.h>
+#include <stdio.h>
+#include <stdlib.h>
+#include <string.h>
+#include <sys/stat.h>
+#include <unistd.h>
+
+static const char suffix[] = ".rissobarm-new";
+
+enum { NEW_MODE = 0666, MODE_BITS = 0777, TRIES_MOST = 1000 };
+
+/* A file on its way: where it goes, links followed, and the file beside that place. */
+struct place {
+    const char *path; /* as the command has it */
+    char *target;
+    char *beside;
+    int file; /* the file beside; -1 where there is none to be taken away */
+    int stood; /* whether there is an old one */
+    int shut; /* whether who owns it may not write to it, which it becomes in its place */
+    mode_t mode;
+};
+
+static struct place places[OUTPUTS_MOST];
+static unsigned place_count;
+
+static void take_away(void)
+{
+    unsigned k;
+
+    for (k = 0; k < place_count; k++)
+        if (places[k].file >= 0)
+            unlink(places[k].beside);
+}
+
+/* Takes the files beside away again and tells why there is no new one. */
+static void give_up(const char *path)
+{
+    int why = errno;
+
+    take_away();
+    quit(NO_FILE, "%s: not written: %s", path, strerror(why));
+}
+
+static int write_all(int file, const struct bytes *bytes)
+{
+    size_t done = 0;
+    ssize_t some;
+
+    while (done < bytes->length) {
+        some = write(file, bytes->at + done, bytes->length - done);
+        if (some < 0 && errno != EINTR)
+            return 0;
+        done += some > 0 ? (size_t)some : 0;
+    }
+    return 1;
+}
+
+static char *joined(const char *path, const char *end)
+{
+    char *both = (char *)malloc(strlen(path) + strlen(end) + 1);
+
+    if (both == NULL)
+        quit(NO_FILE, "no memory is left");
+    strcpy(both, path);
+    strcat(both, end);
+    return both;
+}
+
+/* ---- paths ---- */
+
+/* The last part of a path. */
+static const char *name_in(const char *path)
+{
+    const char *slash = strrchr(path, '/');
+
+    return slash != NULL ? slash + 1 : path;
+}
+
+/* The folder of a path, by a name that leads to folders alone. */
+static char *folder_of(const char *path)
+{
+    char *folder = joined(path, ".");
+
+    strcpy(folder + (name_in(path) - path), ".");
+    return folder;
+}
+
+/* Where a path leads, links followed, to a file that is there or that would be made; NULL where there is no folder for it. */
+static char *end_of(const char *path)
+{
+    char *whole = realpath(path, NULL), *folder, *slashed;
+
+    if (whole != NULL)
+        return whole;
+    folder = folder_of(path);
+    whole = realpath(folder, NULL);
+    free(folder);
+    if (whole == NULL)
+        return NULL;
+    slashed = joined(whole, "/");
+    free(whole);
+    whole = joined(slashed, name_in(path));
+    free(slashed);
+    return whole;
+}
+
+/* Standard input and output are no files here; what is no file that could be renamed is not lost when it is written to. */
+int is_same_file(const char *left, const char *right)
+{
+    struct stat found;
+    char *one, *other;
+    int same;
+
+    if (strcmp(left, "-") == 0 || strcmp(right, "-") == 0)
+        return 0;
+    if (strcmp(left, right) == 0)
+        return 1;
+    if (stat(left, &found) == 0 && !S_ISREG(found.st_mode))
+        return 0;
+    one = end_of(left);
+    other = end_of(right);
+    same = one != NULL && other != NULL && strcmp(one, other) == 0;
+    free(one);
+    free(other);
+    return same;
+}
+
+/* ---- what cannot be renamed ---- */
+
+/* Whether a path leads to standard output, a device or a pipe: a file beside it would take its place. */
+static int stays_in_place(const char *path)
+{
+    struct stat found;
+
+    return strcmp(path, "-") == 0 || (stat(path, &found) == 0 && !S_ISREG(found.st_mode) && !S_ISDIR(found.st_mode));
+}
+
+static void write_in_place(const struct output *output)
+{
+    int file;
+
+    if (strcmp(output->path, "-") == 0) {
+        fwrite(output->bytes->at, 1, output->bytes->length, stdout);
+        if (finish(DONE) != DONE)
+            exit(NO_FILE);
+        return;
+    }
+    file = open(output->path, O_WRONLY);
+    if (file < 0 || !write_all(file, output->bytes) || close(file) != 0)
+        give_up(output->path);
+}
+
+/* ---- beside, and in its place ---- */
+
+/* A stop from outside waits until the files are in their places, so that none is left beside. */
+static void hold_stops(int how)
+{
+    sigset_t stops;
+    unsigned k;
+
+    sigemptyset(&stops);
+    for (k = 0; k < STOPS; k++)
+        sigaddset(&stops, stop_signals[k]);
+    sigprocmask(how, &stops, NULL);
+}
+
+static sigjmp_buf before_wait;
+
+static void end_wait(int number)
+{
+    (void)number;
+    siglongjmp(before_wait, 1);
+}
+
+/* A lock that another tool has: here alone a stop is let through, and it leaves the old files. What fcntl says otherwise. */
+static int wait_for(int file, struct flock *whole)
+{
+    static struct sigaction heard[STOPS];
+    int done, why;
+
+    if (sigsetjmp(before_wait, 1) != 0) {
+        take_away();
+        quit(NO_FILE, "%s: not written: stopped while another tool writes it", places[place_count - 1].path);
+    }
+    stops_hear(end_wait, 0, heard);
+    hold_stops(SIG_UNBLOCK);
+    done = fcntl(file, F_SETLKW, whole);
+    why = errno;
+    hold_stops(SIG_BLOCK);
+    stops_restore(heard);
+    errno = why;
+    return done;
+}
+
+/*
+ * Waits until no other tool holds a file. 0 where that would be for ever, since each of two has what the other wants. Where the
+ * disk has no locks, nothing is held.
+ */
+static int lock(int file)
+{
+    struct flock whole;
+    int done;
+
+    memset(&whole, 0, sizeof whole);
+    whole.l_type = F_WRLCK;
+    whole.l_whence = SEEK_SET;
+    done = fcntl(file, F_SETLK, &whole);
+    if (done != 0 && (errno == EAGAIN || errno == EACCES))
+        do
+            done = wait_for(file, &whole);
+        while (done != 0 && errno == EINTR);
+    return done == 0 || errno != EDEADLK;
+}
+
+/* Whether it is a file with one name alone: no tool leaves anything else, and another name would lose its bytes. errno tells. */
+static int is_plain(const struct stat *found)
+{
+    errno = S_ISREG(found->st_mode) ? EMLINK : EEXIST;
+    return S_ISREG(found->st_mode) && found->st_nlink <= 1;
+}
+
+/*
+ * Opens the file beside and holds it, so that of two tools one waits for the other. What a tool that was killed left there is
+ * used again. The one that was held may have been renamed meanwhile: then there is another by that name, or none.
+ */
+static int hold(const char *beside, mode_t mode)
+{
+    struct stat held, named;
+    int file, tries;
+
+    for (tries = 0; tries < TRIES_MOST; tries++) {
+        file = open(beside, O_RDWR | O_CREAT | O_NOFOLLOW, mode);
+        if (file < 0 || !lock(file))
+            return -1;
+        if (fstat(file, &held) != 0)
+            return -1;
+        if (lstat(beside, &named) == 0 && held.st_dev == named.st_dev && held.st_ino == named.st_ino)
+            return is_plain(&held) ? file : -1;
+        close(file);
+    }
+    errno = EBUSY;
+    return -1;
+}
+
+/* Ends the tool where two files have one place, by whatever names. */
+static void refuse_twice(const struct place *place)
+{
+    const struct place *other;
+    struct stat mine, theirs;
+
+    for (other = places; other < place; other++)
+        if (fstat(place->file, &mine) == 0 && fstat(other->file, &theirs) == 0 && mine.st_dev == theirs.st_dev &&
+            mine.st_ino == theirs.st_ino) {
+            unlink(place->beside);
+            quit(USAGE, "%s: not written: %s leads to the same file", place->path, other->path);
+        }
+}
+
+/* Fills a place in, all but its file. 0 where there is none for a file; errno tells. */
+static int find_place(struct place *place, const char *path)
+{
+    struct stat old;
+    int stood = stat(path, &old) == 0;
+
+    place->path = path;
+    place->file = -1;
+    place->stood = stood;
+    place->shut = stood && !(old.st_mode & S_IWUSR);
+    place->mode = stood ? (old.st_mode & MODE_BITS) | S_IWUSR : (mode_t)NEW_MODE;
+    place->target = NULL;
+    errno = path[0] == '\0' ? ENOENT : EISDIR;
+    if (path[0] != '\0' && (!stood || !S_ISDIR(old.st_mode)))
+        place->target = stood ? realpath(path, NULL) : joined(path, "");
+    place->beside = place->target != NULL ? joined(place->target, suffix) : NULL;
+    return place->target != NULL;
+}
+
+/* All bytes of a file beside its place and on the disk; a file that stood there keeps its mode. */
+static void write_beside(const struct output *output)
+{
+    struct place *place = &places[place_count++];
+
+    if (!find_place(place, output->path))
+        give_up(output->path);
+    place->file = hold(place->beside, place->mode);
+    if (place->file < 0)
+        give_up(place->path);
+    refuse_twice(place);
+    /* before the bytes: what was left beside may be open to more readers than the file that stood there */
+    if (place->stood)
+        fchmod(place->file, place->mode);
+    if (ftruncate(place->file, 0) != 0 || !write_all(place->file, output->bytes) || fsync(place->file) != 0)
+        give_up(place->path);
+}
+
+static void rename_all(void)
+{
+    struct place *place;
+
+    for (place = places; place < places + place_count; place++) {
+        if (rename(place->beside, place->target) != 0)
+            give_up(place->path);
+        /* not before: what a kill leaves beside could not be opened again */
+        if (place->shut)
+            fchmod(place->file, place->mode & ~(mode_t)S_IWUSR);
+        close(place->file);
+        place->file = -1;
+        free(place->beside);
+        free(place->target);
+    }
+    place_count = 0;
+}
+
+/* ---- before there are bytes ---- */
+
+/* Whether files can be made, and renamed, in the folder of a path. */
+static int folder_takes(const char *path)
+{
+    char *folder = folder_of(path);
+    int takes = access(folder, W_OK | X_OK) == 0;
+
+    free(folder);
+    return takes;
+}
+
+/* Whether hold could open a file beside; errno tells. One that another tool renames meanwhile is none. */
+static int could_hold(const char *beside)
+{
+    struct stat found;
+
+    if (!folder_takes(beside))
+        return 0;
+    if (lstat(beside, &found) != 0)
+        return errno == ENOENT;
+    errno = S_ISDIR(found.st_mode) ? EISDIR : ELOOP;
+    if (S_ISDIR(found.st_mode) || S_ISLNK(found.st_mode))
+        return 0;
+    return is_plain(&found) && (access(beside, R_OK | W_OK) == 0 || errno == ENOENT);
+}
+
+void output_test(const char *path)
+{
+    struct place place;
+
+    if (path == NULL || strcmp(path, "-") == 0)
+        return;
+    if (stays_in_place(path)) {
+        if (access(path, W_OK) != 0)
+            give_up(path);
+        return;
+    }
+    if (!find_place(&place, path) || !could_hold(place.beside))
+        give_up(path);
+    free(place.target);
+    free(place.beside);
+}
+
+/* ---- all ---- */
+
+void outputs_write(const struct output *outputs, unsigned count)
+{
+    unsigned k;
+
+    for (k = 0; k < count; k++)
+        if (outputs[k].path != NULL && stays_in_place(outputs[k].path))
+            write_in_place(&outputs[k]);
+    hold_stops(SIG_BLOCK);
+    for (k = 0; k < count; k++)
+        if (outputs[k].path != NULL && !stays_in_place(outputs[k].path))
+            write_beside(&outputs[k]);
+    rename_all();
+    hold_stops(SIG_UNBLOCK);
+}
