@@ -123,6 +123,23 @@ static void measure_text(struct random *random)
     measure(PARSE);
 }
 
+/* Texts that are refused behind their spelling: in a clause, in a mode line, and for a call without a mode line. */
+static void measure_refused_texts(void)
+{
+    static const char *const refused[] = {
+        "mode p(?). p(a,b) <- p(b) : p(c). p(a) <- p(b) & q : p(c). <- p(A), A = b & p(d).",
+        "mode p(?). mode p(?). p(a) <- p(b) : p(c). <- p(A) & p(d).",
+        "mode p(?). p(a) <- p(b) : q(c). <- p(A), A = b & p(d).",
+    };
+    unsigned k;
+
+    for (k = 0; k < sizeof refused / sizeof refused[0]; k++) {
+        text.length = strlen(refused[k]);
+        memcpy(text.bytes, refused[k], text.length);
+        measure(PARSE);
+    }
+}
+
 /* A whole run of one of the largest images: turn by turn, then from the start by one run call. */
 static void measure_image(struct random *random)
 {
@@ -151,6 +168,7 @@ int main(void)
 
     for (k = 0; k < IMAGES; k++)
         measure_image(&random);
+    measure_refused_texts();
     longrun_fill(&plan);
     measure(TURN);
     measure_all();

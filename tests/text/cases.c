@@ -169,6 +169,8 @@ static void limits_are_refused(void)
 {
     refused_repeated("", "mode p%u. ", 33, "<- .", MANY, 160);
     refused_repeated("", "mode p%u. ", 32, "mode p0. <- .", MANY, 160);
+    refused_repeated("", "mode p%u. ", 34, "p32. <- p33.", MANY, 160);
+    refused_repeated("", "mode p%u. ", 34, "p32. <- p34.", UNDECLARED, 0);
     refused_repeated("mode p. ", "p; ", 65, "<- .", MANY, 645);
     refused_repeated("mode p. ", "p. ", 9, "<- .", MANY, 85);
     refused_repeated("mode p. p <- p", ", p", 8, ". <- .", BODY, 5);
@@ -185,6 +187,8 @@ static void meaning_is_refused(void)
     refused("mode p. <- q", TEXT, 12);
     refused("mode p(?).\n<- p.", NAME, 6);
     refused("mode p. mode q. mode p. <- .", NAME, 10);
+    refused("mode p. mode p. <- q.", UNDECLARED, 0);
+    refused("mode p. mode p. p <- q. <- p.", UNDECLARED, 0);
     refused("mode p(?,^,?,^,?). <- .", BODY, 0);
     refused("mode p. mode p(?,^,?,^,?). <- .", BODY, 5);
     refused("mode p. p(a). <- .", NAME, 5);

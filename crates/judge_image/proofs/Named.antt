@@ -60,10 +60,6 @@ module _ (s : List ℕ) (kind : ℕ) (body : List ℕ) (q : ℕ) (r : List ℕ) 
 -- ---- relations
 
 module _ (s : List ℕ) where
-  relation-record : (ms : List ℕ) → relationBytes ms ≡ recordBytes 1 (length ms ∷ ms)
-  unfolding relationBytes
-  relation-record ms = refl
-
   pub relation-step : (ms : List ℕ) (q : ℕ) (r : List ℕ) → drop q s ≡ relationBytes ms ++ r → recordEnd s q ≡ q + length (relationBytes ms)
   unfolding relationBytes
   relation-step ms q r e = record-end s 1 (length ms ∷ ms) q r e

@@ -82,10 +82,6 @@ module _ (s : List ℕ) (c : Clause) (q : ℕ) (r : List ℕ) (e : drop q s ≡ 
   unfolding clauseBytes
   clause-here = e
 
-  clause-length : length (clauseBytes c) ≡ 4 + length inner
-  unfolding clauseBytes
-  clause-length = record-length 2 inner
-
   abbrev rest : List ℕ
   rest = (heads ++ (guards ++ bodies)) ++ r
 

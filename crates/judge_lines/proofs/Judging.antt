@@ -1,21 +1,19 @@
--- One turn of the loops over the records of a text.
+-- One record more among those that were tested.
 use mathlib.Core.Path.{_∙_, _≡_, ap, refl, sym}
 use mathlib.Core.Bool.{_&&_, Bool, false, not, true}
 use mathlib.Core.List.{[], _∷_, List}
 use Prim.Native.Nat.{_+_, _≤_, ℕ}
 use lib.Dec.{eqb, ltb}
-use lib.ListN.{drop, length}
+use lib.ListN.{length}
 use borrow.Author.Tests.{le-ltb, ne-eqb}
 use native.Mathlib.Omega.{arith}
 use Rattle.judge_image.proofs.Named.{record-length}
 use Rattle.judge_image.specs.Judged.{judged, progressOf, taken}
-use Rattle.judge_lines.specs.Whole.{askFrom}
 use Rattle.judge_said.specs.Said.{askRight, askSaid, clauseSaid, clausesSaid, clauseSize}
 use Rattle.judge_text.specs.Tests.{Counted}
-use Rattle.lay_clause.proofs.Fielded.{clause-record}
-use Rattle.lay_clause.specs.Fields.{clauseFields, clauseIn}
-use Rattle.lay_goal.specs.Fits.{goalFits}
-use Rattle.lay_lines.proofs.Sizes.{clause-long}
+use Rattle.lay_lines.proofs.Sizes.{clause-long, clause-record}
+use Rattle.lay_lines.specs.Fields.{clauseFields, clauseIn}
+use Rattle.lay_literal.specs.Fits.{goalFits}
 use Rattle.lay_lines.specs.Lines.{clauseRight, withVars}
 use Rattle.parlog.specs.Load.{after, blockWith, kindFault, refusal, refuseIf, tooMany}
 use Rattle.parlog.specs.declared.Loaded.{Loaded}
@@ -23,9 +21,8 @@ use Rattle.parlog.specs.declared.Loaded.the-variants.{Accepted, Refused}
 use Rattle.parlog.specs.declared.Progress.{Progress}
 use Rattle.parlog.specs.declared.Verdict.{Verdict}
 use Rattle.parlog.specs.declared.Verdict.the-variants.{Goes, Refuses}
-use Rattle.read_names.specs.Tables.{modesFrom}
 use Rattle.text_names.specs.Names.{Name, sameName}
-use Rattle.text_program.specs.Source.{behindArrow, consGot, got, Got, isClause, lines, ModeLine, readBody, readClause, Said, SaidClause}
+use Rattle.text_program.specs.Source.{consGot, got, Got, ModeLine, Said, SaidClause}
 
 -- ---- the goal
 
@@ -106,8 +103,3 @@ said-none ms then x y (c ∷ cs) k g = refl
 
 pub said-first : (ms : List ModeLine) (then : ℕ → Progress → Loaded) (x y : Name) (Y W : Got (List SaidClause)) (k : ℕ) (g : Progress) → Y ≡ W → clausesSaid ms then false x (Y .value) k g ≡ clausesSaid ms then false y (W .value) k g
 said-first ms then x y Y W k g e = ap (λ (v : Got (List SaidClause)). clausesSaid ms then false x (v .value) k g) e ∙ said-none ms then x y (W .value) k g
-
--- the goal behind the last clause
-pub ask-behind : (s : List ℕ) (m q p f k : ℕ) (g : Progress) (Y : Got (List SaidClause)) → Y .rest ≡ lines isClause readClause (drop q s) .rest → Y ≡ got [] (drop p s) → drop f s ≡ behindArrow (drop p s) →
-    after taken k (askSaid (modesFrom s m) g (readBody (drop f s) .value)) ≡ askFrom s m q k g
-ask-behind s m q p f k g Y e h i = ap (λ (y : List ℕ). after taken k (askSaid (modesFrom s m) g (readBody y .value))) (i ∙ ap behindArrow (sym (ap (λ (y : Got (List SaidClause)). y .rest) h) ∙ e))

@@ -1,32 +1,27 @@
--- One turn of the loop over mode lines.
+-- One mode line more among those that were tested.
 use mathlib.Core.Path.{_∙_, _≡_, ap, refl, sym}
 use mathlib.Core.Bool.{_&&_, Bool, cond, false, not, true}
 use mathlib.Core.List.{[], _∷_, List}
-use Prim.Native.Nat.{_+_, _<_, _≤_, suc, zero, ℕ}
+use Prim.Native.Nat.{_+_, _≤_, suc, zero, ℕ}
 use lib.Dec.{eqb, leb, ltb}
-use lib.ListN.{drop, getD, length}
-use lib.Seq.{drop-drop, getD-drop}
-use borrow.Author.Tests.{le-leb, le-ltb, leb-false, leb-true, lt-leb, ltb-false, ltb-true, ne-eqb}
+use lib.ListN.{getD, length}
+use borrow.Author.Tests.{le-leb, le-ltb, leb-true, lt-leb, ltb-false, ltb-true, ne-eqb}
 use native.Mathlib.Omega.{arith}
 use Rattle.judge_image.proofs.Named.{record-length}
-use Rattle.judge_image.specs.Judged.{judged, progressOf, relationJudged, relationSized, relationsJudged, taken}
-use Rattle.judge_lines.proofs.Judging.{judged-goes, never}
-use Rattle.judge_lines.specs.Whole.{clausesBehindModes, Opening}
-use Rattle.judge_said.specs.Said.{askSaid, clausesSaid}
-use Rattle.judge_text.specs.Tests.{Counted, tested}
+use Rattle.judge_image.specs.Judged.{judged, progressOf, relationJudged, relationSized, relationsJudged}
+use Rattle.judge_lines.specs.Whole.{Opening}
+use Rattle.judge_text.specs.Tests.{tested}
 use Rattle.lay_lines.specs.Lines.{modesOf}
-use Rattle.parlog.specs.Load.{after, kindFault, refusal, refuseIf, tooMany}
+use Rattle.parlog.specs.Load.{kindFault, refusal, refuseIf, tooMany}
 use Rattle.parlog.specs.declared.Loaded.{Loaded}
 use Rattle.parlog.specs.declared.Loaded.the-variants.{Refused}
 use Rattle.parlog.specs.declared.Progress.{Progress}
-use Rattle.parlog.specs.declared.Verdict.{Verdict}
 use Rattle.parlog.specs.declared.Verdict.the-variants.{Goes, Refuses}
-use Rattle.read_names.specs.Tables.{modesFrom}
 use Rattle.text_names.specs.Bytes.{first, next, past}
 use Rattle.text_names.specs.Names.{look, Name}
 use Rattle.text_program.specs.Encoded.{relationBytes}
 use Rattle.text_program.specs.Parsing.{allOf, onceBy, repeated}
-use Rattle.text_program.specs.Source.{behindArrow, bracketsBy, consGot, got, Got, isClause, isModeLine, lines, ModeLine, readBody, readBrackets, readClause, readMode, readModeLine, rowBy, rowFor}
+use Rattle.text_program.specs.Source.{bracketsBy, consGot, got, Got, ModeLine, readBrackets, readMode, readModeLine, rowBy, rowFor}
 
 -- ---- modes are 0 or 1
 
@@ -82,37 +77,6 @@ mode-tested names g ms x k right o r z n e =
     go false true true = refl
     go false true false = refl
 
-once-goes : (b : Bool) (v : Verdict) (next : Progress) → onceBy b v ≡ Goes next → v ≡ Goes next
-once-goes b (Refuses n) next e = e
-once-goes true (Goes g) next e = never 5 next e
-once-goes false (Goes g) next e = e
-
-pub mode-goes : (names : List Name) (g : Progress) (ms : List ℕ) (next : Progress) → relationJudged names g ms ≡ Goes next → (relationSized ms ≡ true) × (next ≡ progressOf g 1 0 0)
-unfolding relationJudged
-mode-goes names g ms next e = judged-goes g 1 (relationSized ms) true 0 0 next (once-goes (repeated names (g .relations)) (judged g 1 (relationSized ms) true 0 0) next e)
-
-mode-many : (names : List Name) (g : Progress) (ms : List ℕ) (next : Progress) → relationJudged names g ms ≡ Goes next → g .relations < 32
-unfolding relationJudged judged tooMany
-mode-many names g ms next e = go (leb 32 (g .relations)) refl (once-goes (repeated names (g .relations)) (judged g 1 (relationSized ms) true 0 0) next e)
-  where
-    many-never : (a : Bool) → refuseIf a 3 (Refuses 6) ≡ Goes next → g .relations < 32
-    many-never true h = never 3 next h
-    many-never false h = never 6 next h
-
-    go : (b : Bool) → leb 32 (g .relations) ≡ b → refuseIf (kindFault g 1) 3 (refuseIf b 6 (refuseIf (not (relationSized ms)) 4 (Goes (progressOf g 1 0 0)))) ≡ Goes next → g .relations < 32
-    go true f h = many-never (kindFault g 1) h
-    go false f h = leb-false 32 (g .relations) f
-
-pub mode-opening : (names : List Name) (g : Progress) (ms : List ℕ) (next : Progress) → Opening g → relationJudged names g ms ≡ Goes next → Opening next × (next .relations ≡ g .relations + 1)
-unfolding progressOf
-mode-opening names g ms next o e =
-    let h = mode-many names g ms next e in
-    let p = mode-goes names g ms next e .1 in
-    (rw p (record { relations = omega arith; clauses = o .clauses; kind = omega arith; block = o .block }), ap (λ (k : Progress). k .relations) p)
-
-pub opening-counted : (g : Progress) → Opening g → Counted g
-opening-counted g o = let a = o .relations in let b = o .clauses in let c = o .kind in let d = o .block in record { relations = a; clauses = omega arith; kind = omega arith; block = omega arith }
-
 pub mode-length : (ms : List ℕ) → length (relationBytes ms) ≡ 5 + length ms
 unfolding relationBytes
 mode-length ms = let a = record-length 1 (length ms ∷ ms) in omega arith
@@ -125,13 +89,7 @@ mode-few ms e = go (leb (length ms) 4) refl e
     go true f h = leb-true (length ms) 4 f
     go false f h = absurd (let z : _≡_ {A = ℕ} 0 1 = cc in omega arith)
 
--- ---- the names of the mode lines that are left
-
-pub name-here : (names : List Name) (k : ℕ) (x : Name) (xs : List Name) → drop k names ≡ x ∷ xs → getD names k [] ≡ x
-name-here names k x xs e = let z : k + 0 ≡ k = omega arith in sym (rw z at (getD-drop k names 0 [])) ∙ ap (λ (l : List Name). getD l 0 []) e
-
-pub name-next : (names : List Name) (k n : ℕ) (x : Name) (xs : List Name) → drop k names ≡ x ∷ xs → n ≡ k + 1 → drop n names ≡ xs
-name-next names k n x xs e f = rw f (sym (drop-drop 1 k names) ∙ ap (λ (l : List Name). drop 1 l) e)
+-- ---- the mode lines that are left
 
 module _ (names : List Name) (then : ℕ → Progress → Loaded) (k : ℕ) (g : Progress) where
   pub modes-on : (x : ModeLine) (Y Z : Got (List ModeLine)) (next : Progress) (at : ℕ) → Y ≡ consGot x Z → relationJudged names g (x .modes) ≡ Goes next → at ≡ k + length (relationBytes (x .modes)) → relationsJudged names then (modesOf (Z .value)) at next ≡ relationsJudged names then (modesOf (Y .value)) k g
@@ -145,10 +103,3 @@ module _ (names : List Name) (then : ℕ → Progress → Loaded) (k : ℕ) (g :
   pub modes-end : (r : List ℕ) (Y : Got (List ModeLine)) → Y ≡ got [] r → then k g ≡ relationsJudged names then (modesOf (Y .value)) k g
   unfolding relationsJudged
   modes-end r Y e = sym (ap (λ (y : Got (List ModeLine)). relationsJudged names then (modesOf (y .value)) k g) e)
-
--- the clauses behind the last mode line
-pub clauses-behind : (s : List ℕ) (m p k : ℕ) (g : Progress) (Y : Got (List ModeLine)) → Y .rest ≡ lines isModeLine readModeLine (drop m s) .rest → Y ≡ got [] (drop p s) →
-    clausesSaid (modesFrom s m) (λ at g. after taken at (askSaid (modesFrom s m) g (readBody (behindArrow (lines isClause readClause (drop p s) .rest)) .value))) false [] (lines isClause readClause (drop p s) .value) k g ≡ clausesBehindModes s m k g
-clauses-behind s m p k g Y e h =
-    let z : drop p s ≡ lines isModeLine readModeLine (drop m s) .rest = sym (ap (λ (y : Got (List ModeLine)). y .rest) h) ∙ e in
-    ap (λ (y : List ℕ). clausesSaid (modesFrom s m) (λ at g. after taken at (askSaid (modesFrom s m) g (readBody (behindArrow (lines isClause readClause y .rest)) .value))) false [] (lines isClause readClause y .value) k g) z

@@ -1,4 +1,4 @@
--- The goal behind the clauses of a text, and its tests.
+-- The clauses and the goal behind the mode lines of a text, and what is known before them.
 use mathlib.Core.Bool.{false}
 use mathlib.Core.List.{[], List}
 use mathlib.Core.Path.{_≡_}
@@ -10,15 +10,7 @@ use Rattle.parlog.specs.Load.{after}
 use Rattle.parlog.specs.declared.Loaded.{Loaded}
 use Rattle.parlog.specs.declared.Progress.{Progress}
 use Rattle.read_names.specs.Tables.{modesFrom}
-use Rattle.text_program.specs.Source.{behindArrow, isClause, isModeLine, lines, readBody, readClause, readModeLine, Said}
-
--- the goal behind the clauses from a place on
-abbrev pub goalFrom : List ℕ → ℕ → List (List Said)
-goalFrom s q = readBody (behindArrow (lines isClause readClause (drop q s) .rest)) .value
-
--- its tests, and that it is the last
-abbrev pub askFrom : List ℕ → ℕ → ℕ → ℕ → Progress → Loaded
-askFrom s m q at g = after taken at (askSaid (modesFrom s m) g (goalFrom s q))
+use Rattle.text_program.specs.Source.{behindArrow, isClause, isModeLine, lines, readBody, readClause, readModeLine}
 
 -- the clauses and the goal behind the mode lines from a place on
 abbrev pub clausesBehindModes : List ℕ → ℕ → ℕ → Progress → Loaded

@@ -12,7 +12,7 @@ use Rattle.judge_said.proofs.First.{terms-okay-in}
 use Rattle.judge_said.proofs.Known.{clause-told}
 use Rattle.judge_said.proofs.Sized.{clause-size, clause-sized}
 use Rattle.judge_said.specs.Said.{clauseSaid, clauseSize, clausesSaid}
-use Rattle.lay_clause.specs.Fields.{clauseFits, clauseIn}
+use Rattle.lay_lines.specs.Fields.{clauseFits, clauseIn}
 use Rattle.lay_lines.proofs.Sizes.{both, right-parts}
 use Rattle.lay_lines.specs.Lines.{clauseRight, clausesWith, modesOf, withVars}
 use Rattle.parlog.specs.Load.{after, blockWith, kindFault, refuseIf, tooMany}

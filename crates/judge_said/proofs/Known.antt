@@ -8,8 +8,8 @@ use lib.ListN.{getD, length}
 use borrow.Author.Tests.{le-ltb, lt-ltb, ltb-true, ne-eqb}
 use native.Mathlib.Omega.{arith}
 use Rattle.judge_image.specs.Judged.{clauseKnown, goalKnown, literalKnown, relationKnown, termKnown}
-use Rattle.lay_clause.specs.Fields.{clauseFits, clauseIn}
-use Rattle.lay_goal.specs.Fits.{goalFits, stageFits}
+use Rattle.lay_lines.specs.Fields.{clauseFits, clauseIn}
+use Rattle.lay_literal.specs.Fits.{goalFits, stageFits}
 use Rattle.lay_lines.proofs.Sizes.{both}
 use Rattle.lay_lines.specs.Lines.{modesOf}
 use Rattle.lay_literal.proofs.Laid.{map-length}

@@ -9,7 +9,7 @@ use native.Mathlib.Omega.{arith}
 use Rattle.judge_image.proofs.Fields.{terms-length}
 use Rattle.judge_image.specs.Judged.{askSized, clauseSized, goalSized, literalSized, literalsOf, stageSized}
 use Rattle.judge_said.specs.Said.{askRight, clauseSize}
-use Rattle.lay_clause.specs.Fields.{clauseIn}
+use Rattle.lay_lines.specs.Fields.{clauseIn}
 use Rattle.lay_lines.proofs.Sizes.{args-length}
 use Rattle.lay_lines.specs.Lines.{clauseRight, withVars}
 use Rattle.lay_literal.proofs.Laid.{map-length}

@@ -5,7 +5,7 @@ use mathlib.Core.List.{[], _++_, _∷_, append-nil, List}
 use Prim.Native.Nat.{_+_, _<_, _≤_, suc, ℕ}
 use lib.Dec.{leb}
 use lib.ListN.{length, length-append}
-use borrow.Author.Tests.{leb-false}
+use borrow.Author.Tests.{leb-false, leb-true}
 use native.Mathlib.Omega.{arith}
 use Rattle.judge_image.proofs.Walked.{records-judged}
 use Rattle.judge_image.specs.Judged.{askJudged, clausesJudged, goalKnown, judged, progressOf, relationJudged, relationSized, relationsJudged, taken}
@@ -14,9 +14,9 @@ use Rattle.judge_said.proofs.First.{terms-okay-in}
 use Rattle.judge_said.proofs.Known.{goal-told}
 use Rattle.judge_said.proofs.Sized.{ask-sized}
 use Rattle.judge_said.specs.Said.{askRight, askSaid, clausesSaid}
-use Rattle.lay_goal.specs.Fits.{goalFits}
 use Rattle.lay_lines.proofs.Sizes.{both}
 use Rattle.lay_lines.specs.Lines.{clausesWith, modesOf}
+use Rattle.lay_literal.specs.Fits.{goalFits}
 use Rattle.parlog.specs.Load.{after, nothingRead, tooMany}
 use Rattle.parlog.specs.declared.Loaded.{Loaded}
 use Rattle.parlog.specs.declared.Progress.{Progress}
@@ -125,3 +125,8 @@ records-said p d =
     ∙ rw (numbered-with p (p .clauses))
     (relations-both (relationNames p) (clausesJudged (modesOf (p .modes)) (askOf p) (clausesWith (relationNames p) (constantNames p) false [] (p .clauses))) (clausesSaid (p .modes) (λ at g. after taken at (askSaid (p .modes) g (p .goal))) false [] (p .clauses)) (length (p .modes))
     (λ at g z few. said p (e .0) (e .1) few at g z) (modesOf (p .modes)) 0 nothingRead refl (omega arith) (omega arith))
+
+-- the parts of a right goal
+pub right-parts : (g : List (List Said)) → askRight g ≡ true → (length (variableNames (goalTerms g)) ≤ 16) × (goalRight g ≡ true)
+unfolding askRight
+right-parts g e = let p = both (leb (length (variableNames (goalTerms g))) 16) (goalRight g) e in (leb-true (length (variableNames (goalTerms g))) 16 (p .0), p .1)

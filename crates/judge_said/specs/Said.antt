@@ -5,8 +5,8 @@ use Prim.Native.Nat.{_+_, ℕ}
 use lib.Dec.{leb}
 use lib.ListN.{length}
 use Rattle.judge_image.specs.Judged.{judged}
-use Rattle.lay_clause.specs.Fields.{clauseFits, clauseIn}
-use Rattle.lay_goal.specs.Fits.{goalFits}
+use Rattle.lay_lines.specs.Fields.{clauseFits, clauseIn}
+use Rattle.lay_literal.specs.Fits.{goalFits}
 use Rattle.lay_lines.specs.Lines.{clauseRight, withVars}
 use Rattle.parlog.specs.Load.{after}
 use Rattle.parlog.specs.declared.Loaded.{Loaded}

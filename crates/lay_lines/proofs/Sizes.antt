@@ -8,11 +8,12 @@ use lib.ListN.{length, length-append}
 use borrow.Author.Tests.{leb-true}
 use native.Mathlib.Omega.{arith}
 use Rattle.judge_image.proofs.Fields.{terms-length}
-use Rattle.lay_clause.specs.Fields.{askFields, clauseFields, clauseIn}
+use Rattle.lay_lines.specs.Fields.{clauseFields, clauseIn}
 use Rattle.lay_lines.specs.Lines.{clauseRight}
 use Rattle.lay_literal.proofs.Laid.{map-length}
+use Rattle.parlog.specs.Program.{Clause}
 use Rattle.read_goal.specs.Spans.{goalRight, literalRight, literalsIn, stageRight, stagesRight}
-use Rattle.text_program.specs.Encoded.{goalBytes, literalBytes, stageBytes, termBytes}
+use Rattle.text_program.specs.Encoded.{clauseBytes, goalBytes, literalBytes, recordBytes, stageBytes, termBytes}
 use Rattle.text_program.specs.Numbered.{clauseTerms, goalNumbered, joined, literalNumbered, Numbering, saidTerms, termNumbered, variableNames}
 use Rattle.text_program.specs.Parsing.{allOf}
 use Rattle.text_program.specs.Source.{calls, equals, Said, SaidClause}
@@ -79,6 +80,11 @@ right-parts c e =
     let r = both (goalRight (c .guard)) (goalRight (c .body)) (q .1) in
     record { head = leb-true (length (c .terms)) 4 (p .0); vars = leb-true (length (variableNames (clauseTerms c))) 16 (q .0); guard = r .0; body = r .1 }
 
+-- what stands in the record of a clause
+pub clause-record : (c : Clause) → clauseBytes c ≡ recordBytes 2 (clauseFields c)
+unfolding clauseBytes clauseFields
+clause-record c = refl
+
 pub clause-long : (n : Numbering) (mark : ℕ) (c : SaidClause) → clauseRight c ≡ true → length (clauseFields (clauseIn n mark c)) ≤ 190
 unfolding clauseFields
 clause-long n mark c e =
@@ -91,7 +97,3 @@ clause-long n mark c e =
     let h = length-append (joined termBytes (map (termNumbered n) (c .terms))) (goalBytes (goalNumbered n (c .guard)) ++ goalBytes (goalNumbered n (c .body))) in
     let k = length-append (goalBytes (goalNumbered n (c .guard))) (goalBytes (goalNumbered n (c .body))) in
     omega arith
-
-pub ask-long : (n : Numbering) (g : List (List Said)) → goalRight g ≡ true → length (askFields n g) ≤ 90
-unfolding askFields
-ask-long n g e = let a = goal-long n g e in omega arith

@@ -4,7 +4,7 @@ use mathlib.Core.List.{[], _∷_, List, map}
 use Prim.Native.Nat.{ℕ}
 use lib.Dec.{leb}
 use lib.ListN.{drop, length}
-use Rattle.lay_clause.specs.Fields.{clauseIn}
+use Rattle.lay_lines.specs.Fields.{clauseIn}
 use Rattle.parlog.specs.Program.{Clause}
 use Rattle.read_goal.specs.Spans.{goalRight}
 use Rattle.text_names.specs.Names.{Name, sameName}

@@ -1,22 +1,17 @@
--- What is laid of a text: the low byte of each number, with names numbered by tables of places; and the test of a call.
+-- What is laid of a text: the low byte of each number; and the test of a call.
 use mathlib.Core.Bool.{Bool, cond, true}
 use mathlib.Core.List.{[], _∷_, List}
 use Prim.Native.Nat.{_%_, ℕ}
 use lib.Dec.{eqb}
 use lib.ListN.{length}
-use Rattle.read_names.specs.Tables.{arityFor, modeNames, modesFrom, namesAt}
+use Rattle.read_names.specs.Tables.{arityFor, modeNames}
 use Rattle.text_names.specs.Names.{known}
-use Rattle.text_program.specs.Numbered.{Numbering}
 use Rattle.text_program.specs.Source.{calls, equals, ModeLine, Said}
 
 -- the low byte of each number
 unfoldable pub lows : List ℕ → List ℕ
 lows [] = []
 lows (b ∷ bs) = b % 256 ∷ lows bs
-
--- relations by the mode lines from place m on, constants and variables by the places in two tables
-abbrev pub numbersIn : List ℕ → ℕ → List ℕ → List ℕ → Numbering
-numbersIn s m consts vars = record { relations = modeNames (modesFrom s m); constants = namesAt s consts; variables = namesAt s vars }
 
 -- a call has the arity of its mode line, or it has a mode line
 unfoldable pub literalFits : Bool → List ModeLine → Said → Bool

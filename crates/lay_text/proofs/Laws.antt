@@ -4,12 +4,12 @@ use mathlib.Core.Bool.{_&&_, and-assoc, Bool, cond, false, true}
 use mathlib.Core.List.{[], _++_, _∷_, append-nil, List}
 use Prim.Native.Nat.{_+_, _-_, _<_, _≤_, suc, ℕ}
 use lib.Dec.{ltb}
-use lib.ListN.{drop, drop-of-length-le, getD, length, length-append, length-drop, take}
-use lib.Seq.{drop-cons, take-append-seam}
+use lib.ListN.{drop, drop-of-length-le, getD, length, length-append, length-drop, set, take}
+use lib.Seq.{drop-cons, getD-drop, length-take-le, take-add, take-append-seam, take-suc}
 use borrow.Author.Tests.{le-ltb, ltb-false, ltb-true}
 use native.Mathlib.Omega.{arith}
 use native.Mathlib.Numerals.{add-one}
-use Rattle.lay.proofs.Laws.{laid-length, laid-none, laid-past, laid-then}
+use Rattle.lay.proofs.Laws.{laid-length, laid-none, laid-one, laid-past, laid-then}
 use Rattle.lay.specs.Lay.{laid}
 use Rattle.lay_text.specs.Laying.{capped, Left, most, Writes}
 use Rattle.lay_text.specs.declared.To.{To}
@@ -142,11 +142,57 @@ front-back (b ∷ s) = go (isName b) (front-back s)
     go false e = refl
 
 -- a name by the place behind it
+name-length : (s : List ℕ) (from end : ℕ) → from ≤ length s → end ≤ length s → drop end s ≡ back (drop from s) → length (front (drop from s)) ≡ end - from
+name-length s from end h g e = let a = ap length (front-back (drop from s)) in omega (arith, length-append (front (drop from s)) (back (drop from s)), a, ap length e, length-drop end s, length-drop from s)
+
+pub name-order : (s : List ℕ) (from end : ℕ) → from ≤ length s → end ≤ length s → drop end s ≡ back (drop from s) → from ≤ end
+name-order s from end h g e = let a = ap length (front-back (drop from s)) in omega (arith, length-append (front (drop from s)) (back (drop from s)), a, ap length e, length-drop end s, length-drop from s)
+
 pub name-part : (s : List ℕ) (from end : ℕ) → from ≤ length s → end ≤ length s → drop end s ≡ back (drop from s) → front (drop from s) ≡ take (end - from) (drop from s)
 name-part s from end h g e =
-    let a = ap length (front-back (drop from s)) in
-    let n : length (front (drop from s)) ≡ end - from = omega (arith, length-append (front (drop from s)) (back (drop from s)), a, ap length e, length-drop end s, length-drop from s) in
+    let n = name-length s from end h g e in
     sym (ap (take (end - from)) (sym (front-back (drop from s))) ∙ rw (← n) (take-append-seam (front (drop from s)) (back (drop from s))))
+
+-- ---- a part of a row
+
+module _ (o s : List ℕ) (at from : ℕ) where
+  pub copy-start : o ≡ laid o at (take 0 (drop from s))
+  copy-start = sym (laid-none o at)
+
+  pub copy-turn : (p : List ℕ) (k b : ℕ) → from + k < length s → b ≡ getD s (from + k) 0 → p ≡ laid o at (take k (drop from s)) → set p (at + k) b ≡ laid o at (take (k + 1) (drop from s))
+  copy-turn p k b h e f =
+      let d = drop from s in
+      let l : k < length d = omega (arith, length-drop from s) in
+      let m : length (take k d) ≡ k = length-take-le k d (omega arith) in
+      sym (laid-one p (at + k) b) ∙ rw f (rw m at (laid-then (take k d) (b ∷ []) o at))
+      ∙ ap (laid o at) (sym (rw add-one (take-suc d k 0 l) ∙ ap (λ (v : ℕ). take k d ++ (v ∷ [])) (getD-drop from s k 0 ∙ sym e)))
+
+  pub copy-end : (p : List ℕ) (k n : ℕ) → k ≡ n → p ≡ laid o at (take k (drop from s)) → p ≡ laid o at (take n (drop from s))
+  copy-end p k n e f = rw (← e) f
+
+  -- what there is no room for leaves the row
+  pub part-row : (m n : ℕ) → m ≤ n → from + n ≤ length s → (m < n → length o ≤ at + m) → laid o at (take m (drop from s)) ≡ laid o at (take n (drop from s))
+  part-row m n h g f = go (ltb m n) refl
+    where
+      go : (b : Bool) → ltb m n ≡ b → laid o at (take m (drop from s)) ≡ laid o at (take n (drop from s))
+      go false e = let z : m ≡ n = omega (arith, ltb-false m n e) in rw z
+      go true e =
+          let d = drop from s in
+          let z : n ≡ m + (n - m) = omega arith in
+          let l : length (take m d) ≡ m = length-take-le m d (omega (arith, length-drop from s)) in
+          let q = f (ltb-true m n e) in
+          let c = laid-length (take m d) o at in
+          sym (laid-past (take (n - m) (drop m d)) (laid o at (take m d)) (at + m) (omega arith))
+          ∙ rw l at (laid-then (take m d) (take (n - m) (drop m d)) o at)
+          ∙ ap (laid o at) (sym (take-add m (n - m) d) ∙ ap (λ (v : ℕ). take v d) (sym z))
+
+-- the name from one place to another, and whether it is one
+pub entry-told : (o p s : List ℕ) (w y : To) (from end : ℕ) (cs : List ℕ) (ok : Bool) → from ≤ length s → end ≤ length s → drop end s ≡ back (drop from s) → front (drop from s) ≡ cs → length o ≤ most →
+    p ≡ laid o (w .at) (take (end - from) (drop from s)) → y .at ≡ capped (w .at + (end - from)) → y .named ≡ (w .named && ok) → Writes o w cs ok p y
+entry-told o p s w y from end cs ok h g e f l r a n =
+    let q = name-part s from end h g e in
+    let m = name-length s from end h g e in
+    rw (← f) (record { row = r ∙ ap (laid o (w .at)) (sym q); place = a ∙ ap (λ (v : ℕ). capped (w .at + v)) (sym m); named = n; small = l; size = ap length r ∙ laid-length (take (end - from) (drop from s)) o (w .at) })
 
 -- a name and whether it is one
 pub name-told : {o : List ℕ} {w : To} {bs cs : List ℕ} {p : List ℕ} {x : To} (y : To) (ok : Bool) → bs ≡ cs → y .at ≡ x .at → y .named ≡ (x .named && ok) → Writes o w bs true p x → Writes o w cs ok p y

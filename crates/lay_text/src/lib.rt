@@ -1,12 +1,13 @@
 // Text laid into a lent row as far as there is room: bytes, words, and names of a names row.
+use entry_table::Noted;
 ghost use mathlib.Core.Bool.{true};
 ghost use mathlib.Core.List.{[], _∷_};
 ghost use mathlib.Core.Path.{_≡_};
-ghost use Prim.Native.Nat.{_+_, _≤_};
-ghost use lib.ListN.{drop, length};
+ghost use Prim.Native.Nat.{_+_, _<_, _≤_};
+ghost use lib.ListN.{drop, length, take};
+ghost use Rattle.entry_table.specs.Entered.{Entered};
 ghost use Rattle.lay.specs.Lay.{laid};
 ghost use Rattle.lay_text.specs.Laying.{capped, Writes};
-ghost use Rattle.text_names.specs.Bytes.{front};
 ghost use Rattle.text_names.specs.Entries.{entryName, isEntry};
 
 // The last place that a number can tell; a text that is longer ends there.
@@ -59,30 +60,58 @@ pub fn word(out: &mut [u8], w: To, bytes: &[u8]) -> To
     to
 }
 
-// The name at a place.
-fn name_at(out: &mut [u8], w: To, names: &[u8], from: usize) -> To
-    requires { ⌜ from ≤ length (now names) ⌝ }
-    ensures { λ r. ⌜ Writes (now (out .entry)) w (front (drop from (now (names .entry)))) true (now (out .exit)) r ⌝ }
+// ---- names
+
+// The smaller of two numbers.
+fn least(a: usize, b: usize) -> usize
+    ensures { λ r. ⌜ (r ≤ a) × (r ≤ b) × (r < b → a ≤ r) ⌝ }
 {
-    let end = text_names::name_end(names, from);
-    let mut to = w;
-    let mut i = from;
-    while i < end {
-        to = put(out, to, names[i]);
-        i += 1;
+    if a < b { a } else { b }
+}
+
+// n bytes of one row into another, where there is room.
+fn copy(out: &mut [u8], at: usize, s: &[u8], from: usize, n: usize)
+    requires { ⌜ (at + n ≤ length (now out)) × (from + n ≤ length (now s)) ⌝ }
+    ensures { λ _. ⌜ now (out .exit) ≡ laid (now (out .entry)) at (take n (drop from (now (s .entry)))) ⌝ }
+{
+    let mut k = 0;
+    while k < n {
+        out[at + k] = s[from + k];
+        k += 1;
     }
-    to
+}
+
+// The same as far as there is room.
+fn copy_in(out: &mut [u8], at: usize, s: &[u8], from: usize, n: usize)
+    requires { ⌜ from + n ≤ length (now s) ⌝ }
+    ensures { λ _. ⌜ now (out .exit) ≡ laid (now (out .entry)) at (take n (drop from (now (s .entry)))) ⌝ }
+{
+    if at < out.len() {
+        let m = least(out.len() - at, n);
+        copy(out, at, s, from, m);
+    }
+}
+
+// n places further.
+fn ahead(at: usize, n: usize) -> usize
+    ensures { λ r. ⌜ r ≡ capped (at + n) ⌝ }
+{
+    if n <= MOST - at { at + n } else { MOST }
 }
 
 // The name in entry k, and whether it is one.
-pub fn name(out: &mut [u8], w: To, names: &[u8], k: usize) -> To
+pub fn name(out: &mut [u8], w: To, names: &[u8], table: &[usize], e: Noted, k: usize) -> To
+    requires { ⌜ Entered (now names) (now table) (e .every) (e .count) ⌝ }
     ensures { λ r. ⌜ Writes (now (out .entry)) w (entryName (now (names .entry)) k) (isEntry (now (names .entry)) k) (now (out .exit)) r ⌝ }
 {
-    let from = text_names::entry_at(names, k);
-    let to = name_at(out, w, names, from);
-    let there = text_names::is_entry(names, k);
+    let from = entry_table::find(names, table, e, k);
+    let end = text_names::name_end(names, from);
+    let at = w.at;
+    let n = end - from;
+    copy_in(out, at, names, from, n);
+    let there = entry_table::is_name(names, from, end);
     To {
-        at: to.at,
-        named: basics::and(to.named, there),
+        at: ahead(at, n),
+        named: basics::and(w.named, there),
     }
 }

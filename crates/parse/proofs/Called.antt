@@ -5,20 +5,20 @@ use mathlib.Core.List.{[], _++_, _∷_, append-assoc, List}
 use Prim.Native.Nat.{_<_, _≤_, ℕ}
 use lib.Dec.{leb, ltb}
 use lib.ListN.{drop, length, length-append, take}
-use lib.Seq.{take-all}
+use lib.Seq.{length-take-le, take-all}
 use borrow.Author.Tests.{le-leb, le-ltb, lt-leb, ltb-false, ltb-true, not-false, not-true}
 use native.Mathlib.Omega.{arith}
 use native.Mathlib.Nat.{zero-add}
-use Rattle.gather.proofs.Gathered.{sorted-append}
 use Rattle.judge_image.specs.Judged.{relationsJudged, taken}
 use Rattle.judge_lines.specs.Whole.{clausesBehindModes}
+use Rattle.judge_said.proofs.Clauses.{goal-few}
 use Rattle.judge_said.proofs.First.{adds-length, lowers-length}
-use Rattle.judge_said.proofs.Told.{numbered-with, records-said}
+use Rattle.judge_said.proofs.Told.{numbered-with, records-said, right-parts}
 use Rattle.judge_said.specs.Said.{askRight, askSaid, clausesSaid}
 use Rattle.lay.proofs.Laws.{laid-start}
-use Rattle.lay_clause.specs.Fields.{clauseFits}
-use Rattle.lay_goal.specs.Fits.{goalFits, stageFits}
-use Rattle.lay_image.specs.Imaged.{askWith, imageWith}
+use Rattle.lay_lines.specs.Fields.{clauseFits}
+use Rattle.lay_literal.specs.Fits.{goalFits, stageFits}
+use Rattle.lay_lines.specs.Imaged.{askWith, imageWith}
 use Rattle.lay_lines.proofs.Sizes.{both}
 use Rattle.lay_lines.specs.Lines.{clauseRight, clausesFrom, modesOf, modesRight}
 use Rattle.lay_literal.proofs.Laid.{writes-both}
@@ -30,24 +30,23 @@ use Rattle.parlog.specs.Load.{after, long, nothingRead, refusal}
 use Rattle.parlog.specs.Tables.{written}
 use Rattle.parlog.specs.declared.Loaded.the-variants.{Accepted, Refused}
 use Rattle.parlog.specs.declared.Refusal.{Refusal}
-use Rattle.parse.specs.Says.{constantsIn, Few, fitted, fittedBy, ParseSays, Tells}
-use Rattle.read_names.proofs.Tabled.{adds-then}
+use Rattle.parse.specs.Says.{constantsIn, fitted, fittedBy, ParseSays, Tells}
+use Rattle.read_names.proofs.Tabled.{adds-then, names-length}
 use Rattle.read_names.specs.Tables.{Adds, modeNames, modesFrom, namesAt, sorted}
 use Rattle.spell.specs.Stuck.{spellingOf}
 use Rattle.spell.specs.declared.Spelt.the-variants.{Right, Stuck}
+use Rattle.take_term.proofs.Laws.{sorted-append}
 use Rattle.text_names.specs.Bytes.{skip}
 use Rattle.text_names.specs.Entries.{entries}
 use Rattle.text_names.specs.Names.{adds, Name}
 use Rattle.text_program.specs.Encoded.{programBytes}
 use Rattle.text_program.specs.Numbered.{clauseTerms, constantNames, goalTerms, joined, lowers, programIn, relationNames}
-use Rattle.text_program.specs.Parsing.{allOf, clauseDeclared, declared, goalDeclared, fitting, imageIn, literalDeclared, namesIn, notLong, ParseCall, parseCall, recordsIn, sourced, unread}
+use Rattle.text_program.specs.Parsing.{allOf, clauseDeclared, declared, fitting, goalDeclared, imageIn, literalDeclared, namesIn, notLong, ParseCall, parseCall, recordsIn, sourced, unread}
 use Rattle.text_program.specs.Source.{behindArrow, calls, equals, isClause, isModeLine, lines, ModeLine, readBody, readClause, readModeLine, Said, SaidClause, Source, sourceOf}
 use Rattle.text_program.specs.declared.Parsed.{Parsed}
 use Rattle.text_program.specs.declared.Parsed.the-variants.{Read}
 use Rattle.text_taken.proofs.Low.{low-image}
 use Rattle.text_taken.proofs.Taken.{ask-taken, clauses-taken, image-long, modes-taken, terms-few}
-use Rattle.judge_said.proofs.Clauses.{goal-few}
-use Rattle.lay_image.proofs.Written.{right-parts}
 
 -- a call told by its parts
 pub tells : {call call' : ParseCall} → call ≡ call' → Tells call' (call .answer) (call .image) (call .names)
@@ -91,6 +90,9 @@ unfolding written
 laid-whole {o} {p} {w} {x} {ok} bs e h l v =
     (v .row ∙ rw e (laid-start bs o h), v .place ∙ rw e (ap capped (zero-add (length bs)) ∙ capped-in (length bs) (omega arith)))
 
+pub size-told : (x n : ℕ) → x ≡ n → x < most → x ≡ capped n
+size-told x n e h = e ∙ sym (capped-in n (omega arith))
+
 pub measured-at : {o p : List ℕ} {w x : To} {ok : Bool} (bs : List ℕ) → w .at ≡ 0 → Writes o w bs ok p x → x .at ≡ capped (length bs)
 measured-at bs e v = v .place ∙ rw e (ap capped (zero-add (length bs)))
 
@@ -119,23 +121,38 @@ low-sort : (ts : List Name) → sorted false ts ≡ lowers ts
 unfolding sorted
 low-sort ts = refl
 
-pub constants-told : (s t u v : List ℕ) (c q n k : ℕ) → length t ≡ 4384 → Few s c q → Adds s t 0 u n (sorted false (joined clauseTerms (clausesFrom s c))) → Adds s u n v k (sorted false (goalTerms (readBody (drop q s) .value))) → namesAt s (take k v) ≡ constantsIn s c q
-unfolding namesAt
-constants-told s t u v c q n k l few a b =
-    let j = joined clauseTerms (clausesFrom s c) in
-    let g = goalTerms (readBody (drop q s) .value) in
-    let d = adds-then (sorted false j) (sorted false g) a b in
-    let h = adds-length (lowers (j ++ g)) [] in
-    let m = lowers-length (j ++ g) in
-    d .names ∙ ap (λ (y : List Name). take (length t) (adds [] y)) (sym (sorted-append false j g) ∙ low-sort (j ++ g)) ∙ rw l (take-all 4384 (adds [] (lowers (j ++ g))) (omega arith))
+module _ (s t u v : List ℕ) (c n k : ℕ) (g : List (List Said)) (l : length t ≡ 4385) (few : length (joined clauseTerms (clausesFrom s c) ++ goalTerms g) ≤ 4384)
+    (a : Adds s t 0 u n (sorted false (joined clauseTerms (clausesFrom s c)))) (b : Adds s u n v k (sorted false (goalTerms g))) where
+  pub constants-told : namesAt s (take k v) ≡ constantsIn s c g
+  unfolding namesAt
+  constants-told =
+      let j = joined clauseTerms (clausesFrom s c) in
+      let d = adds-then (sorted false j) (sorted false (goalTerms g)) a b in
+      let h = adds-length (lowers (j ++ goalTerms g)) [] in
+      let m = lowers-length (j ++ goalTerms g) in
+      d .names ∙ ap (λ (y : List Name). take (length t) (adds [] y)) (sym (sorted-append false j (goalTerms g)) ∙ low-sort (j ++ goalTerms g)) ∙ rw l (take-all 4385 (adds [] (lowers (j ++ goalTerms g))) (omega arith))
+
+  -- the table is not full
+  pub constants-room : k < length v
+  unfolding namesAt
+  constants-room =
+      let j = joined clauseTerms (clausesFrom s c) in
+      let h = adds-length (lowers (j ++ goalTerms g)) [] in
+      let m = lowers-length (j ++ goalTerms g) in
+      let e = ap (λ (y : List Name). length y) constants-told in
+      let f = names-length s (take k v) in
+      let i = length-take-le k v (b .inside) in
+      let z = a .size in
+      let y = b .size in
+      omega arith
 
 -- ---- the source by its places
 
 -- what is said in three parts of a text
-abbrev saidIn : List ℕ → List ℕ → List ℕ → Source
-saidIn x y z = record { modes = lines isModeLine readModeLine x .value; clauses = lines isClause readClause y .value; goal = readBody z .value }
+abbrev saidIn : List ℕ → List ℕ → List (List Said) → Source
+saidIn x y z = record { modes = lines isModeLine readModeLine x .value; clauses = lines isClause readClause y .value; goal = z }
 
-said-whole : (s : List ℕ) → sourceOf s ≡ saidIn (skip s) (lines isModeLine readModeLine (skip s) .rest) (behindArrow (lines isClause readClause (lines isModeLine readModeLine (skip s) .rest) .rest))
+said-whole : (s : List ℕ) → sourceOf s ≡ saidIn (skip s) (lines isModeLine readModeLine (skip s) .rest) (readBody (behindArrow (lines isClause readClause (lines isModeLine readModeLine (skip s) .rest) .rest)) .value)
 unfolding sourceOf
 said-whole s = refl
 
@@ -172,29 +189,29 @@ fitted-fitting image names p bs es e f l =
     go true = rw (e, f) refl
     go false = refl
 
-module _ (s : List ℕ) (m c q : ℕ) (a : drop m s ≡ skip s) (b : drop c s ≡ lines isModeLine readModeLine (drop m s) .rest) (d : drop q s ≡ behindArrow (lines isClause readClause (drop c s) .rest)) where
+module _ (s : List ℕ) (m c : ℕ) (g : List (List Said)) (a : drop m s ≡ skip s) (b : drop c s ≡ lines isModeLine readModeLine (drop m s) .rest) (d : g ≡ readBody (behindArrow (lines isClause readClause (drop c s) .rest)) .value) where
   -- what the text says
   abbrev sourceAt : Source
-  sourceAt = record { modes = modesFrom s m; clauses = clausesFrom s c; goal = readBody (drop q s) .value }
+  sourceAt = record { modes = modesFrom s m; clauses = clausesFrom s c; goal = g }
 
   source-told : sourceOf s ≡ sourceAt
   source-told =
       said-whole s
-      ∙ ap (λ (x : List ℕ). saidIn x (lines isModeLine readModeLine x .rest) (behindArrow (lines isClause readClause (lines isModeLine readModeLine x .rest) .rest))) (sym a)
-      ∙ ap (λ (y : List ℕ). saidIn (drop m s) y (behindArrow (lines isClause readClause y .rest))) (sym b)
-      ∙ ap (λ (z : List ℕ). saidIn (drop m s) (drop c s) z) (sym d)
+      ∙ ap (λ (x : List ℕ). saidIn x (lines isModeLine readModeLine x .rest) (readBody (behindArrow (lines isClause readClause (lines isModeLine readModeLine x .rest) .rest)) .value)) (sym a)
+      ∙ ap (λ (y : List ℕ). saidIn (drop m s) y (readBody (behindArrow (lines isClause readClause y .rest)) .value)) (sym b)
+      ∙ ap (λ (z : List (List Said)). saidIn (drop m s) (drop c s) z) (sym d)
 
-  declared-told : (allOf (clauseFits false (modesFrom s m)) (clausesFrom s c) && goalFits false (modesFrom s m) (readBody (drop q s) .value)) ≡ declared sourceAt
+  declared-told : (allOf (clauseFits false (modesFrom s m)) (clausesFrom s c) && goalFits false (modesFrom s m) g) ≡ declared sourceAt
   unfolding declared
-  declared-told = rw (all-same (clauseFits false (modesFrom s m)) (clauseDeclared (modeNames (modesFrom s m))) (fits-clause (modesFrom s m)) (clausesFrom s c), fits-goal (modesFrom s m) (readBody (drop q s) .value)) refl
+  declared-told = rw (all-same (clauseFits false (modesFrom s m)) (clauseDeclared (modeNames (modesFrom s m))) (fits-clause (modesFrom s m)) (clausesFrom s c), fits-goal (modesFrom s m) g) refl
 
   records-told : declared sourceAt ≡ true → relationsJudged (modeNames (modesFrom s m)) (clausesBehindModes s m) (modesOf (modesFrom s m)) 0 nothingRead ≡ recordsIn (relationNames sourceAt) (imageIn sourceAt)
   records-told e =
       ap (λ (y : List ℕ). relationsJudged (modeNames (modesFrom s m)) (clausesSaid (modesFrom s m) (λ at g. after taken at (askSaid (modesFrom s m) g (readBody (behindArrow (lines isClause readClause y .rest)) .value))) false [] (lines isClause readClause y .value)) (modesOf (modesFrom s m)) 0 nothingRead) (sym b)
-      ∙ ap (λ (z : List ℕ). relationsJudged (modeNames (modesFrom s m)) (clausesSaid (modesFrom s m) (λ at g. after taken at (askSaid (modesFrom s m) g (readBody z .value))) false [] (clausesFrom s c)) (modesOf (modesFrom s m)) 0 nothingRead) (sym d)
+      ∙ ap (λ (z : List (List Said)). relationsJudged (modeNames (modesFrom s m)) (clausesSaid (modesFrom s m) (λ at h. after taken at (askSaid (modesFrom s m) h z)) false [] (clausesFrom s c)) (modesOf (modesFrom s m)) 0 nothingRead) (sym d)
       ∙ sym (records-said sourceAt e)
 
-  module _ (image names : List ℕ) (known x y : Bool) (is : known ≡ (x && y)) (xs : x ≡ allOf (clauseFits false (modesFrom s m)) (clausesFrom s c)) (ys : y ≡ goalFits false (modesFrom s m) (readBody (drop q s) .value)) where
+  module _ (image names : List ℕ) (known x y : Bool) (is : known ≡ (x && y)) (xs : x ≡ allOf (clauseFits false (modesFrom s m)) (clausesFrom s c)) (ys : y ≡ goalFits false (modesFrom s m) g) where
     known-told : known ≡ declared sourceAt
     known-told = is ∙ rw (xs, ys) declared-told
 
@@ -211,14 +228,14 @@ module _ (s : List ℕ) (m c q : ℕ) (a : drop m s ≡ skip s) (b : drop c s �
   pub record TakenAt : Type 0 where
     pub modes : modesRight (modesFrom s m) ≡ true
     pub clauses : allOf clauseRight (clausesFrom s c) ≡ true
-    pub goal : askRight (readBody (drop q s) .value) ≡ true
-    pub few : Few s c q
-    pub low : declared sourceAt ≡ true → lows (imageWith (modesFrom s m) (constantsIn s c q) (clausesFrom s c) (readBody (drop q s) .value)) ≡ imageWith (modesFrom s m) (constantsIn s c q) (clausesFrom s c) (readBody (drop q s) .value)
-    pub short : length (imageWith (modesFrom s m) (constantsIn s c q) (clausesFrom s c) (readBody (drop q s) .value)) ≤ 12798
+    pub goal : askRight g ≡ true
+    pub few : length (joined clauseTerms (clausesFrom s c) ++ goalTerms g) ≤ 4384
+    pub low : declared sourceAt ≡ true → lows (imageWith (modesFrom s m) (constantsIn s c g) (clausesFrom s c) g) ≡ imageWith (modesFrom s m) (constantsIn s c g) (clausesFrom s c) g
+    pub short : length (imageWith (modesFrom s m) (constantsIn s c g) (clausesFrom s c) g) ≤ 12798
 
-  declared-parts : declared sourceAt ≡ true → (allOf (clauseDeclared (modeNames (modesFrom s m))) (clausesFrom s c) ≡ true) × (goalDeclared (modeNames (modesFrom s m)) (readBody (drop q s) .value) ≡ true)
+  declared-parts : declared sourceAt ≡ true → (allOf (clauseDeclared (modeNames (modesFrom s m))) (clausesFrom s c) ≡ true) × (goalDeclared (modeNames (modesFrom s m)) g ≡ true)
   unfolding declared
-  declared-parts e = both (allOf (clauseDeclared (modeNames (modesFrom s m))) (clausesFrom s c)) (goalDeclared (modeNames (modesFrom s m)) (readBody (drop q s) .value)) e
+  declared-parts e = both (allOf (clauseDeclared (modeNames (modesFrom s m))) (clausesFrom s c)) (goalDeclared (modeNames (modesFrom s m)) g) e
 
   pub taken-at : (r k : ℕ) → relationsJudged (modeNames (modesFrom s m)) (clausesBehindModes s m) (modesOf (modesFrom s m)) 0 nothingRead ≡ Accepted r k → TakenAt
   taken-at r k e =
@@ -232,39 +249,39 @@ module _ (s : List ℕ) (m c q : ℕ) (a : drop m s ≡ skip s) (b : drop c s �
       let v = ask-taken (modesFrom s m) (u .0 .g) (readBody (behindArrow (lines isClause readClause back .rest)) .value) (u .0 .at) r k (u .0 .on) in
       let cr : allOf clauseRight (clausesFrom s c) ≡ true = ap (λ (y : List ℕ). allOf clauseRight (lines isClause readClause y .value)) b ∙ u .0 .right in
       let cl : length (clausesFrom s c) ≡ length (lines isClause readClause back .value) = ap (λ (y : List ℕ). length (lines isClause readClause y .value)) b in
-      let ar : askRight (readBody (drop q s) .value) ≡ true = ap (λ (y : List ℕ). askRight (readBody y .value)) (d ∙ ap (λ (y : List ℕ). behindArrow (lines isClause readClause y .rest)) b) ∙ v in
+      let ar : askRight g ≡ true = ap askRight (d ∙ ap (λ (y : List ℕ). readBody (behindArrow (lines isClause readClause y .rest)) .value) b) ∙ v in
       let f = terms-few (clausesFrom s c) cr in
-      let g = goal-few (readBody (drop q s) .value) (right-parts (readBody (drop q s) .value) ar .1) in
-      let h = length-append (joined clauseTerms (clausesFrom s c)) (goalTerms (readBody (drop q s) .value)) in
+      let j = goal-few g (right-parts g ar .1) in
+      let h = length-append (joined clauseTerms (clausesFrom s c)) (goalTerms g) in
       record {
         modes = t .0 .right;
         clauses = cr;
         goal = ar;
         few = omega arith;
-        low = λ k. let w = declared-parts k in low-image (modesFrom s m) (constantsIn s c q) (clausesFrom s c) (readBody (drop q s) .value) (omega arith) (t .0 .sized) cr (w .0) ar (w .1) (omega arith) refl;
-        short = image-long (modesFrom s m) (constantsIn s c q) (clausesFrom s c) (readBody (drop q s) .value) (t .0 .right) (omega arith) cr (omega arith) ar;
+        low = λ k. let w = declared-parts k in low-image (modesFrom s m) (constantsIn s c g) (clausesFrom s c) g (omega arith) (t .0 .sized) cr (w .0) ar (w .1) (omega arith) refl;
+        short = image-long (modesFrom s m) (constantsIn s c g) (clausesFrom s c) g (t .0 .right) (omega arith) cr (omega arith) ar;
       }
 
-  image-told : imageIn sourceAt ≡ imageWith (modesFrom s m) (constantsIn s c q) (clausesFrom s c) (readBody (drop q s) .value)
+  image-told : imageIn sourceAt ≡ imageWith (modesFrom s m) (constantsIn s c g) (clausesFrom s c) g
   unfolding imageIn programIn programBytes imageWith askWith constantNames
   image-told = rw (numbered-with sourceAt (clausesFrom s c)) refl
 
-  names-told : namesIn sourceAt ≡ entries (modeNames (modesFrom s m)) ++ entries (constantsIn s c q)
+  names-told : namesIn sourceAt ≡ entries (modeNames (modesFrom s m)) ++ entries (constantsIn s c g)
   unfolding namesIn constantNames
-  names-told = entries-append (modeNames (modesFrom s m)) (constantsIn s c q)
+  names-told = entries-append (modeNames (modesFrom s m)) (constantsIn s c g)
 
   not-long : (bs : List ℕ) → length bs ≤ 12798 → long bs ≡ false
   unfolding long
   not-long bs h = le-ltb 32768 (length bs) (omega arith)
 
-  pub judged-taken : (image names : List ℕ) (known x y : Bool) → known ≡ (x && y) → x ≡ allOf (clauseFits false (modesFrom s m)) (clausesFrom s c) → y ≡ goalFits false (modesFrom s m) (readBody (drop q s) .value) → not known ≡ false → (r k : ℕ) →
+  pub judged-taken : (image names : List ℕ) (known x y : Bool) → known ≡ (x && y) → x ≡ allOf (clauseFits false (modesFrom s m)) (clausesFrom s c) → y ≡ goalFits false (modesFrom s m) g → not known ≡ false → (r k : ℕ) →
       relationsJudged (modeNames (modesFrom s m)) (clausesBehindModes s m) (modesOf (modesFrom s m)) 0 nothingRead ≡ Accepted r k →
-      fitted image names (lows (imageWith (modesFrom s m) (constantsIn s c q) (clausesFrom s c) (readBody (drop q s) .value))) (entries (modeNames (modesFrom s m)) ++ entries (constantsIn s c q)) ≡ sourced image names (declared (sourceOf s)) (sourceOf s)
+      fitted image names (lows (imageWith (modesFrom s m) (constantsIn s c g) (clausesFrom s c) g)) (entries (modeNames (modesFrom s m)) ++ entries (constantsIn s c g)) ≡ sourced image names (declared (sourceOf s)) (sourceOf s)
   judged-taken image names known x y is xs ys h r k e =
       let o = sym (known-told image names known x y is xs ys) ∙ not-false known h in
       let t = taken-at r k e in
-      let bs = imageWith (modesFrom s m) (constantsIn s c q) (clausesFrom s c) (readBody (drop q s) .value) in
-      let es = entries (modeNames (modesFrom s m)) ++ entries (constantsIn s c q) in
+      let bs = imageWith (modesFrom s m) (constantsIn s c g) (clausesFrom s c) g in
+      let es = entries (modeNames (modesFrom s m)) ++ entries (constantsIn s c g) in
       rw (source-told, o, sym (records-told o) ∙ e, t .low o)
       (fitted-fitting image names sourceAt bs es image-told names-told (not-long bs (t .short)))
 

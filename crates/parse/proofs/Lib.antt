@@ -1,1 +1,2 @@
 pub mod Called
+mod Stops

@@ -1,25 +1,24 @@
 // The call that reads a clause text: its image and its names in two lent rows, or a refusal that changes nothing.
 use lay_text::To;
-use parlog::Loaded;
+use mode_table::Lines;
+use parlog::Progress;
 use parlog::Refusal;
 use parlog::codes;
 use spell::Spelt;
 use text_program::Parsed;
-ghost use mathlib.Core.Bool.{true};
+ghost use mathlib.Core.Bool.{_&&_};
 ghost use mathlib.Core.List.{_++_};
 ghost use mathlib.Core.Path.{_≡_};
 ghost use Prim.Native.Nat.{_<_, _≤_};
-ghost use lib.ListN.{drop, length, take};
-ghost use Rattle.judge_said.specs.Said.{askRight};
-ghost use Rattle.lay_image.specs.Imaged.{imageWith};
-ghost use Rattle.lay_lines.specs.Lines.{clauseRight, clausesFrom, modesRight};
-ghost use Rattle.lay_literal.specs.Lows.{lows};
+ghost use lib.ListN.{length, take};
+ghost use Rattle.mode_table.specs.Moded.{Moded};
+ghost use Rattle.name_index.specs.Index.{Indexed};
 ghost use Rattle.parlog.specs.Load.{refusal};
-ghost use Rattle.parse.specs.Says.{constantsIn, Few, fitted, ParseSays, Tells};
+ghost use Rattle.parse.specs.Says.{askNumber, Behind, closed, declaredFor, fitted, offsetOf, ParseSays, stopAs, Tells};
 ghost use Rattle.read_names.specs.Tables.{modeNames, modesFrom, namesAt};
 ghost use Rattle.text_names.specs.Entries.{entries};
-ghost use Rattle.text_program.specs.Parsing.{allOf, declared, sourced};
-ghost use Rattle.text_program.specs.Source.{readBody, sourceOf};
+ghost use Rattle.text_program.specs.Parsing.{declared, sourced};
+ghost use Rattle.text_program.specs.Source.{sourceOf};
 ghost use Rattle.text_program.specs.declared.Parsed.the-variants.{Unread};
 
 // 16, TEXT.
@@ -28,8 +27,20 @@ const TEXT: u8 = 16;
 // 17, UNDECLARED.
 const UNDECLARED: u8 = 17;
 
-// How many constants a text can have that passes 4, 5 and 6: 68 in each of 64 clauses, and 32 in the goal.
-const CONSTANTS: usize = 4384;
+// Rows on the stack: an image has no more bytes than this.
+const IMAGE: usize = 12800;
+
+// One more than the constants of a text that passes 4, 5 and 6: 68 in each of 64 clauses, and 32 in the goal.
+const CONSTANTS: usize = 4385;
+
+// Their chains.
+const CONSTANT_LINKS: usize = 4897;
+
+// How many relations an image may have.
+const RELATIONS: usize = 32;
+
+// Their chains.
+const RELATION_LINKS: usize = 544;
 
 // A refusal with its number and its place.
 fn unread(number: u8, offset: usize) -> Parsed
@@ -48,63 +59,215 @@ fn room_of(row: &[u8]) -> usize
     row.len()
 }
 
-// Image and names, measured over a byte that nobody sees, then written; the constants are at the places of a table.
+// ---- what is written
+
+// The bytes of an image and the names, where both rows have room; the constants are at the places of a table.
 fn write(
     image: &mut [u8],
     names: &mut [u8],
     s: &[u8],
     m: usize,
-    c: usize,
-    q: usize,
+    bytes: &[u8],
     consts: &[usize],
 ) -> Parsed
-    requires { ⌜ (m ≤ length (now s)) × (c ≤ length (now s)) × (q ≤ length (now s)) × (modesRight (modesFrom (now s) m) ≡ true) × (allOf clauseRight (clausesFrom (now s) c) ≡ true) × (askRight (readBody (drop q (now s)) .value) ≡ true) ⌝ }
-    ensures { λ x. ⌜ Tells (fitted (now (image .entry)) (now (names .entry)) (lows (imageWith (modesFrom (now (s .entry)) m) (namesAt (now (s .entry)) (now (consts .entry))) (clausesFrom (now (s .entry)) c) (readBody (drop q (now (s .entry))) .value))) (entries (modeNames (modesFrom (now (s .entry)) m)) ++ entries (namesAt (now (s .entry)) (now (consts .entry))))) x (now (image .exit)) (now (names .exit)) ⌝ }
+    requires { ⌜ m ≤ length (now s) ⌝ }
+    ensures { λ x. ⌜ Tells (fitted (now (image .entry)) (now (names .entry)) (now (bytes .entry)) (entries (modeNames (modesFrom (now (s .entry)) m)) ++ entries (namesAt (now (s .entry)) (now (consts .entry))))) x (now (image .exit)) (now (names .exit)) ⌝ }
 {
     let i = room_of(image);
     let j = room_of(names);
+    let size = room_of(bytes);
     let start = To { at: 0, named: true };
     let mut unseen = [0u8; 1];
-    let size = lay_image::image(&mut unseen, start, s, m, c, q, consts);
     let a = lay_names::mode_names(&mut unseen, start, s, m);
     let b = lay_names::table_names(&mut unseen, a, s, consts);
-    let short = basics::or(i < size.at, j < b.at);
+    let short = basics::or(i < size, j < b.at);
     if short {
         return unread(codes::ROOM, 0);
     }
-    let e = lay_image::image(image, start, s, m, c, q, consts);
+    let e = lay_text::word(image, start, bytes);
     let f = lay_names::mode_names(names, start, s, m);
     let g = lay_names::table_names(names, f, s, consts);
     Parsed::Read(e.at, g.at)
 }
 
-// The same with the first n places of a table.
+// The same with the first n bytes of a row and the first k places of a table.
 fn write_by(
     image: &mut [u8],
     names: &mut [u8],
     s: &[u8],
     m: usize,
-    c: usize,
-    q: usize,
-    table: &[usize],
+    out: &[u8],
     n: usize,
+    table: &[usize],
+    k: usize,
 ) -> Parsed
-    requires { ⌜ (m ≤ length (now s)) × (c ≤ length (now s)) × (q ≤ length (now s)) × (modesRight (modesFrom (now s) m) ≡ true) × (allOf clauseRight (clausesFrom (now s) c) ≡ true) × (askRight (readBody (drop q (now s)) .value) ≡ true) × (n ≤ length (now table)) ⌝ }
-    ensures { λ x. ⌜ Tells (fitted (now (image .entry)) (now (names .entry)) (lows (imageWith (modesFrom (now (s .entry)) m) (namesAt (now (s .entry)) (take n (now (table .entry)))) (clausesFrom (now (s .entry)) c) (readBody (drop q (now (s .entry))) .value))) (entries (modeNames (modesFrom (now (s .entry)) m)) ++ entries (namesAt (now (s .entry)) (take n (now (table .entry)))))) x (now (image .exit)) (now (names .exit)) ⌝ }
+    requires { ⌜ (m ≤ length (now s)) × (n ≤ length (now out)) × (k ≤ length (now table)) ⌝ }
+    ensures { λ x. ⌜ Tells (fitted (now (image .entry)) (now (names .entry)) (take n (now (out .entry))) (entries (modeNames (modesFrom (now (s .entry)) m)) ++ entries (namesAt (now (s .entry)) (take k (now (table .entry)))))) x (now (image .exit)) (now (names .exit)) ⌝ }
 {
-    let consts = &table[..n];
-    write(image, names, s, m, c, q, consts)
+    let bytes = &out[..n];
+    let consts = &table[..k];
+    write(image, names, s, m, bytes, consts)
 }
 
-// The same once the constants are gathered.
-fn accepted(image: &mut [u8], names: &mut [u8], s: &[u8], m: usize, c: usize, q: usize) -> Parsed
-    requires { ⌜ (m ≤ length (now s)) × (c ≤ length (now s)) × (q ≤ length (now s)) × (modesRight (modesFrom (now s) m) ≡ true) × (allOf clauseRight (clausesFrom (now s) c) ≡ true) × (askRight (readBody (drop q (now s)) .value) ≡ true) × Few (now s) c q ⌝ }
-    ensures { λ x. ⌜ Tells (fitted (now (image .entry)) (now (names .entry)) (lows (imageWith (modesFrom (now (s .entry)) m) (constantsIn (now (s .entry)) c q) (clausesFrom (now (s .entry)) c) (readBody (drop q (now (s .entry))) .value))) (entries (modeNames (modesFrom (now (s .entry)) m)) ++ entries (constantsIn (now (s .entry)) c q))) x (now (image .exit)) (now (names .exit)) ⌝ }
+// ---- what is refused
+
+// 17 before 4 and 5 of the goal; 0 where all is right.
+fn ask_number(known: bool, right: bool, fits: bool) -> u8
+    ensures { λ r. ⌜ r ≡ askNumber known right fits ⌝ }
 {
-    let mut table = [0; CONSTANTS];
-    let n = read_text::constants(s, &mut table, 0, c);
-    let k = gather::body(s, &mut table, n, q, false);
-    write_by(image, names, s, m, c, q, &table, k)
+    if !known {
+        return UNDECLARED;
+    }
+    if !right {
+        return codes::BODY;
+    }
+    if fits { 0 } else { codes::NAME }
+}
+
+// The place that is told with a number: none with 17.
+fn offset_of(number: u8, at: usize) -> usize
+    ensures { λ r. ⌜ r ≡ offsetOf number at ⌝ }
+{
+    if number == UNDECLARED { 0 } else { at }
+}
+
+// A refusal with its number and its place, unless a call before it, in the clauses from a place on or in the goal has no mode line.
+fn stopped(
+    s: &[u8],
+    rels: &[usize],
+    arities: &[usize],
+    chains: &[u16],
+    lines: Lines,
+    out: &mut [u8],
+    consts: &mut [usize],
+    links: &mut [u16],
+    from: usize,
+    left: usize,
+    n: usize,
+    before: bool,
+    number: u8,
+    at: usize,
+) -> Parsed
+    requires { ⌜ (from ≤ length (now s)) × Indexed (now s) (now consts) (now links) n × Moded (now s) (now rels) (now arities) (now chains) lines ⌝ }
+    ensures { λ r. ⌜ r ≡ Unread (stopAs (before && declaredFor (now (s .entry)) (lines .from) from left) number at) ⌝ }
+{
+    let rest = take_text::rest_declared(
+        s,
+        rels,
+        arities,
+        chains,
+        lines,
+        out,
+        consts,
+        links,
+        from,
+        left,
+        n,
+    );
+    let q = read_clause::behind_arrow(s, rest.end);
+    let a = take_clause::ask(
+        s,
+        rels,
+        arities,
+        chains,
+        lines,
+        out,
+        consts,
+        links,
+        q,
+        0,
+        rest.consts,
+    );
+    let behind = basics::and(rest.declared, a.declared);
+    if basics::and(before, behind) {
+        return unread(number, at);
+    }
+    unread(UNDECLARED, 0)
+}
+
+// ---- the text
+
+// Mode lines that are all in the tables: none follows.
+fn close(s: &[u8], lines: Lines) -> Lines
+    ensures { λ r. ⌜ r ≡ closed (now (s .entry)) lines ⌝ }
+{
+    Lines {
+        from: lines.from,
+        count: lines.count,
+        rest: s.len(),
+    }
+}
+
+// The clauses from a place on and the goal, behind mode lines that were taken.
+fn clauses(
+    image: &mut [u8],
+    names: &mut [u8],
+    s: &[u8],
+    rels: &[usize],
+    arities: &[usize],
+    chains: &[u16],
+    lines: Lines,
+    out: &mut [u8],
+    consts: &mut [usize],
+    links: &mut [u16],
+    begin: usize,
+    at: usize,
+    known: Progress,
+) -> Parsed
+    requires { ⌜ Behind (now s) (now out) lines begin at known × Indexed (now s) (now consts) (now links) 0 × Moded (now s) (now rels) (now arities) (now chains) lines × (length (now consts) ≡ 4385) ⌝ }
+    ensures { λ x. ⌜ Tells (sourced (now (image .entry)) (now (names .entry)) (declared (sourceOf (now (s .entry)))) (sourceOf (now (s .entry)))) x (now (image .exit)) (now (names .exit)) ⌝ }
+{
+    let r = take_text::clause_lines(
+        s,
+        rels,
+        arities,
+        chains,
+        lines,
+        out,
+        consts,
+        links,
+        begin,
+        0,
+        at,
+        known,
+    );
+    if r.number != 0 {
+        return stopped(
+            s,
+            rels,
+            arities,
+            chains,
+            lines,
+            out,
+            consts,
+            links,
+            r.end,
+            r.left,
+            r.consts,
+            r.declared,
+            r.number,
+            r.at,
+        );
+    }
+    let q = read_clause::behind_arrow(s, r.end);
+    let a = take_clause::ask(
+        s,
+        rels,
+        arities,
+        chains,
+        lines,
+        out,
+        consts,
+        links,
+        q,
+        r.at,
+        r.consts,
+    );
+    let number = ask_number(basics::and(r.declared, a.declared), a.right, a.fits);
+    if number != 0 {
+        return unread(number, offset_of(number, r.at));
+    }
+    write_by(image, names, s, lines.from, out, a.at, consts, a.consts)
 }
 
 // A text that is spelled right.
@@ -112,21 +275,49 @@ fn spelled(image: &mut [u8], names: &mut [u8], s: &[u8]) -> Parsed
     ensures { λ x. ⌜ Tells (sourced (now (image .entry)) (now (names .entry)) (declared (sourceOf (now (s .entry)))) (sourceOf (now (s .entry)))) x (now (image .exit)) (now (names .exit)) ⌝ }
 {
     let m = text_names::skip_blanks(s, 0);
-    let lines = read_names::mode_lines(s, m);
-    let c = lines.end;
-    let q = read_text::goal_place(s, c);
-    let known = basics::and(
-        read_text::declared(s, m, c),
-        judge_text::ask_fits(s, m, q, false),
-    );
-    if !known {
-        return unread(UNDECLARED, 0);
+    let mut out = [0u8; IMAGE];
+    let mut consts = [0; CONSTANTS];
+    let mut links = [0u16; CONSTANT_LINKS];
+    let mut rels = [0; RELATIONS];
+    let mut arities = [0; RELATIONS];
+    let mut chains = [0u16; RELATION_LINKS];
+    let t = take_modes::mode_lines(s, m, &mut out, &mut rels, &mut arities, &mut chains);
+    if t.number != 0 {
+        let c = read_names::mode_lines(s, m);
+        let left = s.len() - c.end;
+        return stopped(
+            s,
+            &rels,
+            &arities,
+            &chains,
+            t.lines,
+            &mut out,
+            &mut consts,
+            &mut links,
+            c.end,
+            left,
+            0,
+            true,
+            t.number,
+            t.at,
+        );
     }
-    let v = judge_lines::records(s, m);
-    match v {
-        Loaded::Accepted(_, _) => accepted(image, names, s, m, c, q),
-        Loaded::Refused(r) => Parsed::Unread(r),
-    }
+    let lines = t.lines;
+    clauses(
+        image,
+        names,
+        s,
+        &rels,
+        &arities,
+        &chains,
+        close(s, lines),
+        &mut out,
+        &mut consts,
+        &mut links,
+        lines.rest,
+        t.at,
+        t.known,
+    )
 }
 
 // The image and the names of a text, in two lent rows.

@@ -31,15 +31,17 @@ fn accepted(text: &mut [u8], image: &[u8], names: &[u8], r: usize, c: usize) -> 
     ensures { λ x. ⌜ Tells (nameable (now (text .entry)) (programNamed (now (names .entry)) (programOf (now (image .entry)) r c)) (programText (now (names .entry)) (programOf (now (image .entry)) r c))) x (now (text .exit)) ⌝ }
 {
     let w = To { at: 0, named: true };
+    let mut table = [0usize; entry_table::PLACES];
+    let noted = entry_table::fill(&mut table, names);
     let mut unseen = [0u8; 1];
-    let m = write_text::lines(&mut unseen, w, image, names, r, c);
+    let m = write_text::lines(&mut unseen, w, image, names, &table, noted, r, c);
     if !m.named {
         return unwritten(UNDECLARED);
     }
     if text.len() < m.at {
         return unwritten(codes::ROOM);
     }
-    let e = write_text::lines(text, w, image, names, r, c);
+    let e = write_text::lines(text, w, image, names, &table, noted, r, c);
     Printed::Wrote(e.at)
 }
 

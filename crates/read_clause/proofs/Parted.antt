@@ -1,24 +1,19 @@
 -- The ways through the readers of clauses.
 use mathlib.Core.Path.{_∙_, _≡_, ap, refl, sym}
-use mathlib.Core.Bool.{Bool, true}
-use mathlib.Core.List.{[], _++_, List}
+use mathlib.Core.Bool.{_&&_, Bool, true}
+use mathlib.Core.List.{[], List}
 use Prim.Native.Nat.{_+_, _-_, _<_, _≤_, suc, zero, ℕ}
-use lib.Dec.{eqb}
+use lib.Dec.{eqb, leb}
 use lib.ListN.{drop, drop-of-length-le, getD, length, length-drop}
 use lib.Seq.{drop-drop, drop-length}
 use borrow.Author.Tests.{eq-eqb, ne-eqb}
 use native.Mathlib.Omega.{arith}
-use Rattle.gather.proofs.Gathered.{sorted-append, sorted-none}
 use Rattle.read_clause.specs.Parts.{ClauseIn, partOf, PartsIn}
-use Rattle.read_clause.specs.declared.ClauseAt.{ClauseAt}
 use Rattle.read_clause.specs.declared.Parts.{Parts}
 use Rattle.read_goal.proofs.Turn.{first-at}
 use Rattle.read_goal.specs.Spans.{goalRight, literalsIn, Spans, stagesRight}
 use Rattle.read_goal.specs.declared.Span.{Span}
-use Rattle.read_names.proofs.Tabled.{adds-as, adds-none, adds-then}
-use Rattle.read_names.specs.Tables.{Adds, sorted}
 use Rattle.text_names.specs.Bytes.{first, next, past, skip}
-use Rattle.text_program.specs.Numbered.{clauseTerms, goalTerms, joined}
 use Rattle.text_program.specs.Parsing.{allOf}
 use Rattle.text_program.specs.Source.{behindArrow, readBody, readBrackets, readClause, readGoal, readHalves, readTerm}
 
@@ -38,10 +33,6 @@ module _ (s : List ℕ) (at : ℕ) where
 -- ---- a part
 
 module _ (s : List ℕ) (how at : ℕ) where
-  pub part-none : at ≤ length s → how ≡ 0 → Spans s (partOf how (drop at s) .rest) (length (partOf how (drop at s) .value)) (goalRight (partOf how (drop at s) .value)) (record { end = at; count = 0; right = true })
-  unfolding partOf goalRight stagesRight allOf literalsIn
-  part-none i e = rw e (record { end = refl; inside = i; count = refl; right = refl })
-
   pub part-goal : how ≡ 1 → partOf how (drop at s) ≡ readGoal (drop at s)
   unfolding partOf
   part-goal e = rw e
@@ -55,43 +46,39 @@ module _ (s : List ℕ) (how at : ℕ) where
       go (suc zero) f g = absurd (g refl)
       go (suc (suc k)) f g = refl
 
-  pub part-nothing : (up : Bool) (t : List ℕ) (n : ℕ) → how ≡ 0 → n ≤ length t → Adds s t n t n (sorted up (goalTerms (partOf how (drop at s) .value)))
-  unfolding partOf joined
-  part-nothing up t n e h = rw (e, sorted-none up) (adds-none s t n h)
-
 -- ---- halves
 
 module _ (s : List ℕ) (at b : ℕ) (i : at ≤ length s) (is : b ≡ getD s at 0) where
-  pub no-halves : (b ≡ 60 → ⊥) → PartsIn s (readHalves (drop at s)) (record { guarded = 0; guard = at; bodied = 0; body = at; end = at })
-  unfolding readHalves partOf
-  no-halves h = rw (first-at s at, ← is, ne-eqb b 60 h) (record { guard = refl; body = refl; end = refl; guardIn = i; bodyIn = i; endIn = i })
+  pub no-halves : (b ≡ 60 → ⊥) → PartsIn s (readHalves (drop at s)) (record { guarded = 0; guard = at; bodied = 0; body = at; right = true; end = at })
+  unfolding readHalves partOf goalRight stagesRight allOf literalsIn
+  no-halves h = rw (first-at s at, ← is, ne-eqb b 60 h) (record { guard = refl; body = refl; right = refl; end = refl; guardIn = i; bodyIn = i; endIn = i })
 
   module _ (from e c : ℕ) (arrow : b ≡ 60) (behind : drop from s ≡ behindArrow (drop at s)) (fromIn : from ≤ length s) (end : drop e s ≡ readGoal (drop from s) .rest) (endIn : e ≤ length s) (mark : c ≡ getD s e 0) where
     colon : first (readGoal (behindArrow (drop at s)) .rest) ≡ c
     colon = ap (λ (y : List ℕ). first (readGoal y .rest)) (sym behind) ∙ ap first (sym end) ∙ first-at s e ∙ sym mark
 
-    pub body-only : (c ≡ 58 → ⊥) → PartsIn s (readHalves (drop at s)) (record { guarded = 0; guard = at; bodied = 1; body = from; end = e })
-    unfolding readHalves partOf
-    body-only h =
+    pub body-only : (ok : Bool) → (c ≡ 58 → ⊥) → ok ≡ goalRight (readGoal (drop from s) .value) → PartsIn s (readHalves (drop at s)) (record { guarded = 0; guard = at; bodied = 1; body = from; right = ok; end = e })
+    unfolding readHalves partOf goalRight stagesRight allOf literalsIn
+    body-only ok h told =
         rw (first-at s at, ← is, eq-eqb b 60 arrow, colon, ne-eqb c 58 h)
-        (record { guard = refl; body = ap (λ (y : List ℕ). readGoal y .value) behind; end = end ∙ ap (λ (y : List ℕ). readGoal y .rest) behind; guardIn = i; bodyIn = fromIn; endIn = endIn })
+        (record { guard = refl; body = ap (λ (y : List ℕ). readGoal y .value) behind; right = told ∙ ap (λ (y : List ℕ). goalRight (readGoal y .value)) behind; end = end ∙ ap (λ (y : List ℕ). readGoal y .rest) behind; guardIn = i; bodyIn = fromIn; endIn = endIn })
 
-    pub both-halves : (n f : ℕ) → c ≡ 58 → drop n s ≡ next (drop e s) → n ≤ length s → drop f s ≡ readBody (drop n s) .rest → f ≤ length s →
-        PartsIn s (readHalves (drop at s)) (record { guarded = 1; guard = from; bodied = 2; body = n; end = f })
+    pub both-halves : (n f : ℕ) (ok x y : Bool) → c ≡ 58 → drop n s ≡ next (drop e s) → n ≤ length s → drop f s ≡ readBody (drop n s) .rest → f ≤ length s → x ≡ goalRight (readGoal (drop from s) .value) → y ≡ goalRight (readBody (drop n s) .value) →
+        ok ≡ (x && y) → PartsIn s (readHalves (drop at s)) (record { guarded = 1; guard = from; bodied = 2; body = n; right = ok; end = f })
     unfolding readHalves partOf
-    both-halves n f h g k l m =
+    both-halves n f ok x y h g k l m told other both =
         let z : drop n s ≡ next (readGoal (behindArrow (drop at s)) .rest) = g ∙ ap next (end ∙ ap (λ (y : List ℕ). readGoal y .rest) behind) in
         rw (first-at s at, ← is, eq-eqb b 60 arrow, colon, eq-eqb c 58 h)
-        (record { guard = ap (λ (y : List ℕ). readGoal y .value) behind; body = ap (λ (y : List ℕ). readBody y .value) z; end = l ∙ ap (λ (y : List ℕ). readBody y .rest) z; guardIn = fromIn; bodyIn = k; endIn = m })
+        (record { guard = ap (λ (y : List ℕ). readGoal y .value) behind; body = ap (λ (y : List ℕ). readBody y .value) z; right = both ∙ rw (told, other, behind, z) refl; end = l ∙ ap (λ (y : List ℕ). readBody y .rest) z; guardIn = fromIn; bodyIn = k; endIn = m })
 
 -- ---- a clause
 
-module _ (s : List ℕ) (at t : ℕ) (h : Span) (p : Parts) (b n : ℕ) where
+module _ (s : List ℕ) (at t : ℕ) (h : Span) (p : Parts) (b n : ℕ) (ok : Bool) where
   pub clause-in : drop t s ≡ past (drop at s) → t ≤ length s → Spans s (readBrackets readTerm (drop t s) .rest) (length (readBrackets readTerm (drop t s) .value)) true h →
-      PartsIn s (readHalves (drop (h .end) s)) p → b ≡ getD s (p .end) 0 → drop n s ≡ next (drop (p .end) s) → n ≤ length s →
-      ClauseIn s at (readClause (drop at s)) (record { terms = t; arity = h .count; guarded = p .guarded; guard = p .guard; bodied = p .bodied; body = p .body; semicolon = eqb b 59; next = n })
+      PartsIn s (readHalves (drop (h .end) s)) p → b ≡ getD s (p .end) 0 → drop n s ≡ next (drop (p .end) s) → n ≤ length s → ok ≡ (leb (h .count) 4 && p .right) →
+      ClauseIn s at (readClause (drop at s)) (record { terms = t; arity = h .count; guarded = p .guarded; guard = p .guard; bodied = p .bodied; body = p .body; right = ok; semicolon = eqb b 59; next = n })
   unfolding readClause
-  clause-in e i v f g k l =
+  clause-in e i v f g k l both =
       let z : drop (h .end) s ≡ readBrackets readTerm (past (drop at s)) .rest = v .end ∙ ap (λ (y : List ℕ). readBrackets readTerm y .rest) e in
       let r : drop (p .end) s ≡ readHalves (readBrackets readTerm (past (drop at s)) .rest) .rest = f .end ∙ ap (λ (y : List ℕ). readHalves y .rest) z in
       record {
@@ -100,6 +87,7 @@ module _ (s : List ℕ) (at t : ℕ) (h : Span) (p : Parts) (b n : ℕ) where
         arity = v .count ∙ ap (λ (y : List ℕ). length (readBrackets readTerm y .value)) e;
         guard = f .guard ∙ ap (λ (y : List ℕ). readHalves y .value .guard) z;
         body = f .body ∙ ap (λ (y : List ℕ). readHalves y .value .body) z;
+        right = both ∙ rw (v .count, f .right, e, z) refl;
         semicolon = ap (λ (k : ℕ). eqb k 59) (g ∙ sym (first-at s (p .end)) ∙ ap first r);
         next = k ∙ ap next r;
         termsIn = i;
@@ -107,14 +95,3 @@ module _ (s : List ℕ) (at t : ℕ) (h : Span) (p : Parts) (b n : ℕ) where
         bodyIn = f .bodyIn;
         nextIn = l;
       }
-
-module _ (s : List ℕ) (at : ℕ) where
-  pub clause-gathered : {u : List ℕ} {m : ℕ} {v : List ℕ} {k : ℕ} {w : List ℕ} {j : ℕ} {x : List ℕ} {l : ℕ} (up : Bool) (c : ClauseAt) → ClauseIn s at (readClause (drop at s)) c →
-      Adds s u m v k (sorted up (readBrackets readTerm (drop (c .terms) s) .value)) → Adds s v k w j (sorted up (goalTerms (partOf (c .guarded) (drop (c .guard) s) .value))) →
-      Adds s w j x l (sorted up (goalTerms (partOf (c .bodied) (drop (c .body) s) .value))) → Adds s u m x l (sorted up (clauseTerms (readClause (drop at s) .value)))
-  clause-gathered up c f a b d =
-      let q = readClause (drop at s) .value in
-      adds-as
-      (rw (f .terms, f .guard, f .body) (sym (sorted-append up (q .terms) (goalTerms (q .guard) ++ goalTerms (q .body)) ∙ ap (λ (y : List (List ℕ)). sorted up (q .terms) ++ y) (sorted-append up (goalTerms (q .guard)) (goalTerms (q .body))))))
-      (adds-then (sorted up (readBrackets readTerm (drop (c .terms) s) .value)) (sorted up (goalTerms (partOf (c .guarded) (drop (c .guard) s) .value)) ++ sorted up (goalTerms (partOf (c .bodied) (drop (c .body) s) .value))) a
-      (adds-then (sorted up (goalTerms (partOf (c .guarded) (drop (c .guard) s) .value))) (sorted up (goalTerms (partOf (c .bodied) (drop (c .body) s) .value))) b d))

@@ -100,7 +100,7 @@ pub fn terms(s: &[u8], at: usize) -> Span
 }
 
 // A literal; its items are its terms.
-pub fn literal(s: &[u8], at: usize) -> Span
+fn literal(s: &[u8], at: usize) -> Span
     requires { ⌜ at ≤ length (now s) ⌝ }
     ensures { λ r. ⌜ Spans (now (s .entry)) (readLiteral (drop at (now (s .entry))) .rest) (length (saidTerms (readLiteral (drop at (now (s .entry))) .value))) (literalRight (readLiteral (drop at (now (s .entry))) .value)) r ⌝ }
 {
@@ -153,7 +153,7 @@ fn literals(s: &[u8], at: usize) -> Span
 }
 
 // A stage: its literals, at least one.
-pub fn stage(s: &[u8], at: usize) -> Span
+fn stage(s: &[u8], at: usize) -> Span
     requires { ⌜ at ≤ length (now s) ⌝ }
     ensures { λ r. ⌜ Spans (now (s .entry)) (row readLiteral 44 (drop at (now (s .entry))) .rest) (length (row readLiteral 44 (drop at (now (s .entry))) .value)) (stageRight (row readLiteral 44 (drop at (now (s .entry))) .value)) r ⌝ }
 {

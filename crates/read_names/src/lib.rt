@@ -1,13 +1,12 @@
-// Names of a text by their numbers: relations by mode line, constants and variables by tables of the places where they first stand.
+// Names of a text by their numbers: relations by mode line, variables by a table of the places where they first stand.
 use read_goal::Span;
 ghost use mathlib.Core.Bool.{true};
-ghost use mathlib.Core.List.{[], _∷_};
 ghost use mathlib.Core.Path.{_≡_};
 ghost use Prim.Native.Nat.{_≤_};
 ghost use lib.Dec.{leb};
 ghost use lib.ListN.{drop, length, take};
 ghost use Rattle.read_goal.specs.Spans.{Spans};
-ghost use Rattle.read_names.specs.Tables.{Adds, Finds, modesFrom, namesAt, sorted};
+ghost use Rattle.read_names.specs.Tables.{Finds, modesFrom, namesAt};
 ghost use Rattle.text_names.specs.Bytes.{front};
 ghost use Rattle.text_names.specs.Names.{look, sameName};
 ghost use Rattle.text_program.specs.Source.{isModeLine, lines, modeWord, readBrackets, readMode, readModeLine, row};
@@ -53,34 +52,6 @@ pub fn find(s: &[u8], table: &[usize], n: usize, q: usize) -> usize
         i += 1;
     }
     i
-}
-
-// The table with the place of one name more, if it is new and there is room.
-fn add(s: &[u8], table: &mut [usize], n: usize, q: usize) -> usize
-    requires { ⌜ (n ≤ length (now table)) × (q ≤ length (now s)) ⌝ }
-    ensures { λ r. ⌜ Adds (now (s .entry)) (now (table .entry)) n (now (table .exit)) r (front (drop q (now (s .entry))) ∷ []) ⌝ }
-{
-    let k = find(s, table, n, q);
-    if k < n {
-        return n;
-    }
-    if n < table.len() {
-        table[n] = q;
-        return n + 1;
-    }
-    n
-}
-
-// The same where the name is a variable, or where it is none.
-pub fn note(s: &[u8], table: &mut [usize], n: usize, q: usize, upper: bool) -> usize
-    requires { ⌜ (n ≤ length (now table)) × (q ≤ length (now s)) ⌝ }
-    ensures { λ r. ⌜ Adds (now (s .entry)) (now (table .entry)) n (now (table .exit)) r (sorted upper (front (drop q (now (s .entry))) ∷ [])) ⌝ }
-{
-    let capital = text_names::is_capital(place::byte_at(s, q));
-    if basics::choose(upper, capital, !capital) {
-        return add(s, table, n, q);
-    }
-    n
 }
 
 // ---- mode lines

@@ -1,16 +1,15 @@
 -- One turn of the loops over names and blanks.
 use mathlib.Core.Path.{_∙_, _≡_, ap, refl, sym}
-use mathlib.Core.Bool.{_&&_, Bool, false, not, true}
+use mathlib.Core.Bool.{Bool, false, not, true}
 use mathlib.Core.List.{[], _∷_, List}
-use Prim.Native.Nat.{_+_, _-_, _<_, _≤_, suc, zero, ℕ}
-use lib.Dec.{eqb, leb}
+use Prim.Native.Nat.{_+_, _<_, _≤_, ℕ}
+use lib.Dec.{leb}
 use lib.ListN.{drop, drop-of-length-le, getD, length, List·getD-eq-default}
-use lib.Seq.{drop-cons, drop-drop, getD-drop}
+use lib.Seq.{drop-cons, drop-drop}
 use borrow.Author.Tests.{eq-eqb, leb-false, leb-true, ne-eqb, not-false, not-true}
 use native.Mathlib.Omega.{arith}
 use native.Mathlib.Numerals.{add-one}
-use Rattle.text_names.specs.Bytes.{back, first, front, isBlank, isCapital, isName, isSmall, next, skip}
-use Rattle.text_names.specs.Entries.{behindEntry, entryFrom, isEntry}
+use Rattle.text_names.specs.Bytes.{back, front, isBlank, isCapital, isName, isSmall, next, skip}
 use Rattle.text_names.specs.Names.{sameName}
 
 never : {P : Type 0} → false ≡ true → P
@@ -87,36 +86,7 @@ module _ (s : List ℕ) (i j p q : ℕ) (ep : p ≡ getD s i 0) (eq : q ≡ getD
       let b = ap isName (sym eq) ∙ ap isName (sym h) ∙ sym e ∙ not-false r g in
       (rw (front-on s i a, front-on s j b, ← ep, ← eq, eq-eqb p q h), name-in s i a, name-in s j b)
 
--- ---- entries
-
-module _ (s : List ℕ) (i : ℕ) where
-  pub entry-stop : i < length s → getD s i 0 ≡ 10 → drop (i + 1) s ≡ behindEntry (drop i s)
-  unfolding behindEntry
-  entry-stop h e = rw (add-one, drop-cons s i 0, eq-eqb _ _ e)
-
-  pub entry-go : i < length s → (getD s i 0 ≡ 10 → ⊥) → behindEntry (drop i s) ≡ behindEntry (drop (i + 1) s)
-  unfolding behindEntry
-  entry-go h e = rw (add-one, drop-cons s i 0, ne-eqb _ _ e)
-
-  pub entry-none : length s ≤ i → drop i s ≡ behindEntry (drop i s)
-  unfolding behindEntry
-  entry-none h = rw (drop-of-length-le s h)
-
--- one entry of those that are left
-pub entry-next : (s : List ℕ) (left : ℕ) → 0 < left → entryFrom s left ≡ entryFrom (behindEntry s) (left - 1)
-unfolding entryFrom
-entry-next s zero h = absurd (omega arith)
-entry-next s (suc k) h = let e : suc k - 1 ≡ k = omega arith in rw e
-
-pub entry-last : (s : List ℕ) (left : ℕ) → left ≤ 0 → entryFrom s left ≡ s
-unfolding entryFrom
-entry-last s zero h = refl
-entry-last s (suc k) h = absurd (omega arith)
-
--- ---- the first byte from a place on
-
-pub first-at : (s : List ℕ) (i : ℕ) → first (drop i s) ≡ getD s i 0
-first-at s i = getD-drop i s 0 0 ∙ (let h : i + 0 ≡ i = omega arith in rw h)
+-- ---- a mark
 
 pub mark-in : (s : List ℕ) (i r : ℕ) → drop r s ≡ skip (drop (i + 1) s) → drop r s ≡ next (drop i s)
 mark-in s i r e = e ∙ sym (ap skip (drop-drop 1 i s))
@@ -124,8 +94,3 @@ mark-in s i r e = e ∙ sym (ap skip (drop-drop 1 i s))
 pub mark-out : (s : List ℕ) (i : ℕ) → length s ≤ i → drop i s ≡ next (drop i s)
 unfolding skip
 mark-out s i h = rw (drop-of-length-le s h)
-
--- an entry by its bytes in the row
-pub entry-is : (s : List ℕ) (k at end : ℕ) → drop at s ≡ entryFrom s k → drop end s ≡ back (drop at s) → isEntry s k ≡ (isSmall (getD s at 0) && eqb (getD s end 0) 10)
-unfolding isEntry
-entry-is s k at end e f = rw (← e, ← f, first-at s at, first-at s end)

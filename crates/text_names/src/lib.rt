@@ -1,14 +1,10 @@
-// Names and blanks where they stand in a text, and the entries of a names row.
+// Names and blanks where they stand in a text.
 ghost use mathlib.Core.Path.{_≡_};
 ghost use Prim.Native.Nat.{_+_, _≤_};
 ghost use lib.ListN.{drop, length};
 ghost use Rattle.spell.specs.Forms.{inSpan};
 ghost use Rattle.text_names.specs.Bytes.{back, front, isBlank, isCapital, isName, isSmall, next, skip};
-ghost use Rattle.text_names.specs.Entries.{behindEntry, entryFrom, isEntry};
 ghost use Rattle.text_names.specs.Names.{sameName};
-
-// What ends an entry of a names row.
-const LINE_END: usize = 10;
 
 // ---- bytes
 
@@ -111,44 +107,4 @@ pub fn same_name(s: &[u8], a: usize, b: usize) -> bool
         i += 1;
         j += 1;
     }
-}
-
-// ---- entries
-
-// The place behind the entry at a place.
-fn entry_end(s: &[u8], from: usize) -> usize
-    requires { ⌜ from ≤ length (now s) ⌝ }
-    ensures { λ r. ⌜ (drop r (now (s .entry)) ≡ behindEntry (drop from (now (s .entry)))) × (r ≤ length (now (s .entry))) ⌝ }
-{
-    let mut i = from;
-    while i < s.len() {
-        if place::byte_in(s, i) == LINE_END {
-            return i + 1;
-        }
-        i += 1;
-    }
-    i
-}
-
-// The place of entry k.
-pub fn entry_at(s: &[u8], k: usize) -> usize
-    ensures { λ r. ⌜ (drop r (now (s .entry)) ≡ entryFrom (now (s .entry)) k) × (r ≤ length (now (s .entry))) ⌝ }
-{
-    let mut at = 0;
-    let mut left = k;
-    while 0 < left {
-        at = entry_end(s, at);
-        left -= 1;
-    }
-    at
-}
-
-// Entry k is there and is a lower-case name.
-pub fn is_entry(s: &[u8], k: usize) -> bool
-    ensures { λ r. ⌜ r ≡ isEntry (now (s .entry)) k ⌝ }
-{
-    let at = entry_at(s, k);
-    let small = is_small(place::byte_at(s, at));
-    let end = name_end(s, at);
-    basics::and(small, place::byte_at(s, end) == LINE_END)
 }

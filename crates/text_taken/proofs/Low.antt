@@ -12,11 +12,10 @@ use Rattle.judge_said.proofs.Clauses.{goal-few, lowers-append}
 use Rattle.judge_said.proofs.First.{terms-okay-in}
 use Rattle.judge_said.proofs.Known.{termOkay}
 use Rattle.judge_said.specs.Said.{askRight}
-use Rattle.lay_clause.proofs.Fielded.{clause-record}
-use Rattle.lay_clause.specs.Fields.{clauseFields, clauseIn}
-use Rattle.lay_image.proofs.Written.{right-parts}
-use Rattle.lay_image.specs.Imaged.{asking, askWith, imageWith}
-use Rattle.lay_lines.proofs.Sizes.{both, clause-long, goal-long}
+use Rattle.lay_lines.proofs.Sizes.{both, clause-long, clause-record, goal-long}
+use Rattle.lay_lines.specs.Fields.{clauseFields, clauseIn}
+use Rattle.judge_said.proofs.Told.{right-parts}
+use Rattle.lay_lines.specs.Imaged.{asking, askWith, imageWith}
 use Rattle.lay_lines.proofs.Sizes as sizes
 use Rattle.lay_lines.specs.Lines.{clauseRight, clausesWith, modesOf, withVars}
 use Rattle.lay_literal.proofs.Laid.{lows-append, map-length}

@@ -14,9 +14,9 @@ use Rattle.judge_lines.proofs.Moded.{mode-few, mode-length}
 use Rattle.judge_said.proofs.Clauses.{clause-few}
 use Rattle.judge_said.proofs.Sized.{clause-size}
 use Rattle.judge_said.specs.Said.{askRight, askSaid, clauseSaid, clausesSaid, clauseSize}
-use Rattle.lay_clause.specs.Fields.{clauseIn}
-use Rattle.lay_image.specs.Imaged.{asking, askWith, imageWith}
-use Rattle.lay_image.proofs.Written.{right-parts}
+use Rattle.lay_lines.specs.Fields.{clauseIn}
+use Rattle.lay_lines.specs.Imaged.{asking, askWith, imageWith}
+use Rattle.judge_said.proofs.Told.{right-parts}
 use Rattle.lay_lines.proofs.Sizes.{both, goal-long}
 use Rattle.lay_lines.specs.Lines.{clauseRight, clausesWith, modesOf, modesRight, withVars}
 use Rattle.parlog.specs.Load.{after, blockWith, kindFault, refusal, refuseIf, tooMany}

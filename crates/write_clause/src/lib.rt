@@ -1,9 +1,11 @@
 // The text of clauses, where they stand in an image.
+use entry_table::Noted;
 use lay_text::To;
 use parlog::codes;
 ghost use mathlib.Core.Bool.{_&&_, true};
 ghost use mathlib.Core.Path.{_≡_};
 ghost use Prim.Native.Nat.{_+_, _≤_};
+ghost use Rattle.entry_table.specs.Entered.{Entered};
 ghost use Rattle.lay_text.specs.Laying.{Writes};
 ghost use Rattle.parlog.specs.Image.{goalEnd, recordEnd};
 ghost use Rattle.parlog.specs.Program.{clauseOf, goalOf};
@@ -12,8 +14,17 @@ ghost use Rattle.text_program.specs.Parsing.{allOf};
 ghost use Rattle.text_program.specs.Printing.{clauseNamed, clausesText, clauseText, endMark, goalNamed, halvesText, nextMark};
 
 // Guard and body, from the guard's place on.
-fn halves(out: &mut [u8], w: To, s: &[u8], names: &[u8], r: usize, at: usize) -> To
-    requires { ⌜ (r ≤ 255) × (at ≤ 67108864) ⌝ }
+fn halves(
+    out: &mut [u8],
+    w: To,
+    s: &[u8],
+    names: &[u8],
+    table: &[usize],
+    e: Noted,
+    r: usize,
+    at: usize,
+) -> To
+    requires { ⌜ (r ≤ 255) × (at ≤ 67108864) × Entered (now names) (now table) (e .every) (e .count) ⌝ }
     ensures { λ x. ⌜ Writes (now (out .entry)) w (halvesText r (now (names .entry)) (goalOf (now (s .entry)) at) (goalOf (now (s .entry)) (goalEnd (now (s .entry)) at))) (goalNamed r (now (names .entry)) (goalOf (now (s .entry)) at) && goalNamed r (now (names .entry)) (goalOf (now (s .entry)) (goalEnd (now (s .entry)) at))) (now (out .exit)) x ⌝ }
 {
     let body = place::goal_end(s, at);
@@ -22,12 +33,12 @@ fn halves(out: &mut [u8], w: To, s: &[u8], names: &[u8], r: usize, at: usize) ->
             return w;
         }
         let a = lay_text::word(out, w, b" <- ");
-        return write_goal::goal(out, a, s, names, r, body);
+        return write_goal::goal(out, a, s, names, table, e, r, body);
     }
     let a = lay_text::word(out, w, b" <- ");
-    let b = write_goal::goal(out, a, s, names, r, at);
+    let b = write_goal::goal(out, a, s, names, table, e, r, at);
     let c = lay_text::word(out, b, b" : ");
-    write_goal::goal(out, c, s, names, r, body)
+    write_goal::goal(out, c, s, names, table, e, r, body)
 }
 
 // The end of a clause, by the next one's mark.
@@ -41,19 +52,31 @@ fn clause_end(out: &mut [u8], w: To, mark: usize) -> To
 }
 
 // The clause at a place.
-fn clause(out: &mut [u8], w: To, s: &[u8], names: &[u8], r: usize, at: usize, mark: usize) -> To
-    requires { ⌜ (r ≤ 255) × (at ≤ 33554432) ⌝ }
+fn clause(
+    out: &mut [u8],
+    w: To,
+    s: &[u8],
+    names: &[u8],
+    table: &[usize],
+    e: Noted,
+    r: usize,
+    at: usize,
+    mark: usize,
+) -> To
+    requires { ⌜ (r ≤ 255) × (at ≤ 33554432) × Entered (now names) (now table) (e .every) (e .count) ⌝ }
     ensures { λ x. ⌜ Writes (now (out .entry)) w (clauseText r (now (names .entry)) (clauseOf (now (s .entry)) at) mark) (clauseNamed r (now (names .entry)) (clauseOf (now (s .entry)) at)) (now (out .exit)) x ⌝ }
 {
     let rel = place::byte_at(s, at + codes::CLAUSE_RELATION);
     let n = place::byte_at(s, at + codes::CLAUSE_ARITY);
-    let a = lay_text::name(out, w, names, rel);
-    let b = write_goal::arguments(out, a, s, names, r, at + codes::CLAUSE_HEAD, n);
+    let a = lay_text::name(out, w, names, table, e, rel);
+    let b = write_goal::arguments(out, a, s, names, table, e, r, at + codes::CLAUSE_HEAD, n);
     let c = halves(
         out,
         b,
         s,
         names,
+        table,
+        e,
         r,
         at + codes::CLAUSE_HEAD + codes::TERM_SIZE * n,
     );
@@ -72,8 +95,18 @@ fn next_mark(s: &[u8], at: usize, left: usize) -> usize
 }
 
 // n clauses from a place on.
-pub fn clauses(out: &mut [u8], w: To, s: &[u8], names: &[u8], r: usize, from: usize, n: usize) -> To
-    requires { ⌜ (r ≤ 255) × (from ≤ 4194304) × (n ≤ 255) ⌝ }
+pub fn clauses(
+    out: &mut [u8],
+    w: To,
+    s: &[u8],
+    names: &[u8],
+    table: &[usize],
+    e: Noted,
+    r: usize,
+    from: usize,
+    n: usize,
+) -> To
+    requires { ⌜ (r ≤ 255) × (from ≤ 4194304) × (n ≤ 255) × Entered (now names) (now table) (e .every) (e .count) ⌝ }
     ensures { λ x. ⌜ Writes (now (out .entry)) w (clausesText r (now (names .entry)) (listOf (clauseOf (now (s .entry))) (recordEnd (now (s .entry))) n from)) (allOf (clauseNamed r (now (names .entry))) (listOf (clauseOf (now (s .entry))) (recordEnd (now (s .entry))) n from)) (now (out .exit)) x ⌝ }
 {
     let mut to = w;
@@ -83,7 +116,7 @@ pub fn clauses(out: &mut [u8], w: To, s: &[u8], names: &[u8], r: usize, from: us
         left -= 1;
         let next = at + place::word_at(s, at);
         let mark = next_mark(s, next, left);
-        to = clause(out, to, s, names, r, at, mark);
+        to = clause(out, to, s, names, table, e, r, at, mark);
         at = next;
     }
     to

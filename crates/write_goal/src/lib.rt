@@ -1,10 +1,12 @@
 // The text of terms, literals and goals, where they stand in an image.
+use entry_table::Noted;
 use lay_text::To;
 use parlog::Term;
 use parlog::codes;
 ghost use mathlib.Core.Bool.{true};
 ghost use mathlib.Core.Path.{_≡_};
 ghost use Prim.Native.Nat.{_%_, _+_, _≤_};
+ghost use Rattle.entry_table.specs.Entered.{Entered};
 ghost use Rattle.lay_text.specs.Laying.{Writes};
 ghost use Rattle.parlog.specs.Image.{termAt};
 ghost use Rattle.parlog.specs.Program.{goalOf, literalOf, stageOf};
@@ -30,13 +32,22 @@ pub fn lead(out: &mut [u8], w: To, k: usize, mark: &[u8]) -> To
 }
 
 // The term at a place.
-fn term(out: &mut [u8], w: To, s: &[u8], names: &[u8], r: usize, at: usize) -> To
-    requires { ⌜ (r ≤ 255) × (at ≤ 4294967296) ⌝ }
+fn term(
+    out: &mut [u8],
+    w: To,
+    s: &[u8],
+    names: &[u8],
+    table: &[usize],
+    e: Noted,
+    r: usize,
+    at: usize,
+) -> To
+    requires { ⌜ (r ≤ 255) × (at ≤ 4294967296) × Entered (now names) (now table) (e .every) (e .count) ⌝ }
     ensures { λ x. ⌜ Writes (now (out .entry)) w (termText r (now (names .entry)) (termAt (now (s .entry)) at)) (termNamed r (now (names .entry)) (termAt (now (s .entry)) at)) (now (out .exit)) x ⌝ }
 {
     let t = place::term_at(s, at);
     match t {
-        Term::Const(c) => lay_text::name(out, w, names, r + basics::wide_u32(c)),
+        Term::Const(c) => lay_text::name(out, w, names, table, e, r + basics::wide_u32(c)),
         Term::Var(v) => lay_text::put(out, w, letter(v)),
     }
 }
@@ -47,12 +58,14 @@ fn terms(
     w: To,
     s: &[u8],
     names: &[u8],
+    table: &[usize],
+    e: Noted,
     r: usize,
     from: usize,
     n: usize,
     mark: &[u8],
 ) -> To
-    requires { ⌜ (r ≤ 255) × (from ≤ 1073741824) × (n ≤ 255) ⌝ }
+    requires { ⌜ (r ≤ 255) × (from ≤ 1073741824) × (n ≤ 255) × Entered (now names) (now table) (e .every) (e .count) ⌝ }
     ensures { λ x. ⌜ Writes (now (out .entry)) w (rowText (termText r (now (names .entry))) (now (mark .entry)) (termsAt (now (s .entry)) n from)) (allOf (termNamed r (now (names .entry))) (termsAt (now (s .entry)) n from)) (now (out .exit)) x ⌝ }
 {
     let mut to = w;
@@ -60,7 +73,7 @@ fn terms(
     let mut k = 0;
     while k < n {
         to = lead(out, to, k, mark);
-        to = term(out, to, s, names, r, at);
+        to = term(out, to, s, names, table, e, r, at);
         at += codes::TERM_SIZE;
         k += 1;
     }
@@ -73,38 +86,69 @@ pub fn arguments(
     w: To,
     s: &[u8],
     names: &[u8],
+    table: &[usize],
+    e: Noted,
     r: usize,
     from: usize,
     n: usize,
 ) -> To
-    requires { ⌜ (r ≤ 255) × (from ≤ 1073741824) × (n ≤ 255) ⌝ }
+    requires { ⌜ (r ≤ 255) × (from ≤ 1073741824) × (n ≤ 255) × Entered (now names) (now table) (e .every) (e .count) ⌝ }
     ensures { λ x. ⌜ Writes (now (out .entry)) w (bracketText (termText r (now (names .entry))) (termsAt (now (s .entry)) n from)) (allOf (termNamed r (now (names .entry))) (termsAt (now (s .entry)) n from)) (now (out .exit)) x ⌝ }
 {
     if n == 0 {
         return w;
     }
     let a = lay_text::put(out, w, b'(');
-    let b = terms(out, a, s, names, r, from, n, b",");
+    let b = terms(out, a, s, names, table, e, r, from, n, b",");
     lay_text::put(out, b, b')')
 }
 
 // The literal at a place.
-fn literal(out: &mut [u8], w: To, s: &[u8], names: &[u8], r: usize, at: usize) -> To
-    requires { ⌜ (r ≤ 255) × (at ≤ 536870912) ⌝ }
+fn literal(
+    out: &mut [u8],
+    w: To,
+    s: &[u8],
+    names: &[u8],
+    table: &[usize],
+    e: Noted,
+    r: usize,
+    at: usize,
+) -> To
+    requires { ⌜ (r ≤ 255) × (at ≤ 536870912) × Entered (now names) (now table) (e .every) (e .count) ⌝ }
     ensures { λ x. ⌜ Writes (now (out .entry)) w (literalText r (now (names .entry)) (literalOf (now (s .entry)) at)) (literalNamed r (now (names .entry)) (literalOf (now (s .entry)) at)) (now (out .exit)) x ⌝ }
 {
     let rel = place::byte_at(s, at);
     let n = place::byte_at(s, at + codes::LITERAL_ARITY);
     if rel == codes::EQUALITY {
-        return terms(out, w, s, names, r, at + codes::LITERAL_TERMS, n, b" = ");
+        return terms(
+            out,
+            w,
+            s,
+            names,
+            table,
+            e,
+            r,
+            at + codes::LITERAL_TERMS,
+            n,
+            b" = ",
+        );
     }
-    let a = lay_text::name(out, w, names, rel);
-    arguments(out, a, s, names, r, at + codes::LITERAL_TERMS, n)
+    let a = lay_text::name(out, w, names, table, e, rel);
+    arguments(out, a, s, names, table, e, r, at + codes::LITERAL_TERMS, n)
 }
 
 // The stage at a place.
-fn stage(out: &mut [u8], w: To, s: &[u8], names: &[u8], r: usize, from: usize) -> To
-    requires { ⌜ (r ≤ 255) × (from ≤ 268435456) ⌝ }
+fn stage(
+    out: &mut [u8],
+    w: To,
+    s: &[u8],
+    names: &[u8],
+    table: &[usize],
+    e: Noted,
+    r: usize,
+    from: usize,
+) -> To
+    requires { ⌜ (r ≤ 255) × (from ≤ 268435456) × Entered (now names) (now table) (e .every) (e .count) ⌝ }
     ensures { λ x. ⌜ Writes (now (out .entry)) w (rowText (literalText r (now (names .entry))) commaMark (stageOf (now (s .entry)) from)) (allOf (literalNamed r (now (names .entry))) (stageOf (now (s .entry)) from)) (now (out .exit)) x ⌝ }
 {
     let n = place::byte_at(s, from);
@@ -113,7 +157,7 @@ fn stage(out: &mut [u8], w: To, s: &[u8], names: &[u8], r: usize, from: usize) -
     let mut k = 0;
     while k < n {
         to = lead(out, to, k, b", ");
-        to = literal(out, to, s, names, r, at);
+        to = literal(out, to, s, names, table, e, r, at);
         at = at
             + codes::LITERAL_TERMS
             + codes::TERM_SIZE * place::byte_at(s, at + codes::LITERAL_ARITY);
@@ -123,8 +167,17 @@ fn stage(out: &mut [u8], w: To, s: &[u8], names: &[u8], r: usize, from: usize) -
 }
 
 // The goal at a place.
-pub fn goal(out: &mut [u8], w: To, s: &[u8], names: &[u8], r: usize, from: usize) -> To
-    requires { ⌜ (r ≤ 255) × (from ≤ 134217728) ⌝ }
+pub fn goal(
+    out: &mut [u8],
+    w: To,
+    s: &[u8],
+    names: &[u8],
+    table: &[usize],
+    e: Noted,
+    r: usize,
+    from: usize,
+) -> To
+    requires { ⌜ (r ≤ 255) × (from ≤ 134217728) × Entered (now names) (now table) (e .every) (e .count) ⌝ }
     ensures { λ x. ⌜ Writes (now (out .entry)) w (goalText r (now (names .entry)) (goalOf (now (s .entry)) from)) (goalNamed r (now (names .entry)) (goalOf (now (s .entry)) from)) (now (out .exit)) x ⌝ }
 {
     let n = place::byte_at(s, from);
@@ -133,7 +186,7 @@ pub fn goal(out: &mut [u8], w: To, s: &[u8], names: &[u8], r: usize, from: usize
     let mut k = 0;
     while k < n {
         to = lead(out, to, k, b" & ");
-        to = stage(out, to, s, names, r, at);
+        to = stage(out, to, s, names, table, e, r, at);
         at = place::stage_end(s, at);
         k += 1;
     }

@@ -1,10 +1,12 @@
 // The text of an image, line by line.
+use entry_table::Noted;
 use lay_text::To;
 use parlog::codes;
 ghost use mathlib.Core.Bool.{true};
 ghost use mathlib.Core.List.{[], _∷_};
 ghost use mathlib.Core.Path.{_≡_};
 ghost use Prim.Native.Nat.{_*_, _+_, _≤_};
+ghost use Rattle.entry_table.specs.Entered.{Entered};
 ghost use Rattle.lay_text.specs.Laying.{Writes};
 ghost use Rattle.parlog.specs.Image.{byteAt, modeEnd, recordAt, recordEnd};
 ghost use Rattle.parlog.specs.Program.{goalOf, modesOf, programOf};
@@ -58,26 +60,44 @@ fn mode_marks(out: &mut [u8], w: To, s: &[u8], at: usize) -> To
 }
 
 // The mode line of relation k, at a place.
-fn mode_line(out: &mut [u8], w: To, s: &[u8], names: &[u8], r: usize, k: usize, at: usize) -> To
-    requires { ⌜ at ≤ 33554432 ⌝ }
+fn mode_line(
+    out: &mut [u8],
+    w: To,
+    s: &[u8],
+    names: &[u8],
+    table: &[usize],
+    e: Noted,
+    r: usize,
+    k: usize,
+    at: usize,
+) -> To
+    requires { ⌜ (at ≤ 33554432) × Entered (now names) (now table) (e .every) (e .count) ⌝ }
     ensures { λ x. ⌜ Writes (now (out .entry)) w (modeLineText r (now (names .entry)) k (modesOf (now (s .entry)) at)) (isEntry (now (names .entry)) k) (now (out .exit)) x ⌝ }
 {
     let a = lay_text::word(out, w, b"mode ");
-    let b = lay_text::name(out, a, names, k);
+    let b = lay_text::name(out, a, names, table, e, k);
     let c = mode_marks(out, b, s, at);
     lay_text::word(out, c, b".\n")
 }
 
 // The mode lines of the r relations.
-fn mode_lines(out: &mut [u8], w: To, s: &[u8], names: &[u8], r: usize) -> To
-    requires { ⌜ r ≤ 255 ⌝ }
+fn mode_lines(
+    out: &mut [u8],
+    w: To,
+    s: &[u8],
+    names: &[u8],
+    table: &[usize],
+    e: Noted,
+    r: usize,
+) -> To
+    requires { ⌜ (r ≤ 255) × Entered (now names) (now table) (e .every) (e .count) ⌝ }
     ensures { λ x. ⌜ Writes (now (out .entry)) w (modeLinesText r (now (names .entry)) 0 (listOf (modesOf (now (s .entry))) (recordEnd (now (s .entry))) r 0)) (relationsNamed r (now (names .entry)) 0 (listOf (modesOf (now (s .entry))) (recordEnd (now (s .entry))) r 0)) (now (out .exit)) x ⌝ }
 {
     let mut to = w;
     let mut at = 0;
     let mut k = 0;
     while k < r {
-        to = mode_line(out, to, s, names, r, k, at);
+        to = mode_line(out, to, s, names, table, e, r, k, at);
         at = at + place::word_at(s, at);
         k += 1;
     }
@@ -87,12 +107,21 @@ fn mode_lines(out: &mut [u8], w: To, s: &[u8], names: &[u8], r: usize) -> To
 // ---- all lines
 
 // The goal line, with the goal at a place.
-fn goal_line(out: &mut [u8], w: To, s: &[u8], names: &[u8], r: usize, at: usize) -> To
-    requires { ⌜ (r ≤ 255) × (at ≤ 134217728) ⌝ }
+fn goal_line(
+    out: &mut [u8],
+    w: To,
+    s: &[u8],
+    names: &[u8],
+    table: &[usize],
+    e: Noted,
+    r: usize,
+    at: usize,
+) -> To
+    requires { ⌜ (r ≤ 255) × (at ≤ 134217728) × Entered (now names) (now table) (e .every) (e .count) ⌝ }
     ensures { λ x. ⌜ Writes (now (out .entry)) w (goalLineText r (now (names .entry)) (goalOf (now (s .entry)) at)) (goalNamed r (now (names .entry)) (goalOf (now (s .entry)) at)) (now (out .exit)) x ⌝ }
 {
     let a = lay_text::word(out, w, b"<- ");
-    let b = write_goal::goal(out, a, s, names, r, at);
+    let b = write_goal::goal(out, a, s, names, table, e, r, at);
     lay_text::word(out, b, b".\n")
 }
 
@@ -111,13 +140,22 @@ fn record_at(s: &[u8], k: usize) -> usize
 }
 
 // The text of an image with r relations and c clauses.
-pub fn lines(out: &mut [u8], w: To, s: &[u8], names: &[u8], r: usize, c: usize) -> To
-    requires { ⌜ (r ≤ 32) × (c ≤ 64) ⌝ }
+pub fn lines(
+    out: &mut [u8],
+    w: To,
+    s: &[u8],
+    names: &[u8],
+    table: &[usize],
+    e: Noted,
+    r: usize,
+    c: usize,
+) -> To
+    requires { ⌜ (r ≤ 32) × (c ≤ 64) × Entered (now names) (now table) (e .every) (e .count) ⌝ }
     ensures { λ x. ⌜ Writes (now (out .entry)) w (programText (now (names .entry)) (programOf (now (s .entry)) r c)) (programNamed (now (names .entry)) (programOf (now (s .entry)) r c)) (now (out .exit)) x ⌝ }
 {
-    let a = mode_lines(out, w, s, names, r);
+    let a = mode_lines(out, w, s, names, table, e, r);
     let from = record_at(s, r);
-    let b = write_clause::clauses(out, a, s, names, r, from, c);
+    let b = write_clause::clauses(out, a, s, names, table, e, r, from, c);
     let ask = record_at(s, r + c);
-    goal_line(out, b, s, names, r, ask + codes::GOAL_AT)
+    goal_line(out, b, s, names, table, e, r, ask + codes::GOAL_AT)
 }

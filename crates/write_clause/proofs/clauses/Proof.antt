@@ -12,10 +12,10 @@ use Rattle.write_clause.proofs.clauses.Statement.{statement}
 use Rattle.write_clause.proofs.clauses.Tie as tie
 
 abbrev Inv-loop : tie.InvT-loop
-Inv-loop out₀ s names r from n to₀ at₀ left₀ out to at left = ClausesLeft r names s left at out₀ to₀ (clausesText r names (listOf (clauseOf s) (recordEnd s) n from)) (allOf (clauseNamed r names) (listOf (clauseOf s) (recordEnd s) n from)) out to × (left ≤ n) × (at + 65535 * left ≤ from + 65535 * n)
+Inv-loop out₀ s names table e r from n to₀ at₀ left₀ out to at left = ClausesLeft r names s left at out₀ to₀ (clausesText r names (listOf (clauseOf s) (recordEnd s) n from)) (allOf (clauseNamed r names) (listOf (clauseOf s) (recordEnd s) n from)) out to × (left ≤ n) × (at + 65535 * left ≤ from + 65535 * n)
 
 abbrev μ-loop : tie.MeasureT-loop
-μ-loop out₀ s names r from n to₀ at₀ left₀ out to at left = left
+μ-loop out₀ s names table e r from n to₀ at₀ left₀ out to at left = left
 
 pub clauses-spec : {M : Type 1} → statement M
 clauses-spec =
@@ -30,6 +30,6 @@ clauses-spec =
     (λ c κs. search needs)
     (λ c κs. search needs)
     (λ c. search needs)
-    (λ c. (clauses-turn (c .before .before .before .before .before .before .before .before .before .before .before .args .r) (c .before .before .before .before .before .before .before .before .before .before .before .args .names .now) (c .before .before .before .before .before .before .before .before .before .before .before .args .s .now) (c .before .before .before .before .before .before .before .loop .left) (c .before .before .before .before .before .before .before .loop .at) _ _ (c .before .before .before .before .before .before .loop-test .taken) (omega arith) (c .before .before .before .before .next-mark .ensures) (c .before .before .before .before .before .before .before .loop .inv .0) (c .before .before .clause .ensures), omega arith, omega arith))
+    (λ c. (clauses-turn (c .before .before .before .before .before .before .before .before .before .before .before .before .args .r) (c .before .before .before .before .before .before .before .before .before .before .before .before .args .names .now) (c .before .before .before .before .before .before .before .before .before .before .before .before .args .s .now) (c .before .before .before .before .before .before .before .loop .left) (c .before .before .before .before .before .before .before .loop .at) _ _ (c .before .before .before .before .before .before .loop-test .taken) (omega arith) (c .before .before .before .before .next-mark .ensures) (c .before .before .before .before .before .before .before .loop .inv .0) (c .before .before .clause .ensures), omega arith, omega arith))
     (λ c. (c .before .loop .inv .0 .same))
     (λ c. clauses-stop _ _ _ (c .before .loop .left) (c .before .loop .at) (omega arith) (c .before .loop .inv .0)))

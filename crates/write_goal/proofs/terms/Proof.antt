@@ -11,10 +11,10 @@ use Rattle.write_goal.proofs.terms.Statement.{statement}
 use Rattle.write_goal.proofs.terms.Tie as tie
 
 abbrev Inv-loop : tie.InvT-loop
-Inv-loop out₀ s names r from n mark to₀ at₀ k₀ out to at k = RowAt (termText r names) (termNamed r names) mark (termAt s) termEnd n k at out₀ to₀ (rowText (termText r names) mark (termsAt s n from)) (allOf (termNamed r names) (termsAt s n from)) out to × (at ≡ from + 2 * k) × (k ≤ n)
+Inv-loop out₀ s names table e r from n mark to₀ at₀ k₀ out to at k = RowAt (termText r names) (termNamed r names) mark (termAt s) termEnd n k at out₀ to₀ (rowText (termText r names) mark (termsAt s n from)) (allOf (termNamed r names) (termsAt s n from)) out to × (at ≡ from + 2 * k) × (k ≤ n)
 
 abbrev μ-loop : tie.MeasureT-loop
-μ-loop out₀ s names r from n mark to₀ at₀ k₀ out to at k = n - k
+μ-loop out₀ s names table e r from n mark to₀ at₀ k₀ out to at k = n - k
 
 pub terms-spec : {M : Type 1} → statement M
 terms-spec =

@@ -15,4 +15,4 @@ lines-spec =
     (λ c. search needs)
     (λ c κs. search needs)
     (λ c. search needs)
-    (λ c. program-told (c .before .before .before .before .before .before .before .before .before .before .before .before .before .before .before .before .before .args .names .now) (c .before .before .before .before .before .before .before .before .before .before .before .before .before .before .before .before .before .args .s .now) (c .before .before .before .before .before .before .before .before .before .before .before .before .before .before .before .before .before .args .r) (c .before .before .before .before .before .before .before .before .before .before .before .before .before .before .before .before .before .args .c) _ _ (c .before .before .before .before .before .before .before .before .before .record-at .ensures .0) (c .before .before .before .before .record-at2 .ensures .0) (c .before .before .before .before .before .before .before .before .before .before .before .before .mode-lines .ensures) (c .before .before .before .before .before .before .before .clauses .ensures) (c .before .before .goal-line .ensures)))
+    (λ c. program-told (c .before .before .before .before .before .before .before .before .before .before .before .before .before .before .before .before .before .before .args .names .now) (c .before .before .before .before .before .before .before .before .before .before .before .before .before .before .before .before .before .before .args .s .now) (c .before .before .before .before .before .before .before .before .before .before .before .before .before .before .before .before .before .before .args .r) (c .before .before .before .before .before .before .before .before .before .before .before .before .before .before .before .before .before .before .args .c) _ _ (c .before .before .before .before .before .before .before .before .before .record-at .ensures .0) (c .before .before .before .before .record-at2 .ensures .0) (c .before .before .before .before .before .before .before .before .before .before .before .before .mode-lines .ensures) (c .before .before .before .before .before .before .before .clauses .ensures) (c .before .before .goal-line .ensures)))

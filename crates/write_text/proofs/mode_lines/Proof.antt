@@ -10,10 +10,10 @@ use Rattle.write_text.proofs.mode_lines.Statement.{statement}
 use Rattle.write_text.proofs.mode_lines.Tie as tie
 
 abbrev Inv-loop : tie.InvT-loop
-Inv-loop out₀ s names r to₀ at₀ k₀ out to at k = LinesLeft r names s k at out₀ to₀ (modeLinesText r names 0 (listOf (modesOf s) (recordEnd s) r 0)) (relationsNamed r names 0 (listOf (modesOf s) (recordEnd s) r 0)) out to × (at ≤ 65535 * k) × (k ≤ r)
+Inv-loop out₀ s names table e r to₀ at₀ k₀ out to at k = LinesLeft r names s k at out₀ to₀ (modeLinesText r names 0 (listOf (modesOf s) (recordEnd s) r 0)) (relationsNamed r names 0 (listOf (modesOf s) (recordEnd s) r 0)) out to × (at ≤ 65535 * k) × (k ≤ r)
 
 abbrev μ-loop : tie.MeasureT-loop
-μ-loop out₀ s names r to₀ at₀ k₀ out to at k = r - k
+μ-loop out₀ s names table e r to₀ at₀ k₀ out to at k = r - k
 
 pub mode-lines-spec : {M : Type 1} → statement M
 mode-lines-spec =
@@ -27,6 +27,6 @@ mode-lines-spec =
     (λ c. search needs)
     (λ c. search needs)
     (λ c. search needs)
-    (λ c. (lines-turn (c .before .before .before .before .before .before .before .before .before .before .args .r) (c .before .before .before .before .before .before .before .before .before .before .args .names .now) (c .before .before .before .before .before .before .before .before .before .before .args .s .now) (c .before .before .before .before .before .before .loop .k) (c .before .before .before .before .before .before .loop .at) _ (c .before .before .before .before .before .loop-test .taken) (omega arith) (c .before .before .before .before .before .before .loop .inv .0) (c .before .before .before .mode-line .ensures), omega arith, omega arith))
+    (λ c. (lines-turn (c .before .before .before .before .before .before .before .before .before .before .before .args .r) (c .before .before .before .before .before .before .before .before .before .before .before .args .names .now) (c .before .before .before .before .before .before .before .before .before .before .before .args .s .now) (c .before .before .before .before .before .before .loop .k) (c .before .before .before .before .before .before .loop .at) _ (c .before .before .before .before .before .loop-test .taken) (omega arith) (c .before .before .before .before .before .before .loop .inv .0) (c .before .before .before .mode-line .ensures), omega arith, omega arith))
     (λ c. (c .before .loop .inv .0 .same))
     (λ c. lines-stop _ _ _ (c .before .loop .k) (c .before .loop .at) (omega arith) (c .before .loop .inv .0)))

@@ -1,0 +1,2 @@
+pub mod TakesGoal
+pub mod Turns

@@ -1,0 +1,2 @@
+pub mod TakesText
+pub mod Turned
