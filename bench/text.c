@@ -6,7 +6,7 @@
 
 #include <string.h>
 
-enum { IMAGE_BYTES = RISSOBARM_TEXT_IMAGE, LONG_TEXT = 60000 };
+enum { IMAGE_BYTES = RISSOBARM_TEXT_IMAGE, LONG_TEXT = 60000, RELATIONS = 200 };
 
 static struct image image;
 static struct text text;
@@ -102,12 +102,59 @@ static void make_wide(unsigned part)
     repeat(". <- . ", text.length + 7);
 }
 
+/* A second mode line, refused 5 were it not for the calls without one far behind it. */
+static void make_refused(unsigned part)
+{
+    text.length = 0;
+    repeat("mode p. mode p.", 15);
+    repeat(" ", LONG_TEXT / part / 2);
+    repeat("<- q", text.length + 4);
+    repeat(", q", LONG_TEXT / part);
+    repeat(". ", text.length + 2);
+}
+
+/* A piece once, with the name of relation k in the place of its stars. */
+static void put_named(const char *piece, unsigned k)
+{
+    char named[16], *star;
+
+    strcpy(named, piece);
+    for (star = named; *star != '\0'; star++)
+        if (*star == '*') {
+            *star = (char)('a' + k % 26);
+            k /= 26;
+        }
+    repeat(named, text.length + strlen(named));
+}
+
+/* Mode lines with blanks between them, too many; then clauses and a goal that call each of these relations. */
+static void make_many(unsigned part)
+{
+    size_t share = LONG_TEXT / part / 2 / RELATIONS;
+    unsigned k;
+
+    text.length = 0;
+    for (k = 0; k < RELATIONS; k++) {
+        put_named("mode ***.", k);
+        repeat(" ", share * (k + 1));
+    }
+    for (k = 0; text.length < LONG_TEXT / part / 4 * 3; k++) {
+        put_named("*** <- ", k % RELATIONS);
+        put_named("***, a = b; ", (k + 7) % RELATIONS);
+    }
+    put_named("<- ***", 0);
+    for (k = 1; text.length + 8 < LONG_TEXT / part; k++)
+        put_named(", ***", k % RELATIONS);
+    repeat(".\n", text.length + 2);
+}
+
 static const struct sort {
     const char *name;
     void (*make)(unsigned part);
 } sorts[] = {
-    { "any relation", make_any },     { "equalities", make_equal },      { "ends too early", make_stuck },
-    { "mode lines alone", make_modes }, { "too many literals", make_wide },
+    { "any relation", make_any },       { "equalities", make_equal },       { "ends too early", make_stuck },
+    { "mode lines alone", make_modes }, { "too many literals", make_wide }, { "refused mode line", make_refused },
+    { "200 relations", make_many },
 };
 
 enum { SORTS = sizeof sorts / sizeof sorts[0], PRINTED = 2 };

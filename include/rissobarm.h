@@ -54,10 +54,10 @@ enum {
 
 /*
  * Bytes of stack that are enough for any call, by the machine code and as tests/header/stack.c measures it. Parse takes the most,
- * 62,002, since it holds an image and the places of a text's constants; then print, which holds the places of a list's entries,
+ * 61,026, since it holds an image and the places of a text's constants; then print, which holds the places of a list's entries,
  * and resume, which holds the three rows until they are tested; of the others turn and run do: under 8,000 bytes of their own.
  * Some 3,200 more come to that where the C library's memset or memcpy is bound in that very call (measured with AVX-512; not so in
- * the shared library, which binds them as it is loaded); a parse binds it before it is deepest, and takes some 900 more then.
+ * the shared library, which binds them as it is loaded); a parse binds it before it is deepest, and takes some 2,200 more then.
  */
 enum { RISSOBARM_STACK = 65536 };
 

@@ -1,6 +1,6 @@
 #!/usr/bin/env python3
 """pages.py: README.md's list of where things are is that of the repository: each path in it is there, and each folder and file of the top, of docs/, tests/ and tools/ is in
-it; its layers are the groups of crates.txt. And each link of a page leads to a file that is there, and to a heading of it."""
+it; its layers are the groups of crates.txt; its line of progress counts the crates that the archive stands on. And each link of a page leads to a file that is there, and to a heading of it."""
 import glob
 import os
 import re
@@ -39,6 +39,24 @@ def listing(page):
         yield 'the layers are %s, those of crates.txt %s' % (', '.join(layers), ', '.join(groups))
 
 
+def standing(name, on):
+    """The crates that one stands on, and itself."""
+    found, more = {name}, [name]
+    while more:
+        new = set(on[more.pop()]) - found
+        found |= new
+        more += new
+    return found
+
+
+def progress(page):
+    """What is wrong with the line that tools/prove is said to print: how many crates there are for the archive."""
+    on = {name: below.split() for name, below in re.findall(r'(?m)^(\w+):(.*)$', read('crates.txt'))}
+    told, count = int(re.search(r'`\[\d+/(\d+)\] ', page).group(1)), len(standing('capi', on))
+    if told != count:
+        yield 'the line of progress counts %d crates, the archive stands on %d' % (told, count)
+
+
 def anchors(text):
     """The headings of a page as links name them."""
     return {re.sub(r'[^\w -]', '', heading.lower()).replace(' ', '-') for heading in re.findall(r'(?m)^#+ (.*)$', text)}
@@ -60,7 +78,8 @@ def links(path):
 
 def main():
     pages = sorted(os.path.relpath(path, ROOT) for folder in ('*.md', 'docs/*.md', 'docs/*/*.md', 'bench/*.md', 'tests/*/*.md') for path in glob.glob(os.path.join(ROOT, folder)))
-    wrong = ['README.md: ' + words for words in listing(read('README.md'))] + [words for path in pages for words in links(path)]
+    readme = read('README.md')
+    wrong = ['README.md: ' + words for words in [*listing(readme), *progress(readme)]] + [words for path in pages for words in links(path)]
     for words in wrong:
         print('pages: ' + words)
     print('pages: %d pages, their links and the list of where things are: %s' % (len(pages), '%d wrong' % len(wrong) if wrong else 'as it is'))

@@ -11,7 +11,7 @@
 #include <string.h>
 #include <ucontext.h>
 
-enum { STACK_ROOM = 262144, PAINT = 0xA5, IMAGES = 20, LARGE_RUN = 5000 };
+enum { STACK_ROOM = 262144, PAINT = 0xA5, IMAGES = 20, LARGE_RUN = 5000, RELATIONS = 4400, LINE_ROOM = 32 };
 enum deed {
     NOTHING, LOAD, START, STEP, TURN, RUN, SUPPLY, VALUE, WATCH, VALUES, STEP_BOUND, TURN_BOUND, SUPPLY_BOUND, SAVE, RESUME,
     STEP_TRACED, SUPPLY_TRACED, RUN_TRACED, REPLAY, PRINT, PARSE, DEEDS
@@ -123,6 +123,21 @@ static void measure_text(struct random *random)
     measure(PARSE);
 }
 
+/* More relations than a parse has places for, and a call that is the last one's or nobody's. */
+static void measure_many_relations(unsigned called)
+{
+    char line[LINE_ROOM];
+    unsigned k;
+
+    text.length = 0;
+    for (k = 0; k <= RELATIONS; k++) {
+        snprintf(line, sizeof line, k < RELATIONS ? "mode r%u. " : "<- r%u.", k < RELATIONS ? k : called);
+        memcpy(text.bytes + text.length, line, strlen(line));
+        text.length += strlen(line);
+    }
+    measure(PARSE);
+}
+
 /* Texts that are refused behind their spelling: in a clause, in a mode line, and for a call without a mode line. */
 static void measure_refused_texts(void)
 {
@@ -138,6 +153,8 @@ static void measure_refused_texts(void)
         memcpy(text.bytes, refused[k], text.length);
         measure(PARSE);
     }
+    measure_many_relations(RELATIONS - 1);
+    measure_many_relations(RELATIONS);
 }
 
 /* A whole run of one of the largest images: turn by turn, then from the start by one run call. */

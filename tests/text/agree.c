@@ -13,7 +13,7 @@
 #include <stdlib.h>
 #include <string.h>
 
-enum { TEXTS = 1000000, TO_A_PRINT = 25, IMAGE = 13000, ROOM = TEXT_ROOM + 64, REFUSALS = 18, LEAST = 100 };
+enum { TEXTS = 1000000, TO_A_PRINT = 25, IMAGE = 13000, ROOM = TEXT_ROOM + 64, REFUSALS = 18, LEAST = 100, LEAST_CLASS = 20 };
 
 /* What one side has written. */
 struct side {
@@ -25,7 +25,7 @@ static struct side archive, reference;
 static struct text text;
 static struct image image;
 static struct list list;
-static unsigned long parsed[REFUSALS], printed[REFUSALS];
+static unsigned long parsed[REFUSALS], printed[REFUSALS], moded[MODES_KINDS];
 
 /* Lengths about what is needed: much, that, one less, any, none. */
 static size_t some_length(struct random *random, size_t needed, size_t much)
@@ -86,6 +86,20 @@ static void parse_reference(struct random *random, size_t *image_len, size_t *na
     reference.answer = reference_parse(reference.image, *image_len, reference.names, *names_len, text.bytes, text.length);
 }
 
+/* Of a text with a refused mode line it is known whether it is 17, or refused for that line. */
+static void judge_modes(void)
+{
+    unsigned refusal = rissobarm_refusal(archive.answer);
+    int undeclared = refusal == RISSOBARM_UNDECLARED;
+    int for_line = refusal == RISSOBARM_BODY || refusal == RISSOBARM_NAME || refusal == RISSOBARM_MANY;
+
+    if (text.modes == OTHER_TEXT)
+        return;
+    moded[text.modes]++;
+    if (text.modes == MODES_UNDECLARED || text.modes == CLASS_UNDECLARED ? !undeclared : !for_line)
+        differ("what is known of the text");
+}
+
 static void parse_both(struct random *random)
 {
     const uint8_t *lent = random_once(random, 2) ? guard_first(text.bytes, text.length) : guard_last(text.bytes, text.length);
@@ -98,6 +112,7 @@ static void parse_both(struct random *random)
         differ("parse");
     if (rissobarm_refusal(archive.answer) < REFUSALS)
         parsed[rissobarm_refusal(archive.answer)]++;
+    judge_modes();
 }
 
 /* ---- print ---- */
@@ -157,7 +172,8 @@ static void print_both(struct random *random)
 
 /* ---- both ---- */
 
-static int often_enough(const char *call, const unsigned long *seen, const unsigned *refusals, size_t count)
+static int often_enough(const char *call, const unsigned long *seen, const unsigned *refusals, size_t count,
+                        unsigned least)
 {
     int enough = 1;
     size_t k;
@@ -165,7 +181,7 @@ static int often_enough(const char *call, const unsigned long *seen, const unsig
     printf("%s:", call);
     for (k = 0; k < count; k++) {
         printf(" %u %lu", refusals[k], seen[refusals[k]]);
-        enough &= seen[refusals[k]] >= LEAST;
+        enough &= seen[refusals[k]] >= least;
     }
     printf("\n");
     return enough;
@@ -174,6 +190,8 @@ static int often_enough(const char *call, const unsigned long *seen, const unsig
 int main(int count, char **words)
 {
     static const unsigned by_parse[] = { 0, 4, 5, 6, 11, 16, 17 }, by_print[] = { 0, 1, 2, 3, 4, 5, 6, 7, 11, 17 };
+    static const unsigned by_modes[] = { MODES_UNCALLED, MODES_BEFORE, MODES_BEHIND, MODES_UNDECLARED };
+    static const unsigned by_class[] = { CLASS_BEHIND, CLASS_UNDECLARED };
     struct random random = { count > 1 ? strtoull(words[1], NULL, 10) : 41 };
     unsigned long texts = count > 2 ? strtoul(words[2], NULL, 10) : TEXTS, k;
 
@@ -186,8 +204,12 @@ int main(int count, char **words)
             print_both(&random);
     }
     printf("%lu texts, 0 differences\n", texts);
-    return often_enough("parse", parsed, by_parse, sizeof by_parse / sizeof by_parse[0]) &&
-                   often_enough("print", printed, by_print, sizeof by_print / sizeof by_print[0])
+    return often_enough("parse", parsed, by_parse, sizeof by_parse / sizeof by_parse[0], LEAST) &&
+                   often_enough("print", printed, by_print, sizeof by_print / sizeof by_print[0], LEAST) &&
+                   often_enough("a mode line refused, by what is called", moded, by_modes, sizeof by_modes / sizeof by_modes[0],
+                                LEAST) &&
+                   often_enough("the same with more names of a class than places", moded, by_class,
+                                sizeof by_class / sizeof by_class[0], LEAST_CLASS)
                ? 0
                : 1;
 }

@@ -1,4 +1,5 @@
 /* Texts and what becomes of them, case by case: the answer, and of what is accepted every byte, forth and back. */
+#include "classes.h"
 #include "reference.h"
 
 #include <inttypes.h>
@@ -155,7 +156,7 @@ static void form_is_refused(void)
 static void refused_repeated(const char *before, const char *line, unsigned count, const char *behind, unsigned refusal,
                              uint64_t offset)
 {
-    static char all[ROOM];
+    static char all[4 * ROOM];
     unsigned k;
 
     strcpy(all, before);
@@ -178,6 +179,94 @@ static void limits_are_refused(void)
     refused("mode p(?,?,?). <- p(A,B,C), p(D,E,F), p(G,H,I), p(J,K,L), p(M,N,O), p(P,Q,R).", BODY, 8);
 }
 
+/* Calls of what has a mode line before the refused one, from it on, or nowhere. A parse has places for 4,385 names. */
+static void modes_are_refused(void)
+{
+    refused("mode p. mode p. mode q. p. <- p.", NAME, 5);
+    refused("mode p. mode p. mode q. <- q.", NAME, 5);
+    refused("mode p. mode p. mode q. q <- p : q; q. <- p & q.", NAME, 5);
+    refused("mode p. mode p. mode q. q <- p : q; q. <- p & q, r.", UNDECLARED, 0);
+    refused("mode p. mode p. mode q. q <- r : q; q. <- p & q.", UNDECLARED, 0);
+    refused("mode p. mode p. mode q. q; r. <- .", UNDECLARED, 0);
+    refused("mode p. mode p. <- a = b.", NAME, 5);
+    refused("mode p. mode p. mode p_. <- p_.", NAME, 5);
+    refused("mode p. mode p. mode p_. <- p_0.", UNDECLARED, 0);
+    refused("mode q. mode p(?,?,?,?,?). <- p.", BODY, 5);
+    refused("mode p(?,?,?,?,?). mode q. mode q. q <- p. <- q.", BODY, 0);
+    refused("mode p(?,?,?,?,?). mode q. mode q. q <- r. <- q.", UNDECLARED, 0);
+    refused_repeated("", "mode p%u. ", 4385, "p33. <- p4384, p0.", MANY, 160);
+    refused_repeated("", "mode p%u. ", 4385, "p33. <- p4385, p0.", UNDECLARED, 0);
+    refused_repeated("", "mode p%u. ", 4386, "p4385. <- p4384, p0.", MANY, 160);
+    refused_repeated("", "mode p%u. ", 4386, "p4385. <- p4386, p0.", UNDECLARED, 0);
+    refused_repeated("", "mode p%u. ", 4400, "p4399 <- p4390 : p4386. p4389. <- p4385 & p4399, p4388.", MANY, 160);
+    refused_repeated("", "mode p%u. ", 4400, "p4399 <- p4390 : p4386. p4389. <- p4385 & p4400, p4388.", UNDECLARED, 0);
+    refused_repeated("", "mode p%u. ", 4400, "p4399 <- p4390 : p43. p438. <- p4385 & p4399, p43990.", UNDECLARED, 0);
+    refused_repeated("", "mode p%u. ", 4400, "mode p0. mode q. q <- p4390 : p43. p438. <- p4385 & p4399, q.", MANY, 160);
+}
+
+/* ---- what is refused: relations of one class, about as many as places, or more ---- */
+
+/* Names of the class of `m`, in any order and in that of their bytes. */
+#define LATE \
+    "mode mbbbb. mode mddnZZji. mode m00cv. mode m__dwaaoo. mode m. mode mxxlbyycb. mode mbbbbddn(?,^). mode mAAbu. mode mddn. " \
+    "mode m00cv11oo. mode mccb. mode maabu. mode m__dw. mode mZZ. mode mbbbbccb. "
+#define UPWARDS "m, m00cv, m00cv11oo, mAAbu, mZZ, m__dw, m__dwaaoo, maabu, " \
+                "mbbbb, mbbbbccb, mbbbbddn, mccb, mddn, mddnZZji, mxxlbyycb"
+#define DOWNWARDS "mxxlbyycb, mddnZZji, mddn, mccb, mbbbbddn, mbbbbccb, mbbbb, maabu, " \
+                  "m__dwaaoo, m__dw, mZZ, mAAbu, m00cv11oo, m00cv, m"
+
+/* A text with so many mode lines of that class before, of names that begin otherwise. */
+static void refused_class(unsigned lines, const char *behind, unsigned refusal, uint64_t offset)
+{
+    static char all[4 * ROOM];
+    char name[CLASS_NAME + 1] = "a", *end = all;
+
+    while (lines > 0) {
+        next_of_class(name, class_of("m"));
+        if (name[0] == 'm')
+            continue;
+        end += sprintf(end, "mode %s. ", name);
+        lines--;
+    }
+    strcpy(end, behind);
+    refused(all, refusal, offset);
+}
+
+/* One more than the lines before, and a call of what has none: the same class and less, more, much more; another class. */
+static void one_late(unsigned lines)
+{
+    refused_class(lines, "mode m. <- .", MANY, 160);
+    refused_class(lines, "mode m. m <- m. <- m, m & m.", MANY, 160);
+    refused_class(lines, "mode m. m <- m. <- m, aNNUu & m.", UNDECLARED, 0);
+    refused_class(lines, "mode m. m <- mbbbb. <- m, m & m.", UNDECLARED, 0);
+    refused_class(lines, "mode m. m <- m : zwRu. <- m, m & m.", UNDECLARED, 0);
+    refused_class(lines, "mode m. m <- m. <- m, m & mb.", UNDECLARED, 0);
+}
+
+static void classes_are_refused(void)
+{
+    one_late(PLACES - 2);
+    one_late(PLACES - 1);
+    one_late(PLACES);
+    refused_class(PLACES, LATE "<- " UPWARDS ".", MANY, 160);
+    refused_class(PLACES, LATE "<- " DOWNWARDS ".", MANY, 160);
+    refused_class(PLACES, LATE "m <- " UPWARDS " : " DOWNWARDS "; mxxlbyycb <- " UPWARDS ". <- " DOWNWARDS ", m, m.", MANY, 160);
+    refused_class(PLACES, LATE "mddn(m00cv) <- mbbbb, mddn, m : maabu, m; mddn <- m. "
+                  "<- mbbbb & m00cv(zwRu,mb), mbbbb = aNNUu, mddnZZji.", MANY, 160);
+    refused_class(PLACES, LATE "mode m. mode mddn. mode meeob. <- meeob, " UPWARDS ".", MANY, 160);
+    refused_class(PLACES, LATE "<- aNNUu, " UPWARDS ".", UNDECLARED, 0);
+    refused_class(PLACES, LATE "<- " DOWNWARDS ", aNNUu.", UNDECLARED, 0);
+    refused_class(PLACES, LATE "<- " UPWARDS ", mbbbbaabu.", UNDECLARED, 0);
+    refused_class(PLACES, LATE "m <- m__dw : mccb; mddnZZji00. <- " DOWNWARDS ".", UNDECLARED, 0);
+    refused_class(PLACES, LATE "m <- m__dw, mxxlb : mccb. <- " UPWARDS ".", UNDECLARED, 0);
+    refused_class(PLACES, LATE "m <- m__dw : mccb & mxxlbyycbyyon. <- .", UNDECLARED, 0);
+    refused_class(PLACES, LATE "<- " UPWARDS " & zwRu.", UNDECLARED, 0);
+    refused_class(PLACES, LATE "zwRu. <- " DOWNWARDS ".", UNDECLARED, 0);
+    refused_class(PLACES, LATE "<- " UPWARDS ", mb.", UNDECLARED, 0);
+    refused_class(PLACES, LATE "<- mb, " DOWNWARDS ".", UNDECLARED, 0);
+    refused_class(PLACES, LATE "<- mb.", UNDECLARED, 0);
+}
+
 static void meaning_is_refused(void)
 {
     refused("<- p.", UNDECLARED, 0);
@@ -197,6 +286,8 @@ static void meaning_is_refused(void)
     refused("mode p. mode q. p; q; q; p. <- .", NAME, 40);
     refused("mode p. <- p(a,b,c,d,e).", BODY, 5);
     limits_are_refused();
+    modes_are_refused();
+    classes_are_refused();
 }
 
 /* ---- printing: names that are lacking ---- */

@@ -176,10 +176,19 @@ void text_any(struct text *text, struct random *random)
 {
     static struct image image;
     struct naming naming = { random_bits(random), random_once(random, 8) };
-    unsigned sort = random_below(random, 20);
+    unsigned sort = random_below(random, 22);
 
+    text->modes = OTHER_TEXT;
     if (sort < 6) {
         text_garbage(text, random);
+        return;
+    }
+    if (sort >= 20) {
+        text_modes(text, random);
+        if (!random_once(random, 8))
+            return;
+        text->modes = OTHER_TEXT;
+        text_damage(text, random);
         return;
     }
     image_for_text(&image, random);

@@ -10,10 +10,17 @@
 
 enum { TEXT_ROOM = 65536, NAMES_ROOM = 524288 };
 
+/*
+ * What is called in a text of which a mode line is refused: nothing, only what has one before it, also what has one from it on,
+ * also what has none. The last two once more with names of one class, of which one is called that a parse has no place for.
+ */
+enum { OTHER_TEXT, MODES_UNCALLED, MODES_BEFORE, MODES_BEHIND, MODES_UNDECLARED, CLASS_BEHIND, CLASS_UNDECLARED, MODES_KINDS };
+
 struct text {
     uint8_t bytes[TEXT_ROOM];
     size_t length;
-    int full; /* something did not fit */
+    int full;       /* something did not fit */
+    unsigned modes; /* what is called in a text of text_modes */
 };
 
 /* Names of relations and constants, each with a byte 10. */
@@ -55,6 +62,9 @@ void text_damage(struct text *text, struct random *random);
 
 /* Pieces of texts one behind the other, or any bytes. */
 void text_garbage(struct text *text, struct random *random);
+
+/* A mode line is refused, and the calls are of what has one before it, from it on, or nowhere. */
+void text_modes(struct text *text, struct random *random);
 
 /* A text of any of these sorts. */
 void text_any(struct text *text, struct random *random);

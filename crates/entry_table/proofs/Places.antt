@@ -1,18 +1,19 @@
 -- Places of entries, one behind the other.
 use mathlib.Core.Path.{_∙_, _≡_, ap, refl, sym}
 use mathlib.Core.Bool.{_&&_, Bool, cond, false, true}
-use mathlib.Core.List.{[], List}
+use mathlib.Core.List.{List}
 use Prim.Native.Nat.{_*_, _+_, _-_, _/_, _<_, _≤_, suc, zero, ℕ}
 use lib.Dec.{eqb}
 use lib.ListN.{drop, drop-of-length-le, getD, length, length-set, set}
-use lib.Seq.{drop-cons, getD-drop, getD-set-other, getD-set-same}
+use lib.Seq.{drop-cons, getD-set-other, getD-set-same}
 use borrow.Author.Tests.{eq-eqb, eqb-false, eqb-true, ne-eqb}
-use native.Mathlib.Numerals.{add-one}
-use native.Mathlib.Nat.{div-mul-le-self, le-trans, mul-assoc, mul-le-mul-right, mul-left-comm, suc-mul}
 use native.Mathlib.Omega.{arith}
-use Rattle.text_names.specs.Bytes.{back, first, isSmall}
-use Rattle.text_names.specs.Entries.{behindEntry, entryFrom, isEntry}
+use native.Mathlib.Nat.{div-mul-le-self, le-trans, mul-assoc, mul-le-mul-right, mul-left-comm, suc-mul}
+use native.Mathlib.Numerals.{add-one}
 use Rattle.entry_table.specs.Entered.{Entered, tableSize}
+use Rattle.text_names.proofs.Rest.{empty-entry, first-at}
+use Rattle.text_names.specs.Bytes.{back, isSmall}
+use Rattle.text_names.specs.Entries.{behindEntry, entryFrom, isEntry}
 
 -- ---- walks
 
@@ -38,11 +39,6 @@ entry-next s (suc k) h = let e : suc k - 1 ≡ k = omega arith in rw e
 pub entry-last : (s : List ℕ) (left : ℕ) → left ≡ 0 → entryFrom s left ≡ s
 unfolding entryFrom
 entry-last s left h = rw h
-
-empty-entry : (k : ℕ) → entryFrom [] k ≡ []
-unfolding entryFrom behindEntry
-empty-entry zero = refl
-empty-entry (suc k) = empty-entry k
 
 pub walked-out : (s : List ℕ) (at left : ℕ) → length s ≤ at → drop at s ≡ entryFrom (drop at s) left
 walked-out s at left h = rw (drop-of-length-le s h) (sym (empty-entry left))
@@ -188,9 +184,6 @@ pub next-last : (t : List ℕ) (n r : ℕ) → n < length t → getD (set t n r)
 next-last t n r h = let z : n + 1 - 1 ≡ n = omega arith in rw z (getD-set-same t n r 0 h)
 
 -- an entry by its bytes in the row
-first-at : (s : List ℕ) (i : ℕ) → first (drop i s) ≡ getD s i 0
-first-at s i = getD-drop i s 0 0 ∙ (let h : i + 0 ≡ i = omega arith in rw h)
-
 pub entry-is : (s : List ℕ) (k at end : ℕ) → drop at s ≡ entryFrom s k → drop end s ≡ back (drop at s) → isEntry s k ≡ (isSmall (getD s at 0) && eqb (getD s end 0) 10)
 unfolding isEntry
 entry-is s k at end e f = rw (← e, ← f, first-at s at, first-at s end)

@@ -1,5 +1,5 @@
-pub mod Here
 pub mod Fields
 pub mod Named
 pub mod Whole
+pub mod Counts
 pub mod Walked

@@ -7,8 +7,7 @@ use lib.Dec.{eqb, ltb}
 use lib.ListN.{drop, length, length-append, length-drop}
 use borrow.Author.Tests.{le-ltb}
 use native.Mathlib.Omega.{arith}
-use Rattle.judge_image.proofs.Here.{skip-by}
-use Rattle.judge_image.proofs.Named.{record-end, record-inside, record-kind, record-length, record-whole}
+use Rattle.judge_image.proofs.Counts.{more-clauses, more-relations}
 use Rattle.judge_image.proofs.Whole.{ask-here, ask-known, ask-sized, clause-here, clause-known, clause-mark, clause-rel, clause-sized, relation-sized, verdict-told}
 use Rattle.judge_image.specs.Judged.{askJudged, askSized, clauseJudged, clauseKnown, clauseSized, clausesJudged, goalKnown, judged, progressOf, relationJudged, relationSized, relationsJudged, taken}
 use Rattle.parlog.specs.Body.{bodyRight}
@@ -22,6 +21,8 @@ use Rattle.parlog.specs.declared.Progress.{Progress}
 use Rattle.parlog.specs.declared.Verdict.{Verdict}
 use Rattle.parlog.specs.declared.Verdict.the-variants.{Goes, Refuses}
 use Rattle.text_names.specs.Names.{Name}
+use Rattle.text_program.proofs.Fields.{record-end, record-inside, record-kind, record-length, record-whole}
+use Rattle.text_program.proofs.Here.{skip-by}
 use Rattle.text_program.specs.Encoded.{askBytes, clauseBytes, goalBytes, programBytes, recordBytes, relationBytes, termBytes}
 use Rattle.text_program.specs.Numbered.{joined}
 use Rattle.text_program.specs.Parsing.{onceBy, recordsIn, repeated, textVerdict}
@@ -93,14 +94,6 @@ module _ (names : List Name) (s : List ℕ) where
       let v = verdict-told s g at 1 (relationSized ms) true k (relation-sized s ms at r e) refl in
       rw (k, v) (ap (onceBy (repeated names (g .relations))) (judged-relation g (relationSized ms) true (byteAt s (at + 4)) (byteAt s (at + 6)) 0 0))
 
-  more-relations : (g : Progress) → progressOf g 1 0 0 .relations ≡ g .relations + 1
-  unfolding progressOf
-  more-relations g = refl
-
-  same-relations : (g : Progress) (r mark : ℕ) → progressOf g 2 r mark .relations ≡ g .relations
-  unfolding progressOf
-  same-relations g r mark = refl
-
   walk-relation : (m : List ℕ) (n at : ℕ) (r : List ℕ) (g : Progress) → drop at s ≡ relationBytes m ++ r → go (suc n) at g ≡ after (go n (at + length (relationBytes m))) at (relationJudged names g m)
   unfolding relationBytes
   walk-relation m n at r g e = walk-one 1 (length m ∷ m) n at r g e ∙ ap (after (go n (at + length (recordBytes 1 (length m ∷ m)))) at) (relation-told g at m r e)
@@ -125,7 +118,7 @@ module _ (names : List Name) (s : List ℕ) where
       absurd (let z = relation-fuel m zero at (joined relationBytes ms ++ tail) (e ∙ append-assoc (relationBytes m) (joined relationBytes ms) tail) h in omega arith)
   relations-walked then all tail k (m ∷ ms) (suc n) at g e h c =
       let d = e ∙ append-assoc (relationBytes m) (joined relationBytes ms) tail in
-      let w = more-relations g in
+      let w = more-relations g .0 in
       walk-relation m n at (joined relationBytes ms ++ tail) g d
       ∙ relation-ext (go n (at + length (relationBytes m))) (relationsJudged names then ms (at + length (relationBytes m))) at g m
       (relations-walked then all tail k ms n (at + length (relationBytes m)) (progressOf g 1 0 0) (skip-by s at (relationBytes m) (joined relationBytes ms ++ tail) d)
@@ -168,7 +161,7 @@ module _ (names : List Name) (s : List ℕ) where
         walk-clause x n at (joined clauseBytes cs ++ tail) g c d
         ∙ clause-ext (go n (at + length (clauseBytes x))) (clausesJudged rels then cs (at + length (clauseBytes x))) at g x
         (clauses-walked then tail k cs n (at + length (clauseBytes x)) (progressOf g 2 (x .rel) (x .mark)) (skip-by s at (clauseBytes x) (joined clauseBytes cs ++ tail) d)
-        (clause-left x n at (joined clauseBytes cs ++ tail) d h) (same-relations g (x .rel) (x .mark) ∙ c))
+        (clause-left x n at (joined clauseBytes cs ++ tail) d h) (more-clauses g (x .rel) (x .mark) .2 ∙ c))
 
     ask-told : (g : Progress) (at n : ℕ) (q : Goal) (r : List ℕ) → g .relations ≡ length rels → drop at s ≡ askBytes n q ++ r → textVerdict names s g at ≡ askJudged rels g n q
     unfolding textVerdict askJudged bodyRight namesRight

@@ -1,15 +1,14 @@
 -- Whole records: their tests, told by what they are made of.
 use mathlib.Core.Path.{_∙_, _≡_, ap, refl, sym}
-use mathlib.Core.Bool.{_&&_, _||_, Bool, cond, false, true}
+use mathlib.Core.Bool.{_&&_, _||_, and-true as true-right, Bool, cond, false, true}
 use mathlib.Core.List.{[], _++_, _∷_, append-assoc, List}
 use Prim.Native.Nat.{_+_, ℕ}
 use lib.Dec.{eqb, leb}
 use lib.ListN.{drop, length, length-append}
 use borrow.Author.Tests.{eq-eqb}
 use native.Mathlib.Omega.{arith}
-use Rattle.judge_image.proofs.Fields.{goal-sized, goal-step, terms-known, terms-length}
-use Rattle.judge_image.proofs.Here.{byte-here, byte-next, items-each, skip-by}
-use Rattle.judge_image.proofs.Named.{goal-known, record-body, record-end, record-length, relation-arity, relation-known}
+use Rattle.judge_image.proofs.Fields.{goal-sized, terms-known}
+use Rattle.judge_image.proofs.Named.{goal-known, relation-known}
 use Rattle.judge_image.specs.Judged.{askSized, clauseKnown, clauseSized, goalKnown, goalSized, judged, progressOf, relationSized}
 use Rattle.parlog.specs.Body.{askBody, bodyRight, clauseBody, modeRange, relationBody}
 use Rattle.parlog.specs.Image.{bodyAt, byteAt, goalEnd, guardAt, kindAt, modeEnd, recordEnd}
@@ -18,17 +17,11 @@ use Rattle.parlog.specs.Names.{clauseInside, clausePlaced, follows, goalNamed, 
 use Rattle.parlog.specs.Program.{Clause, Goal}
 use Rattle.parlog.specs.Scan.{each}
 use Rattle.parlog.specs.declared.Progress.{Progress}
+use Rattle.text_program.proofs.Fields.{goal-step, record-body, record-end, record-length, relation-arity, terms-length}
+use Rattle.text_program.proofs.Here.{byte-here, byte-next, items-each, skip-by}
+use Rattle.text_program.proofs.Joined.{singles}
 use Rattle.text_program.specs.Encoded.{askBytes, clauseBytes, goalBytes, recordBytes, relationBytes, termBytes}
 use Rattle.text_program.specs.Numbered.{joined}
-
-true-right : (a : Bool) → (a && true) ≡ a
-true-right true = refl
-true-right false = refl
-
-singles : (ms : List ℕ) → joined (λ (m : ℕ). m ∷ []) ms ≡ ms
-unfolding joined
-singles [] = refl
-singles (m ∷ ms) = ap (λ (l : List ℕ). m ∷ l) (singles ms)
 
 -- ---- the tests of a record, once its numbers are told
 

@@ -7,14 +7,13 @@ use lib.Dec.{eqb, ltb}
 use lib.ListN.{length}
 use borrow.Author.Tests.{le-ltb, ne-eqb}
 use native.Mathlib.Omega.{arith}
-use Rattle.judge_image.proofs.Named.{record-length}
 use Rattle.judge_image.specs.Judged.{judged, progressOf, taken}
-use Rattle.judge_said.specs.Said.{askRight, askSaid, clauseSaid, clausesSaid, clauseSize}
+use Rattle.judge_said.specs.Said.{askRight, askSaid, clauseSaid, clauseSize, clausesSaid}
 use Rattle.judge_text.specs.Tests.{Counted}
 use Rattle.lay_lines.proofs.Sizes.{clause-long, clause-record}
 use Rattle.lay_lines.specs.Fields.{clauseFields, clauseIn}
-use Rattle.lay_literal.specs.Fits.{goalFits}
 use Rattle.lay_lines.specs.Lines.{clauseRight, withVars}
+use Rattle.lay_literal.specs.Fits.{goalFits}
 use Rattle.parlog.specs.Load.{after, blockWith, kindFault, refusal, refuseIf, tooMany}
 use Rattle.parlog.specs.declared.Loaded.{Loaded}
 use Rattle.parlog.specs.declared.Loaded.the-variants.{Accepted, Refused}
@@ -22,7 +21,8 @@ use Rattle.parlog.specs.declared.Progress.{Progress}
 use Rattle.parlog.specs.declared.Verdict.{Verdict}
 use Rattle.parlog.specs.declared.Verdict.the-variants.{Goes, Refuses}
 use Rattle.text_names.specs.Names.{Name, sameName}
-use Rattle.text_program.specs.Source.{consGot, got, Got, ModeLine, Said, SaidClause}
+use Rattle.text_program.proofs.Fields.{record-length}
+use Rattle.text_program.specs.Source.{consGot, Got, got, ModeLine, Said, SaidClause}
 
 -- ---- the goal
 
@@ -50,14 +50,14 @@ abbrev isGoes : Verdict → ℕ
 isGoes (Refuses k) = 0
 isGoes (Goes k) = 1
 
-abbrev inGoes : Progress → Verdict → Progress
+abbrev pub inGoes : Progress → Verdict → Progress
 inGoes d (Refuses k) = d
 inGoes d (Goes k) = k
 
 pub never : {P : Type 0} (n : ℕ) (next : Progress) → Refuses n ≡ Goes next → P
 never n next e = absurd (let z = ap isGoes e in omega arith)
 
-pub judged-goes : (g : Progress) (kind : ℕ) (sized known : Bool) (r mark : ℕ) (next : Progress) → judged g kind sized known r mark ≡ Goes next → (sized ≡ true) × (next ≡ progressOf g kind r mark)
+judged-goes : (g : Progress) (kind : ℕ) (sized known : Bool) (r mark : ℕ) (next : Progress) → judged g kind sized known r mark ≡ Goes next → (sized ≡ true) × (next ≡ progressOf g kind r mark)
 unfolding judged
 judged-goes g kind sized known r mark next = go (kindFault g kind) (tooMany g kind) sized known (eqb kind 2 && ltb 8 (blockWith g r mark))
   where

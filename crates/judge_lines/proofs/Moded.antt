@@ -1,13 +1,12 @@
 -- One mode line more among those that were tested.
 use mathlib.Core.Path.{_∙_, _≡_, ap, refl, sym}
-use mathlib.Core.Bool.{_&&_, Bool, cond, false, not, true}
+use mathlib.Core.Bool.{_&&_, and-true as true-right, Bool, cond, false, not, true}
 use mathlib.Core.List.{[], _∷_, List}
 use Prim.Native.Nat.{_+_, _≤_, suc, zero, ℕ}
 use lib.Dec.{eqb, leb, ltb}
 use lib.ListN.{getD, length}
 use borrow.Author.Tests.{le-leb, le-ltb, leb-true, lt-leb, ltb-false, ltb-true, ne-eqb}
 use native.Mathlib.Omega.{arith}
-use Rattle.judge_image.proofs.Named.{record-length}
 use Rattle.judge_image.specs.Judged.{judged, progressOf, relationJudged, relationSized, relationsJudged}
 use Rattle.judge_lines.specs.Whole.{Opening}
 use Rattle.judge_text.specs.Tests.{tested}
@@ -19,15 +18,12 @@ use Rattle.parlog.specs.declared.Progress.{Progress}
 use Rattle.parlog.specs.declared.Verdict.the-variants.{Goes, Refuses}
 use Rattle.text_names.specs.Bytes.{first, next, past}
 use Rattle.text_names.specs.Names.{look, Name}
+use Rattle.text_program.proofs.Fields.{record-length}
 use Rattle.text_program.specs.Encoded.{relationBytes}
 use Rattle.text_program.specs.Parsing.{allOf, onceBy, repeated}
-use Rattle.text_program.specs.Source.{bracketsBy, consGot, got, Got, ModeLine, readBrackets, readMode, readModeLine, rowBy, rowFor}
+use Rattle.text_program.specs.Source.{bracketsBy, consGot, Got, got, ModeLine, readBrackets, readMode, readModeLine, rowBy, rowFor}
 
 -- ---- modes are 0 or 1
-
-true-right : (a : Bool) → (a && true) ≡ a
-true-right true = refl
-true-right false = refl
 
 mode-small : (b : Bool) → leb (cond b 1 0) 1 ≡ true
 mode-small true = refl

@@ -5,16 +5,18 @@ use mathlib.Core.List.{[], _++_, _∷_, append-assoc, List}
 use Prim.Native.Nat.{_*_, _+_, _<_, _≤_, ℕ}
 use lib.Dec.{eqb, leb, ltb}
 use lib.ListN.{length, length-append}
-use borrow.Author.Tests.{eq-eqb, eqb-true, leb-false, leb-true, lt-ltb}
+use borrow.Author.Tests.{eq-eqb, leb-true, lt-ltb}
 use native.Mathlib.Omega.{arith}
+use Rattle.judge_image.proofs.Counts.{few-clauses, more-clauses}
 use Rattle.judge_image.specs.Judged.{clauseJudged, clauseKnown, clauseSized, clausesJudged, judged, progressOf}
 use Rattle.judge_said.proofs.First.{terms-okay-in}
 use Rattle.judge_said.proofs.Known.{clause-told}
 use Rattle.judge_said.proofs.Sized.{clause-size, clause-sized}
 use Rattle.judge_said.specs.Said.{clauseSaid, clauseSize, clausesSaid}
+use Rattle.lay_lines.proofs.Sizes.{right-parts}
 use Rattle.lay_lines.specs.Fields.{clauseFits, clauseIn}
-use Rattle.lay_lines.proofs.Sizes.{both, right-parts}
 use Rattle.lay_lines.specs.Lines.{clauseRight, clausesWith, modesOf, withVars}
+use Rattle.parlog.proofs.Bools.{and-true}
 use Rattle.parlog.specs.Load.{after, blockWith, kindFault, refuseIf, tooMany}
 use Rattle.parlog.specs.Names.{follows}
 use Rattle.parlog.specs.declared.Loaded.{Loaded}
@@ -22,9 +24,11 @@ use Rattle.parlog.specs.declared.Progress.{Progress}
 use Rattle.parlog.specs.declared.Verdict.the-variants.{Goes}
 use Rattle.read_goal.specs.Spans.{goalRight, literalRight, literalsIn, stageRight, stagesRight}
 use Rattle.read_names.specs.Tables.{modeNames}
+use Rattle.text_names.proofs.Looked.{same-is}
 use Rattle.text_names.specs.Names.{adds, look, Name, sameName}
+use Rattle.text_program.proofs.Joined.{lowers-append}
 use Rattle.text_program.specs.Encoded.{clauseBytes}
-use Rattle.text_program.specs.Numbered.{clauseTerms, goalTerms, isUpper, joined, lowers, markBy, Numbering, saidTerms}
+use Rattle.text_program.specs.Numbered.{clauseTerms, goalTerms, joined, lowers, markBy, Numbering, saidTerms}
 use Rattle.text_program.specs.Parsing.{allOf, clauseDeclared}
 use Rattle.text_program.specs.Source.{ModeLine, Said, SaidClause}
 
@@ -34,7 +38,7 @@ stage-terms : (st : List Said) → allOf literalRight st ≡ true → length (jo
 unfolding allOf joined literalRight
 stage-terms [] e = omega arith
 stage-terms (l ∷ st) e =
-    let p = both (leb (length (saidTerms l)) 4) (allOf literalRight st) e in
+    let p = and-true (leb (length (saidTerms l)) 4) (allOf literalRight st) e in
     let a = leb-true (length (saidTerms l)) 4 (p .0) in
     let b = stage-terms st (p .1) in
     let c = length-append (saidTerms l) (joined saidTerms st) in
@@ -44,8 +48,8 @@ stages-terms : (g : List (List Said)) → allOf stageRight g ≡ true → length
 unfolding allOf joined stageRight literalsIn
 stages-terms [] e = omega arith
 stages-terms (st ∷ g) e =
-    let p = both (stageRight st) (allOf stageRight g) e in
-    let q = both (leb 1 (length st)) (allOf literalRight st) (p .0) in
+    let p = and-true (stageRight st) (allOf stageRight g) e in
+    let q = and-true (leb 1 (length st)) (allOf literalRight st) (p .0) in
     let a = stage-terms st (q .1) in
     let b = stages-terms g (p .1) in
     let c = length-append (joined saidTerms st) (goalTerms g) in
@@ -54,8 +58,8 @@ stages-terms (st ∷ g) e =
 pub goal-few : (g : List (List Said)) → goalRight g ≡ true → length (goalTerms g) ≤ 32
 unfolding goalRight stagesRight
 goal-few g e =
-    let p = both (leb (length g) 8) (allOf stageRight g && leb (literalsIn g) 8) e in
-    let q = both (allOf stageRight g) (leb (literalsIn g) 8) (p .1) in
+    let p = and-true (leb (length g) 8) (allOf stageRight g && leb (literalsIn g) 8) e in
+    let q = and-true (allOf stageRight g) (leb (literalsIn g) 8) (p .1) in
     let a = stages-terms g (q .0) in
     let c = leb-true (literalsIn g) 8 (q .1) in
     omega arith
@@ -96,33 +100,9 @@ judged-both f h at g kind sized known other r mark k e = fault (kindFault g kind
 
 -- ---- clauses
 
-few-clauses : (g : Progress) → tooMany g 2 ≡ false → g .clauses < 64
-unfolding tooMany
-few-clauses g e = leb-false 64 (g .clauses) e
-
-more-clauses : (g : Progress) (r mark : ℕ) → (progressOf g 2 r mark .clauses ≡ g .clauses + 1) × (progressOf g 2 r mark .relation ≡ r)
-unfolding progressOf
-more-clauses g r mark = (refl, refl)
-
 -- the clause before is of this name, where it ended in `;`
-abbrev pub Behind : List ModeLine → Progress → Bool → Name → Type 0
+abbrev Behind : List ModeLine → Progress → Bool → Name → Type 0
 Behind ms g semicolon name = semicolon ≡ true → (0 < g .clauses) × (g .relation ≡ look (modeNames ms) name)
-
-same-names : (x y : Name) → sameName x y ≡ true → x ≡ y
-unfolding sameName
-same-names [] [] e = refl
-same-names [] (b ∷ y) e = absurd (let z : _≡_ {A = ℕ} 0 1 = cc in omega arith)
-same-names (a ∷ x) [] e = absurd (let z : _≡_ {A = ℕ} 0 1 = cc in omega arith)
-same-names (a ∷ x) (b ∷ y) e = let p = both (eqb a b) (sameName x y) e in let h = eqb-true a b (p .0) in rw h (ap (λ (l : List ℕ). b ∷ l) (same-names x y (p .1)))
-
-pub lowers-append : (xs ys : List Name) → lowers (xs ++ ys) ≡ lowers xs ++ lowers ys
-unfolding lowers
-lowers-append [] ys = refl
-lowers-append (x ∷ xs) ys = go (isUpper x) (lowers-append xs ys)
-  where
-    go : (b : Bool) → lowers (xs ++ ys) ≡ lowers xs ++ lowers ys → cond b (lowers (xs ++ ys)) (x ∷ lowers (xs ++ ys)) ≡ cond b (lowers xs) (x ∷ lowers xs) ++ lowers ys
-    go true e = e
-    go false e = ap (λ (l : List Name). x ∷ l) e
 
 -- the terms so far, those of one more, and the rest
 abbrev regroup : List Name → List Name → List Name → List Name → Type 0
@@ -145,7 +125,7 @@ mark-right ms g semicolon name x b = go semicolon (sameName name x) b refl
     go : (s t : Bool) → (s ≡ true → (0 < g .clauses) × (g .relation ≡ look (modeNames ms) name)) → sameName name x ≡ t → cond (follows g (look (modeNames ms) x)) true (eqb (markBy (s && t)) 0) ≡ true
     go true true h e =
         let q = h refl in
-        let r : g .relation ≡ look (modeNames ms) x = q .1 ∙ ap (look (modeNames ms)) (same-names name x e) in
+        let r : g .relation ≡ look (modeNames ms) x = q .1 ∙ ap (look (modeNames ms)) (same-is name x e) in
         open-one (follows g (look (modeNames ms) x)) (rw (lt-ltb 0 (g .clauses) (q .0), eq-eqb (g .relation) (look (modeNames ms) x) r) refl)
     go true false h e = any-one (follows g (look (modeNames ms) x))
     go false t h e = any-one (follows g (look (modeNames ms) x))
@@ -174,7 +154,7 @@ module _ (ms : List ModeLine) (few : length ms ≤ 32) (goal : List (List Said))
       let n = withVars (modeNames ms) consts x in
       let e : consts ≡ adds [] (lowers ((before ++ clauseTerms x) ++ (joined clauseTerms cs ++ goalTerms goal))) = c ∙ ap (λ (l : List Name). adds [] (lowers l)) (grouped before (clauseTerms x) (joined clauseTerms cs) (goalTerms goal)) in
       let f : consts ≡ adds [] (lowers (before ++ clauseTerms x) ++ lowers (joined clauseTerms cs ++ goalTerms goal)) = e ∙ ap (λ (l : List Name). adds [] l) (lowers-append (before ++ clauseTerms x) (joined clauseTerms cs ++ goalTerms goal)) in
-      let p = both (clauseDeclared (modeNames ms) x) (allOf (clauseDeclared (modeNames ms)) cs) d in
+      let p = and-true (clauseDeclared (modeNames ms) x) (allOf (clauseDeclared (modeNames ms)) cs) d in
       one-said x n opens at g
       (clausesJudged (modesOf ms) thenJ (clausesWith (modeNames ms) consts (x .semicolon) (x .name) cs)) (clausesSaid ms thenS (x .semicolon) (x .name) cs (at + clauseSize x))
       (clause-sized (modeNames ms) consts opens x)

@@ -1,25 +1,25 @@
 -- 5 by what the text says.
-use mathlib.Core.Path.{_∙_, _≡_, ap, refl, sym}
-use mathlib.Core.Bool.{_&&_, Bool, cond, false, true}
+use mathlib.Core.Path.{_≡_, refl}
+use mathlib.Core.Bool.{_&&_, and-true as true-right, Bool, cond, false, true}
 use mathlib.Core.List.{[], _++_, _∷_, List, map}
 use Prim.Native.Nat.{_+_, _-_, _<_, _≤_, suc, ℕ}
 use lib.Dec.{eqb, leb, ltb}
-use lib.ListN.{getD, length}
+use lib.ListN.{getD, length, length-map}
 use borrow.Author.Tests.{le-ltb, lt-ltb, ltb-true, ne-eqb}
 use native.Mathlib.Omega.{arith}
 use Rattle.judge_image.specs.Judged.{clauseKnown, goalKnown, literalKnown, relationKnown, termKnown}
 use Rattle.lay_lines.specs.Fields.{clauseFits, clauseIn}
-use Rattle.lay_literal.specs.Fits.{goalFits, stageFits}
-use Rattle.lay_lines.proofs.Sizes.{both}
 use Rattle.lay_lines.specs.Lines.{modesOf}
-use Rattle.lay_literal.proofs.Laid.{map-length}
+use Rattle.lay_literal.specs.Fits.{goalFits, stageFits}
 use Rattle.lay_literal.specs.Lows.{literalFits}
+use Rattle.parlog.proofs.Bools.{and-true}
 use Rattle.parlog.specs.Image.{termOf}
 use Rattle.parlog.specs.Names.{follows, termNamed}
 use Rattle.parlog.specs.declared.Progress.{Progress}
 use Rattle.parlog.specs.declared.Term.the-variants.{Const, Var}
 use Rattle.read_names.specs.Tables.{arityFor, modeNames}
 use Rattle.text_names.specs.Names.{known, look, Name, sameName}
+use Rattle.text_program.proofs.Joined.{all-parts}
 use Rattle.text_program.specs.Numbered.{clauseTerms, goalNumbered, goalTerms, isUpper, joined, literalNumbered, Numbering, saidTerms, termNumbered}
 use Rattle.text_program.specs.Parsing.{allOf, clauseDeclared, goalDeclared, literalDeclared}
 use Rattle.text_program.specs.Source.{calls, equals, ModeLine, Said, SaidClause}
@@ -27,7 +27,7 @@ use Rattle.text_program.specs.Source.{calls, equals, ModeLine, Said, SaidClause
 -- ---- relations
 
 -- a name that has a mode line has the arity of that line
-pub arity-told : (ms : List ModeLine) (x : Name) → known (modeNames ms) x ≡ true → length (getD (modesOf ms) (look (modeNames ms) x) []) ≡ arityFor ms x
+arity-told : (ms : List ModeLine) (x : Name) → known (modeNames ms) x ≡ true → length (getD (modesOf ms) (look (modeNames ms) x) []) ≡ arityFor ms x
 unfolding look arityFor
 arity-told [] x e = absurd (let z = ltb-true 0 0 e in omega arith)
 arity-told (m ∷ ms) x e = go (sameName (m .name) x) refl (λ h. arity-told ms x h)
@@ -36,13 +36,9 @@ arity-told (m ∷ ms) x e = go (sameName (m .name) x) refl (λ h. arity-told ms 
     go true f k = refl
     go false f k = k (let h : suc (look (modeNames ms) x) < suc (length (modeNames ms)) = ltb-true (suc (look (modeNames ms) x)) (suc (length (modeNames ms))) (rw f at e) in lt-ltb (look (modeNames ms) x) (length (modeNames ms)) (omega arith))
 
-modes-count : (ms : List ModeLine) → length (modesOf ms) ≡ length (modeNames ms)
-modes-count [] = refl
-modes-count (m ∷ ms) = ap suc (modes-count ms)
-
-pub relation-told : (ms : List ModeLine) (x : Name) (a : ℕ) → known (modeNames ms) x ≡ true → relationKnown (modesOf ms) (look (modeNames ms) x) a ≡ eqb a (arityFor ms x)
+relation-told : (ms : List ModeLine) (x : Name) (a : ℕ) → known (modeNames ms) x ≡ true → relationKnown (modesOf ms) (look (modeNames ms) x) a ≡ eqb a (arityFor ms x)
 unfolding relationKnown
-relation-told ms x a e = rw (modes-count ms, e, arity-told ms x e)
+relation-told ms x a e = rw (length-map ms (λ (m : ModeLine). m .modes), ← length-map ms (λ (m : ModeLine). m .name), e, arity-told ms x e)
 
 -- ---- terms
 
@@ -64,50 +60,37 @@ term-okay n x = go (isUpper x)
     go true e = term-var (length (n .variables)) (look (n .variables) x) e
     go false e = term-const (length (n .variables)) (look (n .constants) x) e
 
-pub terms-okay : (n : Numbering) (xs : List Name) → allOf (termOkay n) xs ≡ true → allOf (termKnown (length (n .variables))) (map (termNumbered n) xs) ≡ true
+terms-okay : (n : Numbering) (xs : List Name) → allOf (termOkay n) xs ≡ true → allOf (termKnown (length (n .variables))) (map (termNumbered n) xs) ≡ true
 unfolding allOf
 terms-okay n [] e = refl
-terms-okay n (x ∷ xs) e = let p = both (termOkay n x) (allOf (termOkay n) xs) e in rw (term-okay n x (p .0), terms-okay n xs (p .1))
-
-all-append : {A : Type 0} (ok : A → Bool) (xs ys : List A) → allOf ok (xs ++ ys) ≡ (allOf ok xs && allOf ok ys)
-unfolding allOf
-all-append ok [] ys = refl
-all-append ok (x ∷ xs) ys = go (ok x) (all-append ok xs ys)
-  where
-    go : (b : Bool) → allOf ok (xs ++ ys) ≡ (allOf ok xs && allOf ok ys) → (b && allOf ok (xs ++ ys)) ≡ ((b && allOf ok xs) && allOf ok ys)
-    go true e = e
-    go false e = refl
+terms-okay n (x ∷ xs) e = let p = and-true (termOkay n x) (allOf (termOkay n) xs) e in rw (term-okay n x (p .0), terms-okay n xs (p .1))
 
 -- ---- literals and goals
 
 module _ (ms : List ModeLine) (n : Numbering) (few : length ms ≤ 32) (rels : n .relations ≡ modeNames ms) where
   not-equality : (x : Name) → known (modeNames ms) x ≡ true → eqb (look (modeNames ms) x) 255 ≡ false
-  not-equality x e = let a = ltb-true (look (modeNames ms) x) (length (modeNames ms)) e in let b = map-length (λ (m : ModeLine). m .name) ms in ne-eqb (look (modeNames ms) x) 255 (λ z. omega arith)
-
-  true-right : (a : Bool) → (a && true) ≡ a
-  true-right true = refl
-  true-right false = refl
+  not-equality x e = let a = ltb-true (look (modeNames ms) x) (length (modeNames ms)) e in let b = length-map ms (λ (m : ModeLine). m .name) in ne-eqb (look (modeNames ms) x) 255 (λ z. omega arith)
 
   literal-told : (l : Said) → literalDeclared (modeNames ms) l ≡ true → allOf (termOkay n) (saidTerms l) ≡ true → literalKnown (modesOf ms) (length (n .variables)) (literalNumbered n l) ≡ literalFits true ms l
   unfolding literalKnown literalFits
   literal-told (calls p ts) d t =
-      rw (map-length (termNumbered n) ts, terms-okay n ts t, rels, not-equality p d, relation-told ms p (length ts) d) (true-right (eqb (length ts) (arityFor ms p)))
+      rw (length-map ts (termNumbered n), terms-okay n ts t, rels, not-equality p d, relation-told ms p (length ts) d) (true-right (eqb (length ts) (arityFor ms p)))
   literal-told (equals a b) d t = terms-okay n (a ∷ b ∷ []) t
 
   stage-told : (st : List Said) → allOf (literalDeclared (modeNames ms)) st ≡ true → allOf (termOkay n) (joined saidTerms st) ≡ true → allOf (literalKnown (modesOf ms) (length (n .variables))) (map (literalNumbered n) st) ≡ stageFits true ms st
   unfolding stageFits allOf joined
   stage-told [] d t = refl
   stage-told (l ∷ st) d t =
-      let p = both (literalDeclared (modeNames ms) l) (allOf (literalDeclared (modeNames ms)) st) d in
-      let q = both (allOf (termOkay n) (saidTerms l)) (allOf (termOkay n) (joined saidTerms st)) (sym (all-append (termOkay n) (saidTerms l) (joined saidTerms st)) ∙ t) in
+      let p = and-true (literalDeclared (modeNames ms) l) (allOf (literalDeclared (modeNames ms)) st) d in
+      let q = all-parts (termOkay n) (saidTerms l) (joined saidTerms st) t in
       rw (literal-told l (p .0) (q .0), stage-told st (p .1) (q .1))
 
   pub goal-told : (g : List (List Said)) → goalDeclared (modeNames ms) g ≡ true → allOf (termOkay n) (goalTerms g) ≡ true → goalKnown (modesOf ms) (length (n .variables)) (goalNumbered n g) ≡ goalFits true ms g
   unfolding goalKnown goalFits allOf joined
   goal-told [] d t = refl
   goal-told (st ∷ g) d t =
-      let p = both (allOf (literalDeclared (modeNames ms)) st) (goalDeclared (modeNames ms) g) d in
-      let q = both (allOf (termOkay n) (joined saidTerms st)) (allOf (termOkay n) (goalTerms g)) (sym (all-append (termOkay n) (joined saidTerms st) (goalTerms g)) ∙ t) in
+      let p = and-true (allOf (literalDeclared (modeNames ms)) st) (goalDeclared (modeNames ms) g) d in
+      let q = all-parts (termOkay n) (joined saidTerms st) (goalTerms g) t in
       rw (stage-told st (p .0) (q .0), goal-told g (p .1) (q .1))
 
 -- ---- clauses
@@ -125,9 +108,9 @@ pub clause-told : (ms : List ModeLine) (n : Numbering) → length ms ≤ 32 → 
     cond (follows g (look (modeNames ms) (c .name))) true (eqb mark 0) ≡ true → clauseKnown (modesOf ms) g (clauseIn n mark c) ≡ (clauseFits true ms c && leb (g .relation) (look (modeNames ms) (c .name)))
 unfolding clauseKnown clauseFits literalFits
 clause-told ms n few rels c g mark d t m =
-    let p = both (known (modeNames ms) (c .name)) (goalDeclared (modeNames ms) (c .guard) && goalDeclared (modeNames ms) (c .body)) d in
-    let q = both (goalDeclared (modeNames ms) (c .guard)) (goalDeclared (modeNames ms) (c .body)) (p .1) in
-    let u = both (allOf (termOkay n) (c .terms)) (allOf (termOkay n) (goalTerms (c .guard) ++ goalTerms (c .body))) (sym (all-append (termOkay n) (c .terms) (goalTerms (c .guard) ++ goalTerms (c .body))) ∙ t) in
-    let v = both (allOf (termOkay n) (goalTerms (c .guard))) (allOf (termOkay n) (goalTerms (c .body))) (sym (all-append (termOkay n) (goalTerms (c .guard)) (goalTerms (c .body))) ∙ u .1) in
-    rw (map-length (termNumbered n) (c .terms), terms-okay n (c .terms) (u .0), goal-told ms n few rels (c .guard) (q .0) (v .0), goal-told ms n few rels (c .body) (q .1) (v .1), rels, relation-told ms (c .name) (length (c .terms)) (p .0), m)
+    let p = and-true (known (modeNames ms) (c .name)) (goalDeclared (modeNames ms) (c .guard) && goalDeclared (modeNames ms) (c .body)) d in
+    let q = and-true (goalDeclared (modeNames ms) (c .guard)) (goalDeclared (modeNames ms) (c .body)) (p .1) in
+    let u = all-parts (termOkay n) (c .terms) (goalTerms (c .guard) ++ goalTerms (c .body)) t in
+    let v = all-parts (termOkay n) (goalTerms (c .guard)) (goalTerms (c .body)) (u .1) in
+    rw (length-map (c .terms) (termNumbered n), terms-okay n (c .terms) (u .0), goal-told ms n few rels (c .guard) (q .0) (v .0), goal-told ms n few rels (c .body) (q .1) (v .1), rels, relation-told ms (c .name) (length (c .terms)) (p .0), m)
     (and-shuffle (eqb (length (c .terms)) (arityFor ms (c .name))) (leb (g .relation) (look (modeNames ms) (c .name))) (goalFits true ms (c .guard)) (goalFits true ms (c .body)))

@@ -4,17 +4,16 @@ use mathlib.Core.Bool.{Bool, false, true}
 use mathlib.Core.List.{[], _++_, _∷_, List, map}
 use Prim.Native.Nat.{suc, ℕ}
 use lib.Dec.{leb}
-use lib.ListN.{length, length-append}
+use lib.ListN.{length, length-append, length-map}
 use native.Mathlib.Omega.{arith}
-use Rattle.judge_image.proofs.Fields.{terms-length}
 use Rattle.judge_image.specs.Judged.{askSized, clauseSized, goalSized, literalSized, literalsOf, stageSized}
 use Rattle.judge_said.specs.Said.{askRight, clauseSize}
-use Rattle.lay_lines.specs.Fields.{clauseIn}
 use Rattle.lay_lines.proofs.Sizes.{args-length}
+use Rattle.lay_lines.specs.Fields.{clauseIn}
 use Rattle.lay_lines.specs.Lines.{clauseRight, withVars}
-use Rattle.lay_literal.proofs.Laid.{map-length}
 use Rattle.read_goal.specs.Spans.{goalRight, literalRight, literalsIn, stageRight, stagesRight}
 use Rattle.text_names.specs.Names.{Name}
+use Rattle.text_program.proofs.Fields.{terms-length}
 use Rattle.text_program.specs.Encoded.{clauseBytes, goalBytes, literalBytes, recordBytes, stageBytes, termBytes}
 use Rattle.text_program.specs.Numbered.{goalNumbered, goalTerms, joined, literalNumbered, markBy, Numbering, termNumbered, variableNames}
 use Rattle.text_program.specs.Parsing.{allOf}
@@ -32,16 +31,16 @@ module _ (n : Numbering) where
 
   stage-sized : (st : List Said) → stageSized (map (literalNumbered n) st) ≡ stageRight st
   unfolding stageSized stageRight
-  stage-sized st = rw (map-length (literalNumbered n) st, all-map (literalNumbered n) literalSized literalRight literal-sized st)
+  stage-sized st = rw (length-map st (literalNumbered n), all-map (literalNumbered n) literalSized literalRight literal-sized st)
 
   literals-same : (g : List (List Said)) → literalsOf (goalNumbered n g) ≡ literalsIn g
   unfolding literalsOf literalsIn
   literals-same [] = refl
-  literals-same (st ∷ g) = rw (map-length (literalNumbered n) st, literals-same g)
+  literals-same (st ∷ g) = rw (length-map st (literalNumbered n), literals-same g)
 
-  pub goal-sized : (g : List (List Said)) → goalSized (goalNumbered n g) ≡ goalRight g
+  goal-sized : (g : List (List Said)) → goalSized (goalNumbered n g) ≡ goalRight g
   unfolding goalSized goalRight stagesRight
-  goal-sized g = rw (map-length (map (literalNumbered n)) g, all-map (map (literalNumbered n)) stageSized stageRight stage-sized g, literals-same g)
+  goal-sized g = rw (length-map g (map (literalNumbered n)), all-map (map (literalNumbered n)) stageSized stageRight stage-sized g, literals-same g)
 
 mark-small : (b : Bool) → leb (markBy b) 1 ≡ true
 mark-small true = refl
@@ -51,7 +50,7 @@ pub clause-sized : (rels consts : List Name) (opens : Bool) (c : SaidClause) →
 unfolding clauseSized clauseRight
 clause-sized rels consts opens c =
     let n = withVars rels consts c in
-    rw (map-length (termNumbered n) (c .terms), mark-small opens, goal-sized n (c .guard), goal-sized n (c .body))
+    rw (length-map (c .terms) (termNumbered n), mark-small opens, goal-sized n (c .guard), goal-sized n (c .body))
 
 pub ask-sized : (n : Numbering) (g : List (List Said)) → n .variables ≡ variableNames (goalTerms g) → askSized (length (n .variables)) (goalNumbered n g) ≡ askRight g
 unfolding askSized askRight
@@ -83,17 +82,17 @@ module _ (n k : Numbering) where
   unfolding stageBytes
   stage-length st = ap suc (joined-length (literalNumbered n) (literalNumbered k) literalBytes literalBytes literal-length st)
 
-  pub goal-length : (g : List (List Said)) → length (goalBytes (goalNumbered n g)) ≡ length (goalBytes (goalNumbered k g))
+  goal-length : (g : List (List Said)) → length (goalBytes (goalNumbered n g)) ≡ length (goalBytes (goalNumbered k g))
   unfolding goalBytes
   goal-length g = ap suc (joined-length (map (literalNumbered n)) (map (literalNumbered k)) stageBytes stageBytes stage-length g)
 
-  pub clause-length : (mark other : ℕ) (c : SaidClause) → length (clauseBytes (clauseIn n mark c)) ≡ length (clauseBytes (clauseIn k other c))
+  clause-length : (mark other : ℕ) (c : SaidClause) → length (clauseBytes (clauseIn n mark c)) ≡ length (clauseBytes (clauseIn k other c))
   unfolding clauseBytes recordBytes
   clause-length mark other c =
       let a = terms-length (map (termNumbered n) (c .terms)) in
       let b = terms-length (map (termNumbered k) (c .terms)) in
-      let d = map-length (termNumbered n) (c .terms) in
-      let e = map-length (termNumbered k) (c .terms) in
+      let d = length-map (c .terms) (termNumbered n) in
+      let e = length-map (c .terms) (termNumbered k) in
       let f = goal-length (c .guard) in
       let g = goal-length (c .body) in
       let h = length-append (joined termBytes (map (termNumbered n) (c .terms))) (goalBytes (goalNumbered n (c .guard)) ++ goalBytes (goalNumbered n (c .body))) in

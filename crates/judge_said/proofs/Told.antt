@@ -2,11 +2,12 @@
 use mathlib.Core.Path.{_∙_, _≡_, ap, refl, sym}
 use mathlib.Core.Bool.{Bool, false, true}
 use mathlib.Core.List.{[], _++_, _∷_, append-nil, List}
-use Prim.Native.Nat.{_+_, _<_, _≤_, suc, ℕ}
+use Prim.Native.Nat.{_+_, _≤_, ℕ}
 use lib.Dec.{leb}
-use lib.ListN.{length, length-append}
-use borrow.Author.Tests.{leb-false, leb-true}
+use lib.ListN.{length, length-append, length-map}
+use borrow.Author.Tests.{leb-true}
 use native.Mathlib.Omega.{arith}
+use Rattle.judge_image.proofs.Counts.{few-relations, more-relations}
 use Rattle.judge_image.proofs.Walked.{records-judged}
 use Rattle.judge_image.specs.Judged.{askJudged, clausesJudged, goalKnown, judged, progressOf, relationJudged, relationSized, relationsJudged, taken}
 use Rattle.judge_said.proofs.Clauses.{clauses-said, goal-few, judged-both}
@@ -14,9 +15,9 @@ use Rattle.judge_said.proofs.First.{terms-okay-in}
 use Rattle.judge_said.proofs.Known.{goal-told}
 use Rattle.judge_said.proofs.Sized.{ask-sized}
 use Rattle.judge_said.specs.Said.{askRight, askSaid, clausesSaid}
-use Rattle.lay_lines.proofs.Sizes.{both}
 use Rattle.lay_lines.specs.Lines.{clausesWith, modesOf}
 use Rattle.lay_literal.specs.Fits.{goalFits}
+use Rattle.parlog.proofs.Bools.{and-true}
 use Rattle.parlog.specs.Load.{after, nothingRead, tooMany}
 use Rattle.parlog.specs.declared.Loaded.{Loaded}
 use Rattle.parlog.specs.declared.Progress.{Progress}
@@ -31,38 +32,27 @@ use Rattle.text_program.specs.Source.{ModeLine, Said, SaidClause, Source}
 
 -- ---- the goal
 
+-- the parts of a right goal
+pub ask-parts : (g : List (List Said)) → askRight g ≡ true → (length (variableNames (goalTerms g)) ≤ 16) × (goalRight g ≡ true)
+unfolding askRight
+ask-parts g e = let p = and-true (leb (length (variableNames (goalTerms g))) 16) (goalRight g) e in (leb-true (length (variableNames (goalTerms g))) 16 (p .0), p .1)
+
 -- how the names of the goal are numbered
 abbrev numbers : List ModeLine → List (List Said) → List Name → Numbering
 numbers ms goal consts = record { relations = modeNames ms; constants = consts; variables = variableNames (goalTerms goal) }
 
 module _ (ms : List ModeLine) (few : length ms ≤ 32) (goal : List (List Said)) (d : goalDeclared (modeNames ms) goal ≡ true) (consts : List Name) where
-  goal-right : askRight goal ≡ true → goalRight goal ≡ true
-  unfolding askRight
-  goal-right e = both (leb (length (variableNames (goalTerms goal))) 16) (goalRight goal) e .1
-
-  pub ask-said : (at : ℕ) (g : Progress) (before : List Name) → consts ≡ adds [] (lowers (before ++ goalTerms goal)) → length before ≤ 4352 →
+  ask-said : (at : ℕ) (g : Progress) (before : List Name) → consts ≡ adds [] (lowers (before ++ goalTerms goal)) → length before ≤ 4352 →
       after taken at (askJudged (modesOf ms) g (length (variableNames (goalTerms goal))) (goalNumbered (numbers ms goal consts) goal)) ≡ after taken at (askSaid ms g goal)
   unfolding askJudged askSaid
   ask-said at g before c l =
       rw (ask-sized (numbers ms goal consts) goal refl)
       (judged-both taken taken at g 3 (askRight goal) (goalKnown (modesOf ms) (length (variableNames (goalTerms goal))) (goalNumbered (numbers ms goal consts) goal)) (goalFits true ms goal) 0 0
-      (λ m s. let a = goal-few goal (goal-right s) in let b = length-append before (goalTerms goal) in
+      (λ m s. let a = goal-few goal (ask-parts goal s .1) in let b = length-append before (goalTerms goal) in
       goal-told ms (numbers ms goal consts) few refl goal d (terms-okay-in (numbers ms goal consts) before (goalTerms goal) [] (omega arith) refl (c ∙ ap (λ (l : List Name). adds [] l) (sym (append-nil (lowers (before ++ goalTerms goal)))))))
       (λ m s. refl))
 
 -- ---- relations
-
-few-relations : (g : Progress) → tooMany g 1 ≡ false → g .relations < 32
-unfolding tooMany
-few-relations g e = leb-false 32 (g .relations) e
-
-more-relations : (g : Progress) → progressOf g 1 0 0 .relations ≡ g .relations + 1
-unfolding progressOf
-more-relations g = refl
-
-no-clauses : (g : Progress) → progressOf g 1 0 0 .clauses ≡ g .clauses
-unfolding progressOf
-no-clauses g = refl
 
 once-both : (f h : Progress → Loaded) (at : ℕ) (b : Bool) (v : Verdict) → after f at v ≡ after h at v → after f at (onceBy b v) ≡ after h at (onceBy b v)
 once-both f h at b (Refuses n) e = refl
@@ -79,7 +69,7 @@ unfolding relationsJudged
 relations-both names f h all k [] at g z l e = k at g z (omega arith)
 relations-both names f h all k (m ∷ rels) at g z l e =
     relation-both names (relationsJudged names f rels _) (relationsJudged names h rels _) at g m
-    (λ p. let a = few-relations g p in let b = more-relations g in relations-both names f h all k rels _ (progressOf g 1 0 0) (no-clauses g ∙ z) (omega arith) (omega arith))
+    (λ p. let a = few-relations g p in let b = more-relations g .0 in relations-both names f h all k rels _ (progressOf g 1 0 0) (more-relations g .1 ∙ z) (omega arith) (omega arith))
 
 -- ---- the numbers of a source
 
@@ -96,10 +86,6 @@ numbered-with p (c ∷ cs) = rw (behind-with p c cs)
 names-all : (p : Source) → constantNames p ≡ adds [] (lowers ([] ++ (joined clauseTerms (p .clauses) ++ goalTerms (p .goal))))
 unfolding constantNames
 names-all p = refl
-
-modes-long : (ms : List ModeLine) → length (modesOf ms) ≡ length ms
-modes-long [] = refl
-modes-long (m ∷ ms) = ap suc (modes-long ms)
 
 -- the tests of its goal, and that it is the last
 abbrev askOf : Source → ℕ → Progress → Loaded
@@ -119,14 +105,9 @@ pub records-said : (p : Source) → declared p ≡ true →
     recordsIn (relationNames p) (imageIn p) ≡ relationsJudged (relationNames p) (clausesSaid (p .modes) (λ at g. after taken at (askSaid (p .modes) g (p .goal))) false [] (p .clauses)) (modesOf (p .modes)) 0 nothingRead
 unfolding imageIn programIn declared
 records-said p d =
-    let e = both (allOf (clauseDeclared (relationNames p)) (p .clauses)) (goalDeclared (relationNames p) (p .goal)) d in
-    let l = modes-long (p .modes) in
+    let e = and-true (allOf (clauseDeclared (relationNames p)) (p .clauses)) (goalDeclared (relationNames p) (p .goal)) d in
+    let l = length-map (p .modes) (λ (m : ModeLine). m .modes) in
     records-judged (relationNames p) (programIn p)
     ∙ rw (numbered-with p (p .clauses))
     (relations-both (relationNames p) (clausesJudged (modesOf (p .modes)) (askOf p) (clausesWith (relationNames p) (constantNames p) false [] (p .clauses))) (clausesSaid (p .modes) (λ at g. after taken at (askSaid (p .modes) g (p .goal))) false [] (p .clauses)) (length (p .modes))
     (λ at g z few. said p (e .0) (e .1) few at g z) (modesOf (p .modes)) 0 nothingRead refl (omega arith) (omega arith))
-
--- the parts of a right goal
-pub right-parts : (g : List (List Said)) → askRight g ≡ true → (length (variableNames (goalTerms g)) ≤ 16) × (goalRight g ≡ true)
-unfolding askRight
-right-parts g e = let p = both (leb (length (variableNames (goalTerms g))) 16) (goalRight g) e in (leb-true (length (variableNames (goalTerms g))) 16 (p .0), p .1)

@@ -1,5 +1,5 @@
 -- Modes and clauses by the bytes that they begin with.
-use mathlib.Core.Path.{_≡_, ap, refl, sym}
+use mathlib.Core.Path.{_≡_, sym}
 use mathlib.Core.Bool.{false, true}
 use mathlib.Core.List.{[], _∷_, List}
 use Prim.Native.Nat.{ℕ}
@@ -8,8 +8,7 @@ use borrow.Author.Tests.{eq-eqb, ne-eqb}
 use Rattle.lay_literal.specs.Lows.{lows}
 use Rattle.lay_text.specs.Laying.{Writes}
 use Rattle.lay_text.specs.declared.To.{To}
-use Rattle.read_goal.proofs.Turn.{first-at}
-use Rattle.text_program.specs.Numbered.{joined}
+use Rattle.text_names.proofs.Rest.{first-at}
 use Rattle.text_program.specs.Source.{isClause, readMode}
 
 -- ---- modes
@@ -22,11 +21,6 @@ mode-in s at b e h = rw (first-at s at, ← e, ne-eqb b 94 h)
 
 pub mode-item : {o p : List ℕ} {w x : To} (s : List ℕ) (q k : ℕ) → k ≡ readMode (drop q s) .value → Writes o w (lows (k ∷ [])) true p x → Writes o w (lows (readMode (drop q s) .value ∷ [])) true p x
 mode-item s q k e v = rw (← e) v
-
-pub singles : (ms : List ℕ) → joined (λ (m : ℕ). m ∷ []) ms ≡ ms
-unfolding joined
-singles [] = refl
-singles (m ∷ ms) = ap (λ (l : List ℕ). m ∷ l) (singles ms)
 
 -- ---- clauses
 

@@ -1,29 +1,25 @@
 -- How long the records of right clauses and goals are.
 use mathlib.Core.Path.{_≡_, refl}
-use mathlib.Core.Bool.{_&&_, Bool, false, true}
+use mathlib.Core.Bool.{_&&_, true}
 use mathlib.Core.List.{[], _++_, _∷_, List, map}
 use Prim.Native.Nat.{_*_, _+_, _≤_, ℕ}
 use lib.Dec.{leb}
-use lib.ListN.{length, length-append}
+use lib.ListN.{length, length-append, length-map}
 use borrow.Author.Tests.{leb-true}
 use native.Mathlib.Omega.{arith}
-use Rattle.judge_image.proofs.Fields.{terms-length}
 use Rattle.lay_lines.specs.Fields.{clauseFields, clauseIn}
 use Rattle.lay_lines.specs.Lines.{clauseRight}
-use Rattle.lay_literal.proofs.Laid.{map-length}
+use Rattle.parlog.proofs.Bools.{and-true}
 use Rattle.parlog.specs.Program.{Clause}
 use Rattle.read_goal.specs.Spans.{goalRight, literalRight, literalsIn, stageRight, stagesRight}
+use Rattle.text_program.proofs.Fields.{terms-length}
 use Rattle.text_program.specs.Encoded.{clauseBytes, goalBytes, literalBytes, recordBytes, stageBytes, termBytes}
 use Rattle.text_program.specs.Numbered.{clauseTerms, goalNumbered, joined, literalNumbered, Numbering, saidTerms, termNumbered, variableNames}
 use Rattle.text_program.specs.Parsing.{allOf}
 use Rattle.text_program.specs.Source.{calls, equals, Said, SaidClause}
 
-pub both : (a b : Bool) → (a && b) ≡ true → (a ≡ true) × (b ≡ true)
-both true b e = (refl, e)
-both false b e = absurd (let z : _≡_ {A = ℕ} 0 1 = cc in omega arith)
-
 pub args-length : (n : Numbering) (l : Said) → length (literalNumbered n l .args) ≡ length (saidTerms l)
-args-length n (calls p ts) = map-length (termNumbered n) ts
+args-length n (calls p ts) = length-map ts (termNumbered n)
 args-length n (equals a b) = refl
 
 literal-long : (n : Numbering) (l : Said) → literalRight l ≡ true → length (literalBytes (literalNumbered n l)) ≤ 10
@@ -38,7 +34,7 @@ stage-long : (n : Numbering) (st : List Said) → allOf literalRight st ≡ true
 unfolding allOf joined
 stage-long n [] e = omega arith
 stage-long n (l ∷ st) e =
-    let p = both (literalRight l) (allOf literalRight st) e in
+    let p = and-true (literalRight l) (allOf literalRight st) e in
     let a = literal-long n l (p .0) in
     let b = stage-long n st (p .1) in
     let c = length-append (literalBytes (literalNumbered n l)) (joined literalBytes (map (literalNumbered n) st)) in
@@ -48,8 +44,8 @@ stages-long : (n : Numbering) (g : List (List Said)) → allOf stageRight g ≡ 
 unfolding allOf joined stageRight stageBytes literalsIn
 stages-long n [] e = omega arith
 stages-long n (st ∷ g) e =
-    let p = both (stageRight st) (allOf stageRight g) e in
-    let q = both (leb 1 (length st)) (allOf literalRight st) (p .0) in
+    let p = and-true (stageRight st) (allOf stageRight g) e in
+    let q = and-true (leb 1 (length st)) (allOf literalRight st) (p .0) in
     let a = stage-long n st (q .1) in
     let b = stages-long n g (p .1) in
     let c = length-append (stageBytes (map (literalNumbered n) st)) (joined stageBytes (goalNumbered n g)) in
@@ -58,8 +54,8 @@ stages-long n (st ∷ g) e =
 pub goal-long : (n : Numbering) (g : List (List Said)) → goalRight g ≡ true → length (goalBytes (goalNumbered n g)) ≤ 89
 unfolding goalRight stagesRight goalBytes
 goal-long n g e =
-    let p = both (leb (length g) 8) (allOf stageRight g && leb (literalsIn g) 8) e in
-    let q = both (allOf stageRight g) (leb (literalsIn g) 8) (p .1) in
+    let p = and-true (leb (length g) 8) (allOf stageRight g && leb (literalsIn g) 8) e in
+    let q = and-true (allOf stageRight g) (leb (literalsIn g) 8) (p .1) in
     let a = stages-long n g (q .0) in
     let b = leb-true (length g) 8 (p .0) in
     let c = leb-true (literalsIn g) 8 (q .1) in
@@ -75,9 +71,9 @@ pub record Right (c : SaidClause) : Type 0 where
 pub right-parts : (c : SaidClause) → clauseRight c ≡ true → Right c
 unfolding clauseRight
 right-parts c e =
-    let p = both (leb (length (c .terms)) 4) (leb (length (variableNames (clauseTerms c))) 16 && (goalRight (c .guard) && goalRight (c .body))) e in
-    let q = both (leb (length (variableNames (clauseTerms c))) 16) (goalRight (c .guard) && goalRight (c .body)) (p .1) in
-    let r = both (goalRight (c .guard)) (goalRight (c .body)) (q .1) in
+    let p = and-true (leb (length (c .terms)) 4) (leb (length (variableNames (clauseTerms c))) 16 && (goalRight (c .guard) && goalRight (c .body))) e in
+    let q = and-true (leb (length (variableNames (clauseTerms c))) 16) (goalRight (c .guard) && goalRight (c .body)) (p .1) in
+    let r = and-true (goalRight (c .guard)) (goalRight (c .body)) (q .1) in
     record { head = leb-true (length (c .terms)) 4 (p .0); vars = leb-true (length (variableNames (clauseTerms c))) 16 (q .0); guard = r .0; body = r .1 }
 
 -- what stands in the record of a clause
@@ -93,7 +89,7 @@ clause-long n mark c e =
     let b = goal-long n (c .guard) (p .guard) in
     let d = goal-long n (c .body) (p .body) in
     let f = terms-length (map (termNumbered n) (c .terms)) in
-    let g = map-length (termNumbered n) (c .terms) in
+    let g = length-map (c .terms) (termNumbered n) in
     let h = length-append (joined termBytes (map (termNumbered n) (c .terms))) (goalBytes (goalNumbered n (c .guard)) ++ goalBytes (goalNumbered n (c .body))) in
     let k = length-append (goalBytes (goalNumbered n (c .guard))) (goalBytes (goalNumbered n (c .body))) in
     omega arith

@@ -1,37 +1,17 @@
 -- What is left to lay of a row, and the ways through the writers.
 use mathlib.Core.Path.{_∙_, _≡_, ap, refl, sym}
-use mathlib.Core.Bool.{_&&_, and-assoc, Bool, true}
-use mathlib.Core.List.{[], _++_, _∷_, append-nil, List, map}
-use Prim.Native.Nat.{_%_, _+_, _/_, _≤_, suc, ℕ}
-use lib.ListN.{length, length-append}
-use native.Mathlib.Omega.{arith}
+use mathlib.Core.Bool.{Bool, true}
+use mathlib.Core.List.{[], _++_, _∷_, List, map}
+use Prim.Native.Nat.{_%_, _/_, _≤_, ℕ}
+use lib.ListN.{length}
 use Rattle.lay_literal.specs.Lows.{lows}
-use Rattle.lay_text.proofs.Laws.{capped-add, capped-laid, left-as, left-end, left-start, left-step, true-right, writes-in}
-use Rattle.lay_text.specs.Laying.{capped, Left, most, Writes}
+use Rattle.lay_text.proofs.Laws.{left-as, left-end, left-start, left-step, writes-both}
+use Rattle.lay_text.specs.Laying.{Left, most, Writes}
 use Rattle.lay_text.specs.declared.To.{To}
 use Rattle.text_program.specs.Encoded.{wordBytes}
 use Rattle.text_program.specs.Numbered.{joined}
 use Rattle.text_program.specs.Parsing.{allOf}
-use Rattle.text_program.specs.Source.{consGot, got, Got}
-
--- ---- writers one behind the other, from any place
-
-left-after : {o p : List ℕ} {w x : To} {bs : List ℕ} {a : Bool} (cs : List ℕ) (b : Bool) → Writes o w bs a p x → Left o w (bs ++ cs) (a && b) p x cs b
-left-after {o} {p} {w} {x} {bs} {a} cs b v =
-    let m = v .small in
-    let z = v .size in
-    let e : w .at + length bs + length cs ≡ w .at + length (bs ++ cs) = omega (arith, length-append bs cs) in
-    record {
-      row = rw (v .row, v .place) (capped-laid o bs cs (w .at) (v .small));
-      place = rw (v .place) (capped-add (w .at + length bs) (length cs)) ∙ ap capped e;
-      named = rw (v .named) (and-assoc (w .named) a b);
-      small = omega arith;
-      same = z;
-      inside = writes-in v;
-    }
-
-pub writes-both : {o p q : List ℕ} {w x y : To} {bs cs : List ℕ} {a b : Bool} → Writes o w bs a p x → Writes p x cs b q y → Writes o w (bs ++ cs) (a && b) q y
-writes-both {cs = cs} {a = a} {b = b} f g = left-end (left-step cs [] b true (left-as (sym (append-nil cs)) (sym (true-right b)) (left-after cs b f)) g)
+use Rattle.text_program.specs.Source.{consGot, Got, got}
 
 -- ---- low bytes
 
@@ -56,15 +36,11 @@ unfolding joined
 joined-map f g [] = refl
 joined-map f g (x ∷ xs) = ap (λ (l : List ℕ). f (g x) ++ l) (joined-map f g xs)
 
-pub map-length : {A B : Type 0} (g : A → B) (xs : List A) → length (map g xs) ≡ length xs
-map-length g [] = refl
-map-length g (x ∷ xs) = ap suc (map-length g xs)
-
 -- ---- rows
 
 module _ {A : Type 0} (bytes : A → List ℕ) (ok : A → Bool) where
   -- the bytes of a row
-  abbrev pub rowBytes : List A → List ℕ
+  abbrev rowBytes : List A → List ℕ
   rowBytes xs = lows (joined bytes xs)
 
   module _ {o : List ℕ} {w : To} {bs : List ℕ} {g : Bool} {p : List ℕ} {x : To} where

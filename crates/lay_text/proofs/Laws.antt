@@ -1,7 +1,7 @@
 -- Writers one behind the other.
 use mathlib.Core.Path.{_∙_, _≡_, ap, refl, sym}
-use mathlib.Core.Bool.{_&&_, and-assoc, Bool, cond, false, true}
-use mathlib.Core.List.{[], _++_, _∷_, append-nil, List}
+use mathlib.Core.Bool.{_&&_, and-assoc, and-true as true-right, Bool, cond, false, true}
+use mathlib.Core.List.{[], _++_, _∷_, List}
 use Prim.Native.Nat.{_+_, _-_, _<_, _≤_, suc, ℕ}
 use lib.Dec.{ltb}
 use lib.ListN.{drop, drop-of-length-le, getD, length, length-append, length-drop, set, take}
@@ -13,7 +13,8 @@ use Rattle.lay.proofs.Laws.{laid-length, laid-none, laid-one, laid-past, laid-t
 use Rattle.lay.specs.Lay.{laid}
 use Rattle.lay_text.specs.Laying.{capped, Left, most, Writes}
 use Rattle.lay_text.specs.declared.To.{To}
-use Rattle.text_names.specs.Bytes.{back, front, isName}
+use Rattle.text_names.proofs.Rest.{front-back}
+use Rattle.text_names.specs.Bytes.{back, front}
 
 -- ---- places
 
@@ -29,12 +30,28 @@ pub capped-out : (n : ℕ) → most ≤ n → capped n ≡ most
 unfolding capped
 capped-out n h = rw (le-ltb n most h)
 
-pub capped-le : (n : ℕ) → capped n ≤ most
+capped-le : (n : ℕ) → capped n ≤ most
 capped-le n = go (ltb n most) refl
   where
     go : (b : Bool) → ltb n most ≡ b → capped n ≤ most
     go true e = let h = ltb-true n most e in rw (capped-in n (omega arith)) (omega arith)
     go false e = let h = ltb-false n most e in rw (capped-out n h) (omega arith)
+
+pub capped-below : (n : ℕ) → capped n ≤ n
+unfolding capped
+capped-below n = go (ltb n most) refl
+  where
+    go : (b : Bool) → ltb n most ≡ b → cond b n most ≤ n
+    go true e = omega arith
+    go false e = omega (arith, ltb-false n most e)
+
+pub capped-under : (n m : ℕ) → capped n ≤ m → m < most → n ≤ m
+unfolding capped
+capped-under n m = go (ltb n most) refl
+  where
+    go : (b : Bool) → ltb n most ≡ b → cond b n most ≤ m → m < most → n ≤ m
+    go true e h g = h
+    go false e h g = absurd (omega arith)
 
 pub capped-add : (m n : ℕ) → capped (capped m + n) ≡ capped (m + n)
 capped-add m n = go (ltb m most) refl
@@ -57,10 +74,6 @@ capped-laid o xs cs at h = go (ltb (at + length xs) most) refl
         (sym (laid-past cs (laid o at xs) (at + length xs) (omega arith)) ∙ laid-then xs cs o at)
 
 -- ---- the way of a writer
-
-pub true-right : (a : Bool) → (a && true) ≡ a
-true-right true = refl
-true-right false = refl
 
 pub left-start : (o : List ℕ) (w : To) (bs : List ℕ) (ok : Bool) → length o ≤ most → w .at ≤ most → Left o w bs ok o w bs ok
 left-start o w bs ok h g = record { row = refl; place = refl; named = refl; small = h; same = refl; inside = g }
@@ -97,18 +110,21 @@ pub left-as : {o : List ℕ} {w : To} {bs : List ℕ} {ok : Bool} {p : List ℕ}
     cs ≡ ds → rest ≡ other → Left o w bs ok p x cs rest → Left o w bs ok p x ds other
 left-as e f l = rw (← e, ← f) l
 
--- a writer ends at a place
-pub writes-in : {o : List ℕ} {w : To} {bs : List ℕ} {ok : Bool} {p : List ℕ} {x : To} → Writes o w bs ok p x → x .at ≤ most
-writes-in {w = w} {bs = bs} v = rw (v .place) (capped-le (w .at + length bs))
-
 -- nothing written
 pub writes-none : (o : List ℕ) (w : To) → length o ≤ most → w .at ≤ most → Writes o w [] true o w
 writes-none o w h g = left-end (left-start o w [] true h g)
 
 -- two writers
-pub writes-two : {o p q : List ℕ} {w x y : To} {bs cs : List ℕ} {a b : Bool} → w .at ≤ most → Writes o w bs a p x → Writes p x cs b q y → Writes o w (bs ++ cs) (a && b) q y
-writes-two {o} {p} {q} {w} {x} {y} {bs} {cs} {a} {b} h f g =
-    left-end (left-step cs [] b true (left-as (sym (append-nil cs)) (sym (true-right b)) (left-step bs cs a b (left-start o w (bs ++ cs) (a && b) (f .small) h) f)) g)
+pub writes-both : {o p q : List ℕ} {w x y : To} {bs cs : List ℕ} {a b : Bool} → Writes o w bs a p x → Writes p x cs b q y → Writes o w (bs ++ cs) (a && b) q y
+writes-both {o} {p} {q} {w} {x} {y} {bs} {cs} {a} {b} f g =
+    let e : w .at + length bs + length cs ≡ w .at + length (bs ++ cs) = omega (arith, length-append bs cs) in
+    record {
+      row = g .row ∙ rw (f .row, f .place) (capped-laid o bs cs (w .at) (f .small));
+      place = g .place ∙ rw (f .place) (capped-add (w .at + length bs) (length cs)) ∙ ap capped e;
+      named = g .named ∙ rw (f .named) (and-assoc (w .named) a b);
+      small = f .small;
+      size = g .size ∙ f .size;
+    }
 
 -- ---- one byte of a word or a name
 
@@ -131,15 +147,6 @@ name-step s i end b h g e l v = left-step (b ∷ []) (take (end - (i + 1)) (drop
 
 pub name-stop : {o : List ℕ} {w : To} {bs : List ℕ} {p : List ℕ} {x : To} (s : List ℕ) (i end : ℕ) → end ≤ i → Left o w bs true p x (take (end - i) (drop i s)) true → Writes o w bs true p x
 name-stop s i end h l = let e : end - i ≡ 0 = omega arith in left-end (rw e at l)
-
-front-back : (s : List ℕ) → front s ++ back s ≡ s
-unfolding front back
-front-back [] = refl
-front-back (b ∷ s) = go (isName b) (front-back s)
-  where
-    go : (t : Bool) → front s ++ back s ≡ s → cond t (b ∷ front s) [] ++ cond t (back s) (b ∷ s) ≡ b ∷ s
-    go true e = ap (λ (l : List ℕ). b ∷ l) e
-    go false e = refl
 
 -- a name by the place behind it
 name-length : (s : List ℕ) (from end : ℕ) → from ≤ length s → end ≤ length s → drop end s ≡ back (drop from s) → length (front (drop from s)) ≡ end - from
@@ -193,7 +200,3 @@ entry-told o p s w y from end cs ok h g e f l r a n =
     let q = name-part s from end h g e in
     let m = name-length s from end h g e in
     rw (← f) (record { row = r ∙ ap (laid o (w .at)) (sym q); place = a ∙ ap (λ (v : ℕ). capped (w .at + v)) (sym m); named = n; small = l; size = ap length r ∙ laid-length (take (end - from) (drop from s)) o (w .at) })
-
--- a name and whether it is one
-pub name-told : {o : List ℕ} {w : To} {bs cs : List ℕ} {p : List ℕ} {x : To} (y : To) (ok : Bool) → bs ≡ cs → y .at ≡ x .at → y .named ≡ (x .named && ok) → Writes o w bs true p x → Writes o w cs ok p y
-name-told {w = w} y ok e f g v = rw (← e) (record { row = v .row; place = f ∙ v .place; named = g ∙ rw (v .named, true-right (w .named)); small = v .small; size = v .size })

@@ -8,11 +8,10 @@ ghost use Rattle.name_index.specs.Index.{chainOf};
 ghost use Rattle.read_names.specs.Tables.{Finds, modesFrom};
 ghost use Rattle.text_names.specs.Bytes.{front};
 
-// Where the mode lines begin, how many of them are in the tables, and where the others begin.
+// Where the mode lines begin, and how many there are.
 pub struct Lines {
     pub from: usize,
     pub count: usize,
-    pub rest: usize,
 }
 
 // The relation of the name at q, which is in a chain.
@@ -37,10 +36,9 @@ pub fn relation(
             known: true,
         };
     }
-    let rest = read_names::relation(s, lines.rest, q);
     Entry {
-        number: count + rest.number,
-        arity: rest.arity,
-        known: rest.known,
+        number: count,
+        arity: 0,
+        known: false,
     }
 }

@@ -7,15 +7,15 @@ use lib.Dec.{eqb, leb}
 use lib.ListN.{drop, getD, getD-replicate, length, length-replicate, length-set, List·getD-append, replicate, set, take}
 use lib.Seq.{getD-at, getD-set-other, getD-set-same, getD-take, length-take-le, take-suc-set}
 use borrow.Author.Tests.{eqb-false, eqb-true, leb-false, leb-true}
-use native.Mathlib.Nat.{mod-lt}
 use native.Mathlib.Omega.{arith}
+use native.Mathlib.Nat.{mod-lt}
 use native.Mathlib.Numerals.{add-one}
-use Rattle.name_index.proofs.Looked.{look-behind, look-front, look-none, look-self, same-is}
 use Rattle.name_index.specs.Index.{AddsOne, chainFrom, chainOf, Indexed, latest}
 use Rattle.parlog.proofs.Bools.{never}
 use Rattle.parlog.proofs.Scans.{below-suc}
-use Rattle.read_names.proofs.Tabled.{add-full, add-known, add-new, names-append, names-length}
+use Rattle.read_names.proofs.Tabled.{add-full, add-known, add-new, names-append, names-fit, names-length}
 use Rattle.read_names.specs.Tables.{namesAt}
+use Rattle.text_names.proofs.Looked.{look-front, look-here, look-none, same-is}
 use Rattle.text_names.specs.Bytes.{front}
 use Rattle.text_names.specs.Names.{look, Name, sameName}
 
@@ -30,7 +30,7 @@ pub chain-small : (x : Name) → chainOf x < 512
 chain-small x = chain-from 0 x (omega arith)
 
 module _ (xs : List Name) (h : ℕ) where
-  pub latest-most : (n : ℕ) → latest xs h n ≤ n
+  latest-most : (n : ℕ) → latest xs h n ≤ n
   unfolding latest
   latest-most zero = omega arith
   latest-most (suc n) = go (eqb (chainOf (getD xs n [])) h) (latest-most n)
@@ -163,7 +163,7 @@ module _ (s t l : List ℕ) (n q h k : ℕ) (x : Name) (ix : Indexed s t l n) (i
 
   module _ (new : k ≡ n) (room : n < length t) where
     fits : length (namesAt s (take n t)) ≡ n
-    fits = names-length s (take n t) ∙ length-take-le n t (ix .inside)
+    fits = names-fit s t n (ix .inside)
 
     names-new : namesAt s (take (n + 1) (set t n q)) ≡ namesAt s (take n t) ++ (x ∷ [])
     unfolding namesAt
@@ -179,7 +179,7 @@ module _ (s t l : List ℕ) (n q h k : ℕ) (x : Name) (ix : Indexed s t l n) (i
     once-new i g =
         let f = fits in
         below-suc i n (omega arith)
-        (λ e. rw (e, name-last) (let a = look-behind (namesAt s (take n t)) (x ∷ []) x (omega arith) in let b = look-self x in omega arith))
+        (λ e. rw (e, name-last) (let a = look-here (namesAt s (take n t)) [] x in omega arith))
         (λ j. let o = ix .once i j in rw (name-front i j) (look-front (namesAt s (take n t)) (x ∷ []) (getD (namesAt s (take n t)) i []) (omega arith) ∙ o))
 
     heads-new : (c : ℕ) → c < 512 → getD (set (set l (512 + n) (getD l h 0)) h (n + 1)) c 0 ≡ latest (namesAt s (take n t) ++ (x ∷ [])) c (n + 1)
@@ -236,7 +236,7 @@ module _ (s t l : List ℕ) (n q h k : ℕ) (x : Name) (ix : Indexed s t l n) (i
 
 -- ---- no names
 
-pub index-none : (s t l : List ℕ) → length t ≤ 65535 → length l ≡ 512 + length t → ((h : ℕ) → h < 512 → getD l h 0 ≡ 0) → Indexed s t l 0
+index-none : (s t l : List ℕ) → length t ≤ 65535 → length l ≡ 512 + length t → ((h : ℕ) → h < 512 → getD l h 0 ≡ 0) → Indexed s t l 0
 unfolding latest
 index-none s t l a b z = record { inside = omega arith; small = a; size = b; once = λ i g. absurd (omega arith); heads = z; links = λ i g. absurd (omega arith) }
 

@@ -1,20 +1,14 @@
 -- One turn of the loop over the bytes of a name.
-use mathlib.Core.Path.{_∙_, _≡_}
-use mathlib.Core.Bool.{_&&_, _||_, Bool, false, not, true}
+use mathlib.Core.Path.{_≡_}
+use mathlib.Core.Bool.{Bool, false, not, true}
 use mathlib.Core.List.{List}
 use Prim.Native.Nat.{_%_, _*_, _+_, _<_, _≤_, ℕ}
-use lib.Dec.{eqb, leb}
 use lib.ListN.{drop, drop-of-length-le, getD, length}
 use lib.Seq.{drop-cons}
 use borrow.Author.Tests.{not-false, not-true}
 use native.Mathlib.Numerals.{add-one}
 use Rattle.name_index.specs.Index.{chainFrom}
-use Rattle.text_names.specs.Bytes.{back, front, isCapital, isName, isSmall}
-
--- a byte of a name that is no lower-case letter
-pub name-other : (b : ℕ) (small d c o r : Bool) → small ≡ isSmall b → small ≡ false → d ≡ (leb 48 b && leb b 57) → c ≡ isCapital b → o ≡ (d || eqb b 95) → r ≡ (c || o) → r ≡ isName b
-unfolding isName
-name-other b small d c o r e f g i k m = m ∙ rw (k, g, i, ← e, f)
+use Rattle.text_names.specs.Bytes.{back, front, isName}
 
 module _ (s : List ℕ) (i h b : ℕ) (is : b ≡ getD s i 0) where
   pub name-stop : (r : Bool) → i < length s → r ≡ isName b → not r ≡ true → (drop i s ≡ back (drop i s)) × (chainFrom h (front (drop i s)) ≡ h)

@@ -4,7 +4,7 @@ ghost use Prim.Native.Nat.{_%_, _*_, _+_, _<_, _≤_};
 ghost use lib.ListN.{drop, length, take};
 ghost use Rattle.name_index.specs.Index.{AddsOne, chainOf, Indexed, Spells};
 ghost use Rattle.read_names.specs.Tables.{namesAt};
-ghost use Rattle.text_names.specs.Bytes.{front, isName};
+ghost use Rattle.text_names.specs.Bytes.{front};
 ghost use Rattle.text_names.specs.Names.{look};
 
 // How many chains there are.
@@ -12,13 +12,6 @@ pub const CHAINS: usize = 512;
 
 // By what a sum is multiplied for each byte.
 const FACTOR: usize = 31;
-
-// Bytes of names beside the letters.
-const DIGIT_0: usize = 48;
-
-const DIGIT_9: usize = 57;
-
-const UNDERSCORE: usize = 95;
 
 // Where a name ends, and its chain.
 pub struct Word {
@@ -32,21 +25,7 @@ pub struct Added {
     pub number: usize,
 }
 
-// ---- bytes
-
-// A byte of a name: a lower-case letter in most cases.
-fn is_name(b: usize) -> bool
-    ensures { λ r. ⌜ r ≡ isName b ⌝ }
-{
-    if text_names::is_small(b) {
-        return true;
-    }
-    let digit = basics::and(DIGIT_0 <= b, b <= DIGIT_9);
-    basics::or(
-        text_names::is_capital(b),
-        basics::or(digit, b == UNDERSCORE),
-    )
-}
+// ---- names
 
 // The chain of a name with one more byte.
 fn chained(h: usize, b: usize) -> usize
@@ -55,8 +34,6 @@ fn chained(h: usize, b: usize) -> usize
 {
     (h * FACTOR + b) % CHAINS
 }
-
-// ---- names
 
 // The name at a place.
 pub fn name_at(s: &[u8], at: usize) -> Word
@@ -67,20 +44,13 @@ pub fn name_at(s: &[u8], at: usize) -> Word
     let mut h = 0;
     while i < s.len() {
         let b = place::byte_in(s, i);
-        if !is_name(b) {
+        if !text_names::is_name(b) {
             return Word { end: i, chain: h };
         }
         h = chained(h, b);
         i += 1;
     }
     Word { end: i, chain: h }
-}
-
-// A place in a text, or its end.
-fn within(s: &[u8], q: usize) -> usize
-    ensures { λ r. ⌜ (drop r (now (s .entry)) ≡ drop q (now (s .entry))) × (r ≤ length (now (s .entry))) ⌝ }
-{
-    if q <= s.len() { q } else { s.len() }
 }
 
 // The number of the name at q, which is in a chain.
@@ -91,7 +61,7 @@ pub fn find(s: &[u8], places: &[usize], links: &[u16], n: usize, q: usize, chain
     let mut k = basics::wide_u16(links[chain]);
     while 0 < k {
         let i = k - 1;
-        let p = within(s, places[i]);
+        let p = read_names::within(s, places[i]);
         if text_names::same_name(s, p, q) {
             return i;
         }

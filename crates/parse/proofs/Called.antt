@@ -1,6 +1,6 @@
 -- The ways through a parse.
 use mathlib.Core.Path.{_∙_, _≡_, ap, refl, sym}
-use mathlib.Core.Bool.{_&&_, _||_, Bool, cond, false, not, true}
+use mathlib.Core.Bool.{_&&_, _||_, Bool, false, not, true}
 use mathlib.Core.List.{[], _++_, _∷_, append-assoc, List}
 use Prim.Native.Nat.{_<_, _≤_, ℕ}
 use lib.Dec.{leb, ltb}
@@ -12,33 +12,32 @@ use native.Mathlib.Nat.{zero-add}
 use Rattle.judge_image.specs.Judged.{relationsJudged, taken}
 use Rattle.judge_lines.specs.Whole.{clausesBehindModes}
 use Rattle.judge_said.proofs.Clauses.{goal-few}
-use Rattle.judge_said.proofs.First.{adds-length, lowers-length}
-use Rattle.judge_said.proofs.Told.{numbered-with, records-said, right-parts}
+use Rattle.judge_said.proofs.Told.{numbered-with, records-said, ask-parts}
 use Rattle.judge_said.specs.Said.{askRight, askSaid, clausesSaid}
 use Rattle.lay.proofs.Laws.{laid-start}
 use Rattle.lay_lines.specs.Fields.{clauseFits}
-use Rattle.lay_literal.specs.Fits.{goalFits, stageFits}
 use Rattle.lay_lines.specs.Imaged.{askWith, imageWith}
-use Rattle.lay_lines.proofs.Sizes.{both}
 use Rattle.lay_lines.specs.Lines.{clauseRight, clausesFrom, modesOf, modesRight}
-use Rattle.lay_literal.proofs.Laid.{writes-both}
+use Rattle.lay_literal.specs.Fits.{goalFits, stageFits}
 use Rattle.lay_literal.specs.Lows.{literalFits, lows}
-use Rattle.lay_text.proofs.Laws.{capped-in}
+use Rattle.lay_text.proofs.Laws.{capped-below, capped-in, capped-under, writes-both}
 use Rattle.lay_text.specs.Laying.{capped, most, Writes}
 use Rattle.lay_text.specs.declared.To.{To}
+use Rattle.parlog.proofs.Bools.{and-true, or-false}
 use Rattle.parlog.specs.Load.{after, long, nothingRead, refusal}
 use Rattle.parlog.specs.Tables.{written}
 use Rattle.parlog.specs.declared.Loaded.the-variants.{Accepted, Refused}
 use Rattle.parlog.specs.declared.Refusal.{Refusal}
-use Rattle.parse.specs.Says.{constantsIn, fitted, fittedBy, ParseSays, Tells}
-use Rattle.read_names.proofs.Tabled.{adds-then, names-length}
+use Rattle.parse.specs.Says.{fitted, fittedBy, ParseSays, Tells}
+use Rattle.read_names.proofs.Tabled.{adds-then, names-length, sorted-append}
 use Rattle.read_names.specs.Tables.{Adds, modeNames, modesFrom, namesAt, sorted}
 use Rattle.spell.specs.Stuck.{spellingOf}
 use Rattle.spell.specs.declared.Spelt.the-variants.{Right, Stuck}
-use Rattle.take_term.proofs.Laws.{sorted-append}
+use Rattle.text_names.proofs.Added.{adds-length}
 use Rattle.text_names.specs.Bytes.{skip}
 use Rattle.text_names.specs.Entries.{entries}
 use Rattle.text_names.specs.Names.{adds, Name}
+use Rattle.text_program.proofs.Joined.{lowers-length}
 use Rattle.text_program.specs.Encoded.{programBytes}
 use Rattle.text_program.specs.Numbered.{clauseTerms, constantNames, goalTerms, joined, lowers, programIn, relationNames}
 use Rattle.text_program.specs.Parsing.{allOf, clauseDeclared, declared, fitting, goalDeclared, imageIn, literalDeclared, namesIn, notLong, ParseCall, parseCall, recordsIn, sourced, unread}
@@ -48,27 +47,15 @@ use Rattle.text_program.specs.declared.Parsed.the-variants.{Read}
 use Rattle.text_taken.proofs.Low.{low-image}
 use Rattle.text_taken.proofs.Taken.{ask-taken, clauses-taken, image-long, modes-taken, terms-few}
 
+-- the constants of clauses from place c on and of a goal
+abbrev pub constantsIn : List ℕ → ℕ → List (List Said) → List Name
+constantsIn s c g = adds [] (lowers (joined clauseTerms (clausesFrom s c) ++ goalTerms g))
+
 -- a call told by its parts
 pub tells : {call call' : ParseCall} → call ≡ call' → Tells call' (call .answer) (call .image) (call .names)
 tells e = record { answers = ap (λ (k : ParseCall). k .answer) e; imaged = ap (λ (k : ParseCall). k .image) e; named = ap (λ (k : ParseCall). k .names) e }
 
 -- ---- places
-
-capped-below : (n : ℕ) → capped n ≤ n
-unfolding capped
-capped-below n = go (ltb n most) refl
-  where
-    go : (b : Bool) → ltb n most ≡ b → cond b n most ≤ n
-    go true e = omega arith
-    go false e = omega (arith, ltb-false n most e)
-
-capped-under : (n m : ℕ) → capped n ≤ m → m < most → n ≤ m
-unfolding capped
-capped-under n m = go (ltb n most) refl
-  where
-    go : (b : Bool) → ltb n most ≡ b → cond b n most ≤ m → m < most → n ≤ m
-    go true e h g = h
-    go false e h g = absurd (omega arith)
 
 module _ (image names bs es : List ℕ) where
   pub no-room : (x y : ℕ) (short : Bool) → x ≡ capped (length bs) → y ≡ capped (length es) → short ≡ (ltb (length image) x || ltb (length names) y) → short ≡ true → unread image names (refusal 11 0) ≡ fitted image names bs es
@@ -101,7 +88,7 @@ module _ {image names i n1 n2 : List ℕ} {w e f g : To} {ok : Bool} (bs ks ls :
       Writes image w bs ok i e → Writes names w ks true n1 f → Writes n1 f ls true n2 g → record { answer = Read (e .at) (g .at); image = i; names = n2 } ≡ fitted image names bs (ks ++ ls)
   unfolding fitted
   room x y short z p q h s l k a b c =
-      let u = no-both (ltb (length image) x) (ltb (length names) y) (sym h ∙ s) in
+      let u = or-false (ltb (length image) x) (ltb (length names) y) (sym h ∙ s) in
       let u0 = ltb-false (length image) x (u .0) in
       let u1 = ltb-false (length names) y (u .1) in
       let v0 : length bs ≤ length image = capped-under (length bs) (length image) (omega arith) l in
@@ -109,11 +96,6 @@ module _ {image names i n1 n2 : List ℕ} {w e f g : To} {ok : Bool} (bs ks ls :
       let r = laid-whole bs z v0 l a in
       let t = laid-whole (ks ++ ls) z v1 k (writes-both b c) in
       rw (le-leb (length bs) (length image) v0, le-leb (length (ks ++ ls)) (length names) v1, r .0, r .1, t .0, t .1) refl
-    where
-      no-both : (a b : Bool) → (a || b) ≡ false → (a ≡ false) × (b ≡ false)
-      no-both false false e = (refl, refl)
-      no-both false true e = (refl, e)
-      no-both true b e = (e, absurd (let z : _≡_ {A = ℕ} 0 1 = cc in omega arith))
 
 -- ---- the constants
 
@@ -235,7 +217,7 @@ module _ (s : List ℕ) (m c : ℕ) (g : List (List Said)) (a : drop m s ≡ ski
 
   declared-parts : declared sourceAt ≡ true → (allOf (clauseDeclared (modeNames (modesFrom s m))) (clausesFrom s c) ≡ true) × (goalDeclared (modeNames (modesFrom s m)) g ≡ true)
   unfolding declared
-  declared-parts e = both (allOf (clauseDeclared (modeNames (modesFrom s m))) (clausesFrom s c)) (goalDeclared (modeNames (modesFrom s m)) g) e
+  declared-parts e = and-true (allOf (clauseDeclared (modeNames (modesFrom s m))) (clausesFrom s c)) (goalDeclared (modeNames (modesFrom s m)) g) e
 
   pub taken-at : (r k : ℕ) → relationsJudged (modeNames (modesFrom s m)) (clausesBehindModes s m) (modesOf (modesFrom s m)) 0 nothingRead ≡ Accepted r k → TakenAt
   taken-at r k e =
@@ -251,7 +233,7 @@ module _ (s : List ℕ) (m c : ℕ) (g : List (List Said)) (a : drop m s ≡ ski
       let cl : length (clausesFrom s c) ≡ length (lines isClause readClause back .value) = ap (λ (y : List ℕ). length (lines isClause readClause y .value)) b in
       let ar : askRight g ≡ true = ap askRight (d ∙ ap (λ (y : List ℕ). readBody (behindArrow (lines isClause readClause y .rest)) .value) b) ∙ v in
       let f = terms-few (clausesFrom s c) cr in
-      let j = goal-few g (right-parts g ar .1) in
+      let j = goal-few g (ask-parts g ar .1) in
       let h = length-append (joined clauseTerms (clausesFrom s c)) (goalTerms g) in
       record {
         modes = t .0 .right;

@@ -1,10 +1,11 @@
 -- The ways through a parse that takes its text in one pass.
 use mathlib.Core.Path.{_∙_, _≡_, ap, refl, sym}
-use mathlib.Core.Bool.{_&&_, and-assoc, Bool, false, not, true}
+use mathlib.Core.Bool.{_&&_, _||_, and-assoc, Bool, false, not, true}
 use mathlib.Core.List.{[], _++_, append-assoc, List}
-use Prim.Native.Nat.{_+_, _-_, _≤_, suc, zero, ℕ}
+use Prim.Native.Nat.{_+_, _≤_, suc, zero, ℕ}
 use lib.ListN.{drop, drop-of-length-le, length, length-append, take}
 use native.Mathlib.Omega.{arith}
+use Rattle.declared_calls.specs.Declares.{allNamed, declaredBehind, declaredFor, declaredIn, Declares}
 use Rattle.judge_image.specs.Judged.{relationsJudged, taken}
 use Rattle.judge_lines.proofs.Judging.{ask-lost, ask-taken, ask-wrong}
 use Rattle.judge_lines.specs.Whole.{clausesBehindModes}
@@ -13,21 +14,22 @@ use Rattle.judge_text.specs.Tests.{Counted}
 use Rattle.lay.proofs.Laws.{laid-length, laid-read, laid-then}
 use Rattle.lay.specs.Lay.{laid}
 use Rattle.lay_lines.specs.Fields.{clauseFits}
-use Rattle.lay_literal.specs.Fits.{goalFits}
 use Rattle.lay_lines.specs.Imaged.{askWith, imageWith}
 use Rattle.lay_lines.specs.Lines.{clausesFrom, modesOf}
 use Rattle.lay_literal.proofs.Laid.{lows-append}
+use Rattle.lay_literal.specs.Fits.{goalFits}
 use Rattle.lay_literal.specs.Lows.{lows}
 use Rattle.mode_table.specs.Moded.{Moded}
 use Rattle.mode_table.specs.declared.Lines.{Lines}
 use Rattle.name_index.specs.Index.{Indexed}
+use Rattle.parlog.proofs.Bools.{or-none}
 use Rattle.parlog.specs.Load.{after, nothingRead, refusal}
 use Rattle.parlog.specs.declared.Loaded.{Loaded}
 use Rattle.parlog.specs.declared.Loaded.the-variants.{Refused}
 use Rattle.parlog.specs.declared.Progress.{Progress}
-use Rattle.parse.proofs.Called.{constants-room, constants-told, judged-refused, judged-taken, not-declared, taken-at}
-use Rattle.parse.specs.Says.{askNumber, Behind, closed, constantsIn, declaredFor, fitted, offsetOf, stopAs}
-use Rattle.read_names.proofs.Lined.{lines-fuel}
+use Rattle.parse.proofs.Called.{constantsIn, constants-room, constants-told, judged-refused, judged-taken, not-declared, taken-at}
+use Rattle.parse.specs.Says.{fitted}
+use Rattle.parse.specs.Ways.{askNumber, Behind, offsetOf, stopAs}
 use Rattle.read_names.specs.Tables.{modeNames, modesFrom, namesAt}
 use Rattle.take_clause.specs.TakesClause.{TakesAsk}
 use Rattle.take_clause.specs.declared.Taken.{Taken}
@@ -39,11 +41,11 @@ use Rattle.take_text.specs.TakesText.{clausesIn, TakesClauses}
 use Rattle.take_text.specs.declared.Clauses.{Clauses}
 use Rattle.text_names.specs.Bytes.{skip}
 use Rattle.text_names.specs.Entries.{entries}
-use Rattle.text_names.specs.Names.{Name}
+use Rattle.text_names.specs.Names.{known, look, Name}
 use Rattle.text_program.specs.Encoded.{relationBytes}
 use Rattle.text_program.specs.Numbered.{joined}
 use Rattle.text_program.specs.Parsing.{allOf, declared, sourced, unread}
-use Rattle.text_program.specs.Source.{behindArrow, Got, isClause, isModeLine, lines, linesFor, ModeLine, readBody, readClause, readModeLine, Said, SaidClause, sourceOf}
+use Rattle.text_program.specs.Source.{behindArrow, isClause, isModeLine, lines, linesFor, ModeLine, readBody, readClause, readModeLine, Said, sourceOf}
 
 -- chains of tables of one size
 pub links-same : {s t u k l : List ℕ} {m n : ℕ} → Indexed s u l n → Indexed s t k m → length u ≡ length t → length l ≡ length k
@@ -54,25 +56,16 @@ links-same f g e =
 
 -- ---- a refusal, or 17
 
-pub stop-yes : (x d : Bool) (number at : ℕ) → x ≡ d → x ≡ true → refusal number at ≡ stopAs d number at
-stop-yes x d number at e h = rw (sym e ∙ h)
+pub stop-yes : (d : Bool) (number at : ℕ) → d ≡ true → refusal number at ≡ stopAs d number at
+stop-yes d number at h = rw h
 
-pub stop-no : (x d : Bool) (number at : ℕ) → x ≡ d → x ≡ false → refusal 17 0 ≡ stopAs d number at
-stop-no x d number at e h = rw (sym e ∙ h)
-
--- the clauses that are left and the goal behind them
-pub left-told : (s : List ℕ) (m from n e q : ℕ) (x y z : Bool) → z ≡ (x && y) → x ≡ allOf (clauseFits false (modesFrom s m)) (linesFor n isClause readClause (drop from s) .value) →
-    y ≡ goalFits false (modesFrom s m) (readBody (drop q s) .value) → drop q s ≡ behindArrow (drop e s) → drop e s ≡ linesFor n isClause readClause (drop from s) .rest → z ≡ declaredFor s m from n
-left-told s m from n e q x y z told is does arrow end = told ∙ rw (is, does, arrow, end) refl
+pub stop-no : (d : Bool) (number at : ℕ) → d ≡ false → refusal 17 0 ≡ stopAs d number at
+stop-no d number at h = rw h
 
 -- no clause is left over
 refused-by : (n at : ℕ) (x : Loaded) → (n ≡ 0 → ⊥) → saidBy n at x ≡ Refused (refusal n at)
 refused-by zero at x h = absurd (h refl)
 refused-by (suc n) at x h = refl
-
--- what is asked of clauses and of the goal behind them
-abbrev asked : List ℕ → ℕ → Got (List SaidClause) → Bool
-asked s m c = allOf (clauseFits false (modesFrom s m)) (c .value) && goalFits false (modesFrom s m) (readBody (behindArrow (c .rest)) .value)
 
 -- the goal behind the clauses from a place on
 abbrev goalAt : List ℕ → ℕ → List (List Said)
@@ -83,20 +76,18 @@ abbrev judgedIn : List ℕ → ℕ → Loaded
 judgedIn s m = relationsJudged (modeNames (modesFrom s m)) (clausesBehindModes s m) (modesOf (modesFrom s m)) 0 nothingRead
 
 module _ (s : List ℕ) (m c : ℕ) (a : drop m s ≡ skip s) (b : drop c s ≡ lines isModeLine readModeLine (drop m s) .rest) (image names : List ℕ) where
-  stop-tells : (d : Bool) (number at : ℕ) → d ≡ asked s m (lines isClause readClause (drop c s)) → judgedIn s m ≡ Refused (refusal number at) → unread image names (stopAs d number at) ≡ sourced image names (declared (sourceOf s)) (sourceOf s)
+  stop-tells : (d : Bool) (number at : ℕ) → d ≡ declaredIn s m (lines isClause readClause (drop c s)) → judgedIn s m ≡ Refused (refusal number at) → unread image names (stopAs d number at) ≡ sourced image names (declared (sourceOf s)) (sourceOf s)
   stop-tells true number at e f = judged-refused s m c (goalAt s c) a b refl image names true _ _ e refl refl (refusal number at) refl f
   stop-tells false number at e f = not-declared s m c (goalAt s c) a b refl image names false _ _ e refl refl refl
 
   -- a mode line is refused
-  pub stop-modes : {o p t u l : List ℕ} {r : Modes} (left : ℕ) → TakesModes s m o p t u l r → (r .number ≡ 0 → ⊥) → left ≡ length s - c →
-      unread image names (stopAs (true && declaredFor s (r .lines .from) c left) (r .number) (r .at)) ≡ sourced image names (declared (sourceOf s)) (sourceOf s)
-  stop-modes {r = r} left t h e =
-      rw (t .from)
-      (stop-tells (declaredFor s m c left) (r .number) (r .at) (rw e (ap (asked s m) (lines-fuel isClause readClause s c)))
-      (t .said (clausesBehindModes s m) ∙ refused-by (r .number) (r .at) _ h))
+  pub stop-modes : {o p t u l : List ℕ} {r : Modes} (d : Bool) → TakesModes s m o p t u l r → (r .number ≡ 0 → ⊥) → d ≡ declaredBehind s m →
+      unread image names (stopAs d (r .number) (r .at)) ≡ sourced image names (declared (sourceOf s)) (sourceOf s)
+  stop-modes {r = r} d t h e =
+      stop-tells d (r .number) (r .at) (e ∙ ap (λ (y : List ℕ). declaredIn s m (lines isClause readClause y)) (sym b)) (t .said (clausesBehindModes s m) ∙ refused-by (r .number) (r .at) _ h)
 
 -- no mode line is refused
-pub behind-modes : {s o p t u l : List ℕ} {m : ℕ} {r : Modes} → TakesModes s m o p t u l r → r .number ≡ 0 → drop m s ≡ skip s → m ≤ length s → length o ≡ 12800 → Behind s p (closed s (r .lines)) (r .lines .rest) (r .at) (r .known)
+pub behind-modes : {s o p t u l : List ℕ} {m : ℕ} {r : Modes} → TakesModes s m o p t u l r → r .number ≡ 0 → drop m s ≡ skip s → m ≤ length s → length o ≡ 12800 → Behind s p (r .lines) (r .rest) (r .at) (r .known)
 behind-modes {s} {o} {p} {m = m} {r = r} t none a i z =
     record {
       start = o;
@@ -108,21 +99,18 @@ behind-modes {s} {o} {p} {m = m} {r = r} t none a i z =
       near = t .near;
       from = rw (t .from) a;
       fromIn = rw (t .from) i;
-      restIn = t .moded .inside;
+      restIn = t .inside;
       rest = rw (t .from) (t .rest none);
     }
 
--- and none is left
-pub moded-closed : {s t a l : List ℕ} {w : Lines} → Moded s t a l w → modesFrom s (w .rest) ≡ [] → Moded s t a l (closed s w)
-unfolding linesFor
-moded-closed {s} {w = w} m none =
+-- and a name that is in no table has no mode line
+pub all-declared : {s t a l : List ℕ} {w : Lines} → Moded s t a l w → Declares s t l (allNamed s (w .from) (w .count))
+unfolding linesFor look
+all-declared {s} {t} {w = w} m =
+    let none : modesFrom s (length s) ≡ [] = ap (λ (y : List ℕ). lines isModeLine readModeLine y .value) (let h : length s ≤ length s = omega arith in drop-of-length-le s h) in
     record {
-      lines = m .lines;
-      whole = m .whole ∙ ap (λ (y : List ModeLine). m .lines ++ y) (none ∙ sym (ap (λ (y : List ℕ). lines isModeLine readModeLine y .value) (let h : length s ≤ length s = omega arith in drop-of-length-le s h)));
-      names = m .names;
-      arities = m .arities;
       index = m .index;
-      size = m .size;
+      names = λ x z. ap (λ (xs : List Name). known xs x) (m .names) ∙ sym (ap (λ (ms : List ModeLine). known (namesAt s (take (w .count) t)) x || known (modeNames ms) x) none ∙ or-none (known (namesAt s (take (w .count) t)) x));
       inside = omega arith;
     }
 
@@ -174,17 +162,17 @@ module _ {s o : List ℕ} {w : Lines} {begin at : ℕ} {g : Progress} (b : Behin
         ∙ ap (λ (y : List ℕ). clausesSaid (modesFrom s (w .from)) (λ k h. after taken k (askSaid (modesFrom s (w .from)) h (readBody (behindArrow (lines isClause readClause y .rest)) .value))) false [] (lines isClause readClause y .value) at g) (sym (b .rest))
         ∙ c .said (λ k h. after taken k (askSaid (modesFrom s (w .from)) h (goalAt s begin)))
 
-    left-asked : (r .declared && declaredFor s (w .from) (r .end) (r .left)) ≡ asked s (w .from) (lines isClause readClause (drop begin s))
+    left-asked : (r .declared && declaredFor s (w .from) (r .end) (r .left)) ≡ declaredIn s (w .from) (lines isClause readClause (drop begin s))
     left-asked =
         let y = linesFor (r .left) isClause readClause (drop (r .end) s) in
         sym (and-assoc (r .declared) (allOf (clauseFits false (modesFrom s (w .from))) (y .value)) (goalFits false (modesFrom s (w .from)) (readBody (behindArrow (y .rest)) .value)))
         ∙ rw (c .declared, c .rest) refl
 
     -- a clause is refused
-    pub stop-clauses : (image names : List ℕ) → (r .number ≡ 0 → ⊥) →
-        unread image names (stopAs (r .declared && declaredFor s (w .from) (r .end) (r .left)) (r .number) (r .at)) ≡ sourced image names (declared (sourceOf s)) (sourceOf s)
-    stop-clauses image names h =
-        stop-tells s (w .from) begin (b .from) (b .rest) image names _ (r .number) (r .at) left-asked (clauses-judged ∙ refused-by (r .number) (r .at) _ h)
+    pub stop-clauses : (image names : List ℕ) (d e : Bool) → (r .number ≡ 0 → ⊥) → e ≡ declaredFor s (w .from) (r .end) (r .left) → d ≡ (r .declared && e) →
+        unread image names (stopAs d (r .number) (r .at)) ≡ sourced image names (declared (sourceOf s)) (sourceOf s)
+    stop-clauses image names d e h told is =
+        stop-tells s (w .from) begin (b .from) (b .rest) image names d (r .number) (r .at) (is ∙ ap (λ (y : Bool). r .declared && y) told ∙ left-asked) (clauses-judged ∙ refused-by (r .number) (r .at) _ h)
 
     module _ (none : r .number ≡ 0) (q : ℕ) (arrow : drop q s ≡ behindArrow (drop (r .end) s)) where
       goal-is : goalAt s begin ≡ readBody (drop q s) .value

@@ -6,7 +6,6 @@ use parlog::Refusal;
 use parlog::codes;
 use spell::Spelt;
 use text_program::Parsed;
-ghost use mathlib.Core.Bool.{_&&_};
 ghost use mathlib.Core.List.{_++_};
 ghost use mathlib.Core.Path.{_≡_};
 ghost use Prim.Native.Nat.{_<_, _≤_};
@@ -14,7 +13,8 @@ ghost use lib.ListN.{length, take};
 ghost use Rattle.mode_table.specs.Moded.{Moded};
 ghost use Rattle.name_index.specs.Index.{Indexed};
 ghost use Rattle.parlog.specs.Load.{refusal};
-ghost use Rattle.parse.specs.Says.{askNumber, Behind, closed, declaredFor, fitted, offsetOf, ParseSays, stopAs, Tells};
+ghost use Rattle.parse.specs.Says.{fitted, ParseSays, Tells};
+ghost use Rattle.parse.specs.Ways.{askNumber, Behind, offsetOf, stopAs};
 ghost use Rattle.read_names.specs.Tables.{modeNames, modesFrom, namesAt};
 ghost use Rattle.text_names.specs.Entries.{entries};
 ghost use Rattle.text_program.specs.Parsing.{declared, sourced};
@@ -131,72 +131,17 @@ fn offset_of(number: u8, at: usize) -> usize
     if number == UNDECLARED { 0 } else { at }
 }
 
-// A refusal with its number and its place, unless a call before it, in the clauses from a place on or in the goal has no mode line.
-fn stopped(
-    s: &[u8],
-    rels: &[usize],
-    arities: &[usize],
-    chains: &[u16],
-    lines: Lines,
-    out: &mut [u8],
-    consts: &mut [usize],
-    links: &mut [u16],
-    from: usize,
-    left: usize,
-    n: usize,
-    before: bool,
-    number: u8,
-    at: usize,
-) -> Parsed
-    requires { ⌜ (from ≤ length (now s)) × Indexed (now s) (now consts) (now links) n × Moded (now s) (now rels) (now arities) (now chains) lines ⌝ }
-    ensures { λ r. ⌜ r ≡ Unread (stopAs (before && declaredFor (now (s .entry)) (lines .from) from left) number at) ⌝ }
+// A refusal with its number and its place, unless a call has no mode line.
+fn stopped(declared: bool, number: u8, at: usize) -> Parsed
+    ensures { λ r. ⌜ r ≡ Unread (stopAs declared number at) ⌝ }
 {
-    let rest = take_text::rest_declared(
-        s,
-        rels,
-        arities,
-        chains,
-        lines,
-        out,
-        consts,
-        links,
-        from,
-        left,
-        n,
-    );
-    let q = read_clause::behind_arrow(s, rest.end);
-    let a = take_clause::ask(
-        s,
-        rels,
-        arities,
-        chains,
-        lines,
-        out,
-        consts,
-        links,
-        q,
-        0,
-        rest.consts,
-    );
-    let behind = basics::and(rest.declared, a.declared);
-    if basics::and(before, behind) {
+    if declared {
         return unread(number, at);
     }
     unread(UNDECLARED, 0)
 }
 
 // ---- the text
-
-// Mode lines that are all in the tables: none follows.
-fn close(s: &[u8], lines: Lines) -> Lines
-    ensures { λ r. ⌜ r ≡ closed (now (s .entry)) lines ⌝ }
-{
-    Lines {
-        from: lines.from,
-        count: lines.count,
-        rest: s.len(),
-    }
-}
 
 // The clauses from a place on and the goal, behind mode lines that were taken.
 fn clauses(
@@ -232,22 +177,16 @@ fn clauses(
         known,
     );
     if r.number != 0 {
-        return stopped(
+        let behind = declared_calls::declared(
             s,
             rels,
-            arities,
             chains,
-            lines,
-            out,
-            consts,
-            links,
+            lines.from,
+            lines.count,
             r.end,
             r.left,
-            r.consts,
-            r.declared,
-            r.number,
-            r.at,
         );
+        return stopped(basics::and(r.declared, behind), r.number, r.at);
     }
     let q = read_clause::behind_arrow(s, r.end);
     let a = take_clause::ask(
@@ -283,26 +222,10 @@ fn spelled(image: &mut [u8], names: &mut [u8], s: &[u8]) -> Parsed
     let mut chains = [0u16; RELATION_LINKS];
     let t = take_modes::mode_lines(s, m, &mut out, &mut rels, &mut arities, &mut chains);
     if t.number != 0 {
-        let c = read_names::mode_lines(s, m);
-        let left = s.len() - c.end;
-        return stopped(
-            s,
-            &rels,
-            &arities,
-            &chains,
-            t.lines,
-            &mut out,
-            &mut consts,
-            &mut links,
-            c.end,
-            left,
-            0,
-            true,
-            t.number,
-            t.at,
-        );
+        // No constant is numbered here, so that their table is free for the names of relations.
+        let behind = declared_calls::declared_behind(s, m, &mut consts, &mut links);
+        return stopped(behind, t.number, t.at);
     }
-    let lines = t.lines;
     clauses(
         image,
         names,
@@ -310,11 +233,11 @@ fn spelled(image: &mut [u8], names: &mut [u8], s: &[u8]) -> Parsed
         &rels,
         &arities,
         &chains,
-        close(s, lines),
+        t.lines,
         &mut out,
         &mut consts,
         &mut links,
-        lines.rest,
+        t.rest,
         t.at,
         t.known,
     )

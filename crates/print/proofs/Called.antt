@@ -1,15 +1,14 @@
 -- The ways through a print, once its text is measured.
 use mathlib.Core.Path.{_∙_, _≡_, ap, refl, sym}
-use mathlib.Core.Bool.{Bool, cond, false, not, true}
+use mathlib.Core.Bool.{Bool, false, not, true}
 use mathlib.Core.List.{_++_, List}
 use Prim.Native.Nat.{_<_, _≤_, ℕ}
-use lib.Dec.{ltb}
 use lib.ListN.{drop, length}
-use borrow.Author.Tests.{le-leb, lt-leb, ltb-false, not-false, not-true}
+use borrow.Author.Tests.{le-leb, lt-leb, not-false, not-true}
 use native.Mathlib.Omega.{arith}
 use native.Mathlib.Nat.{zero-add}
 use Rattle.lay.proofs.Laws.{laid-start}
-use Rattle.lay_text.proofs.Laws.{capped-in}
+use Rattle.lay_text.proofs.Laws.{capped-below, capped-in, capped-under}
 use Rattle.lay_text.specs.Laying.{capped, most, Writes}
 use Rattle.lay_text.specs.declared.To.{To}
 use Rattle.parlog.specs.Load.{loadOf, refusal}
@@ -21,22 +20,6 @@ use Rattle.print.specs.Says.{PrintSays, Tells}
 use Rattle.text_program.specs.Printing.{nameable, PrintCall, printCall, programNamed, programText, unwritten}
 use Rattle.text_program.specs.declared.Printed.{Printed}
 use Rattle.text_program.specs.declared.Printed.the-variants.{Unwritten, Wrote}
-
-capped-below : (n : ℕ) → capped n ≤ n
-unfolding capped
-capped-below n = go (ltb n most) refl
-  where
-    go : (b : Bool) → ltb n most ≡ b → cond b n most ≤ n
-    go true e = omega arith
-    go false e = omega (arith, ltb-false n most e)
-
-capped-under : (n m : ℕ) → capped n ≤ m → m < most → n ≤ m
-unfolding capped
-capped-under n m = go (ltb n most) refl
-  where
-    go : (b : Bool) → ltb n most ≡ b → cond b n most ≤ m → m < most → n ≤ m
-    go true e h g = h
-    go false e h g = absurd (omega arith)
 
 module _ (tx t : List ℕ) (ok : Bool) {o p : List ℕ} {w m : To} (zero : w .at ≡ 0) (all : w .named ≡ true) (v : Writes o w t ok p m) where
   told : m .named ≡ ok

@@ -10,9 +10,9 @@ use borrow.Author.Tests.{eq-eqb, ne-eqb}
 use native.Mathlib.Omega.{arith}
 use Rattle.read_clause.specs.Parts.{ClauseIn, partOf, PartsIn}
 use Rattle.read_clause.specs.declared.Parts.{Parts}
-use Rattle.read_goal.proofs.Turn.{first-at}
 use Rattle.read_goal.specs.Spans.{goalRight, literalsIn, Spans, stagesRight}
 use Rattle.read_goal.specs.declared.Span.{Span}
+use Rattle.text_names.proofs.Rest.{first-at}
 use Rattle.text_names.specs.Bytes.{first, next, past, skip}
 use Rattle.text_program.specs.Parsing.{allOf}
 use Rattle.text_program.specs.Source.{behindArrow, readBody, readBrackets, readClause, readGoal, readHalves, readTerm}

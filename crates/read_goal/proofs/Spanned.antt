@@ -1,15 +1,15 @@
 -- What is left of a row while its items are counted, and the ways through the readers.
 use mathlib.Core.Path.{_∙_, _≡_, ap, refl, sym}
-use mathlib.Core.Bool.{_&&_, _||_, and-assoc, Bool, false, true}
+use mathlib.Core.Bool.{_&&_, _||_, and-assoc, and-true as true-right, Bool, false, true}
 use mathlib.Core.List.{[], _∷_, List}
 use Prim.Native.Nat.{_+_, _-_, _<_, _≤_, ℕ}
 use lib.Dec.{eqb, leb}
 use lib.ListN.{drop, getD, length}
 use borrow.Author.Tests.{eq-eqb, le-leb, leb-false, leb-true, lt-leb, ne-eqb}
 use native.Mathlib.Omega.{arith}
-use Rattle.read_goal.proofs.Turn.{first-at}
 use Rattle.read_goal.specs.Spans.{goalRight, literalRight, literalsIn, Spans, stageRight, stagesRight}
 use Rattle.read_goal.specs.declared.Span.{Span}
+use Rattle.text_names.proofs.Rest.{first-at}
 use Rattle.text_names.specs.Bytes.{next, past}
 use Rattle.text_program.specs.Numbered.{saidTerms}
 use Rattle.text_program.specs.Parsing.{allOf}
@@ -58,10 +58,6 @@ module _ {A : Type 0} (s : List ℕ) where
       record { end = sym (ap (λ (v : Got (List A)). v .rest) e) ∙ l .rest; inside = l .inside; count = omega arith; right = g ∙ l .right }
 
 -- ---- what the items pass
-
-pub true-right : (a : Bool) → (a && true) ≡ a
-true-right true = refl
-true-right false = refl
 
 module _ {A : Type 0} (ok : A → Bool) where
   pub all-on : (r t : Bool) (x : A) (xs : List A) → t ≡ ok x → ((r && t) && allOf ok xs) ≡ (r && allOf ok (x ∷ xs))

@@ -1,16 +1,13 @@
 -- One turn of a loop over a row of items in a text.
 use mathlib.Core.Path.{_∙_, _≡_, ap, refl, sym}
 use mathlib.Core.List.{[], _∷_, List}
-use Prim.Native.Nat.{_+_, _-_, _<_, _≤_, suc, zero, ℕ}
+use Prim.Native.Nat.{_-_, _<_, _≤_, suc, zero, ℕ}
 use lib.ListN.{drop, getD, length, length-drop}
-use lib.Seq.{getD-drop}
 use borrow.Author.Tests.{eq-eqb, ne-eqb}
 use native.Mathlib.Omega.{arith}
+use Rattle.text_names.proofs.Rest.{first-at}
 use Rattle.text_names.specs.Bytes.{first, next}
 use Rattle.text_program.specs.Source.{consGot, got, Reader, row, rowFor}
-
-pub first-at : (s : List ℕ) (i : ℕ) → first (drop i s) ≡ getD s i 0
-first-at s i = getD-drop i s 0 0 ∙ (let h : i + 0 ≡ i = omega arith in rw h)
 
 module _ {A : Type 0} (read : Reader A) (mark : ℕ) (s : List ℕ) where
   -- the fuel of a row is what is left of the text

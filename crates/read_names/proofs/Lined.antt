@@ -1,40 +1,30 @@
 -- Mode lines: the word that they begin with, and the loops over them.
 use mathlib.Core.Path.{_∙_, _≡_, ap, refl, sym}
-use mathlib.Core.Bool.{_&&_, Bool, false, true}
+use mathlib.Core.Bool.{_&&_, and-true as true-right, Bool, false, true}
 use mathlib.Core.List.{[], _∷_, List}
 use Prim.Native.Nat.{_+_, _-_, _<_, _≤_, suc, zero, ℕ}
-use lib.Dec.{eqb, leb, ltb}
+use lib.Dec.{eqb, leb}
 use lib.ListN.{drop, getD, length, length-drop}
 use lib.Seq.{drop-cons, length-take-le}
-use borrow.Author.Tests.{le-ltb, lt-ltb, ltb-false, ltb-true}
+use borrow.Author.Tests.{lt-ltb}
 use native.Mathlib.Omega.{arith}
-use Rattle.lay_text.proofs.Laws.{name-part, true-right}
-use Rattle.read_goal.proofs.Turn.{first-at}
+use Rattle.lay_text.proofs.Laws.{name-part}
 use Rattle.read_goal.specs.Spans.{Spans}
 use Rattle.read_goal.specs.declared.Span.{Span}
 use Rattle.read_names.specs.Tables.{arityFor, Finds, modeNames}
+use Rattle.text_names.proofs.Looked.{known-cons, same-is}
+use Rattle.text_names.proofs.Rest.{first-at}
 use Rattle.text_names.specs.Bytes.{back, front, isSmall, next, past}
 use Rattle.text_names.specs.Names.{known, look, Name, sameName}
 use Rattle.text_program.specs.Source.{consGot, got, isModeLine, lines, linesFor, ModeLine, modeWord, readBrackets, Reader, readMode, readModeLine}
 
 -- ---- the word
 
-same-length : (x y : Name) → sameName x y ≡ true → length x ≡ length y
-unfolding sameName
-same-length [] [] e = refl
-same-length [] (b ∷ y) e = absurd (let z : _≡_ {A = ℕ} 0 1 = cc in omega arith)
-same-length (a ∷ x) [] e = absurd (let z : _≡_ {A = ℕ} 0 1 = cc in omega arith)
-same-length (a ∷ x) (b ∷ y) e = ap suc (same-length x y (go (eqb a b) (sameName x y) e))
-  where
-    go : (c d : Bool) → (c && d) ≡ true → d ≡ true
-    go true d e = e
-    go false d e = absurd (let z : _≡_ {A = ℕ} 0 1 = cc in omega arith)
-
 differ-length : (x y : Name) → (length x ≡ length y → ⊥) → false ≡ sameName x y
 differ-length x y h = go (sameName x y) refl
   where
     go : (b : Bool) → sameName x y ≡ b → false ≡ b
-    go true e = absurd (h (same-length x y e))
+    go true e = absurd (h (ap length (same-is x y e)))
     go false e = refl
 
 four : (a b c d : ℕ) → (eqb a 109 && (eqb b 111 && (eqb c 100 && eqb d 101))) ≡ sameName (a ∷ b ∷ c ∷ d ∷ []) modeWord
@@ -107,13 +97,6 @@ module _ (s : List ℕ) (at : ℕ) where
 
 -- ---- a relation by its name
 
-ltb-suc : (a b : ℕ) → ltb (suc a) (suc b) ≡ ltb a b
-ltb-suc a b = go (ltb a b) refl
-  where
-    go : (c : Bool) → ltb a b ≡ c → ltb (suc a) (suc b) ≡ c
-    go true e = lt-ltb (suc a) (suc b) (let h = ltb-true a b e in omega arith)
-    go false e = le-ltb (suc a) (suc b) (let h = ltb-false a b e in omega arith)
-
 -- of the mode lines ms there are left ks, behind n
 pub record FindLeft (s : List ℕ) (ms ks : List ModeLine) (x : Name) (p n left : ℕ) : Type 0 where
   pub number : n + look (modeNames ks) x ≡ look (modeNames ms) x
@@ -151,5 +134,5 @@ module _ (s : List ℕ) (x : Name) {ms ks : List ModeLine} {p n left : ℕ} wher
       let u = f .budget in
       let w : look (modeNames ks) x ≡ suc (look (modeNames js) x) = rw (a, ← g, h) refl in
       let v : arityFor ks x ≡ arityFor js x = rw (a, ← g, h) refl in
-      let o : known (modeNames ks) x ≡ known (modeNames js) x = rw (a, ← g, h) (ltb-suc (look (modeNames js) x) (length (modeNames js))) in
+      let o : known (modeNames ks) x ≡ known (modeNames js) x = ap (λ (k : List ModeLine). known (modeNames k) x) a ∙ known-cons (m .name) (modeNames js) x ∙ rw (← g, h) refl in
       record { number = omega arith; arity = sym v ∙ f .arity; known = sym o ∙ f .known; inside = i; budget = omega arith }

@@ -3,17 +3,19 @@ use mathlib.Core.Path.{_∙_, _≡_, ap, refl, sym}
 use mathlib.Core.Bool.{_||_, Bool, cond, false, not, true}
 use mathlib.Core.List.{[], _++_, _∷_, List}
 use Prim.Native.Nat.{_+_, _<_, _≤_, suc, ℕ}
-use lib.Dec.{eqb, leb}
+use lib.Dec.{eqb}
 use lib.ListN.{drop, drop-of-length-le, getD, length, length-append, length-set, set, take}
-use lib.Seq.{drop-cons, getD-take, length-take-le, take-all, take-append-le, take-suc-set, take-take}
-use borrow.Author.Tests.{le-ltb, leb-false, leb-true, lt-ltb, not-false, not-true}
+use lib.Seq.{drop-cons, getD-take, length-take-le, take-all, take-suc-set}
+use borrow.Author.Tests.{le-ltb, lt-ltb, not-false, not-true}
 use native.Mathlib.Omega.{arith}
 use native.Mathlib.Numerals.{add-one}
-use Rattle.read_goal.proofs.Turn.{first-at}
 use Rattle.read_names.specs.Tables.{Adds, namesAt, sorted}
 use Rattle.spell.specs.Forms.{inSpan}
+use Rattle.text_names.proofs.Added.{adds-append, cap-adds, full-add}
+use Rattle.text_names.proofs.Rest.{first-at}
 use Rattle.text_names.specs.Bytes.{first, front, isCapital, isName, isSmall}
-use Rattle.text_names.specs.Names.{add, adds, known, look, Name, sameName}
+use Rattle.text_names.specs.Names.{add, adds, look, Name, sameName}
+use Rattle.text_program.proofs.Joined.{lowers-append, uppers-append}
 use Rattle.text_program.specs.Numbered.{isUpper, lowers, uppers}
 
 -- ---- lists
@@ -28,36 +30,7 @@ unfolding namesAt
 names-length s [] = refl
 names-length s (p ∷ ps) = ap suc (names-length s ps)
 
-pub adds-append : (xs zs ys : List Name) → adds (adds ys xs) zs ≡ adds ys (xs ++ zs)
-unfolding adds
-adds-append [] zs ys = refl
-adds-append (x ∷ xs) zs ys = adds-append xs zs (add ys x)
-
--- ---- tables that are full
-
-full-add : (n : ℕ) (ys : List Name) (x : Name) → n ≤ length ys → take n (add ys x) ≡ take n ys
-unfolding add
-full-add n ys x h = go (known ys x)
-  where
-    go : (b : Bool) → take n (cond b ys (ys ++ (x ∷ []))) ≡ take n ys
-    go true = refl
-    go false = take-append-le n ys (x ∷ []) h
-
-cap-add : (n : ℕ) (ys : List Name) (x : Name) → take n (add (take n ys) x) ≡ take n (add ys x)
-cap-add n ys x = go (leb (length ys) n) refl
-  where
-    go : (b : Bool) → leb (length ys) n ≡ b → take n (add (take n ys) x) ≡ take n (add ys x)
-    go true e = ap (λ (l : List Name). take n (add l x)) (take-all n ys (leb-true (length ys) n e))
-    go false e =
-        let h = leb-false (length ys) n e in
-        let l = length-take-le n ys (omega arith) in
-        full-add n (take n ys) x (omega arith) ∙ take-take n n ys (omega arith) ∙ sym (full-add n ys x (omega arith))
-
-pub cap-adds : (n : ℕ) (xs ys : List Name) → take n (adds (take n ys) xs) ≡ take n (adds ys xs)
-unfolding adds
-cap-adds n [] ys = take-take n n ys (omega arith)
-cap-adds n (x ∷ xs) ys =
-    sym (cap-adds n xs (add (take n ys) x)) ∙ ap (λ (l : List Name). take n (adds l xs)) (cap-add n ys x) ∙ cap-adds n xs (add ys x)
+-- ---- tables that grow
 
 -- two additions one behind the other
 pub adds-then : {s t : List ℕ} {n : ℕ} {u : List ℕ} {m : ℕ} {v : List ℕ} {k : ℕ} (xs zs : List Name) → Adds s t n u m xs → Adds s u m v k zs → Adds s t n v k (xs ++ zs)
@@ -70,7 +43,7 @@ adds-then {s} {t} {n} {u} {m} {v} {k} xs zs f g =
       inside = g .inside;
     }
 
-names-fit : (s t : List ℕ) (n : ℕ) → n ≤ length t → length (namesAt s (take n t)) ≡ n
+pub names-fit : (s t : List ℕ) (n : ℕ) → n ≤ length t → length (namesAt s (take n t)) ≡ n
 names-fit s t n h = names-length s (take n t) ∙ length-take-le n t h
 
 pub adds-none : (s t : List ℕ) (n : ℕ) → n ≤ length t → Adds s t n t n []
@@ -139,6 +112,16 @@ module _ (s t : List ℕ) (n q k : ℕ) (x : Name) (h : n ≤ length t) (found :
       }
 
 -- ---- variables and constants
+
+pub sorted-none : (up : Bool) → sorted up [] ≡ []
+unfolding sorted uppers lowers
+sorted-none true = refl
+sorted-none false = refl
+
+pub sorted-append : (up : Bool) (xs ys : List Name) → sorted up (xs ++ ys) ≡ sorted up xs ++ sorted up ys
+unfolding sorted
+sorted-append true xs ys = uppers-append xs ys
+sorted-append false xs ys = lowers-append xs ys
 
 -- a name begins with the byte at its place, or is none
 pub upper-at : (s : List ℕ) (q : ℕ) → isUpper (front (drop q s)) ≡ isCapital (getD s q 0)

@@ -32,7 +32,7 @@ const LETTERS: usize = 4;
 // ---- tables of places
 
 // A place in a text, or its end.
-fn within(s: &[u8], q: usize) -> usize
+pub fn within(s: &[u8], q: usize) -> usize
     ensures { λ r. ⌜ (drop r (now (s .entry)) ≡ drop q (now (s .entry))) × (r ≤ length (now (s .entry))) ⌝ }
 {
     if q <= s.len() { q } else { s.len() }

@@ -1,26 +1,26 @@
 -- The run over the table is the run over forms.
-use mathlib.Core.Bool.{Bool·beq, false, true}
+use mathlib.Core.Path.{_∙_, _≡_, ap, refl, sym}
+use mathlib.Core.Bool.{Bool, Bool·beq, false, true}
 use mathlib.Core.List.{[], _∷_, List}
-use mathlib.Core.Path.{_≡_, refl, sym, ap, _∙_}
-use Prim.Native.Nat.{_+_, _*_, _<_, _≤_, ℕ, suc, zero}
+use Prim.Native.Nat.{_*_, _+_, _<_, _≤_, suc, zero, ℕ}
+use lib.Dec.{eqb, ltb}
+use lib.ListN.{drop, drop-of-length-le, getD, length, List·getD-map}
+use lib.Seq.{drop-cons}
+use borrow.Author.Tests.{eq-eqb, eqb-false, eqb-true, ltb-true, ne-eqb}
 use native.Mathlib.Omega.{arith}
 use native.Mathlib.Numerals.{add-one}
-use borrow.Author.Tests.{eqb-true, ltb-true, ne-eqb}
-use lib.Dec.{eqb, ltb}
-use lib.ListN.{drop, drop-of-length-le, getD, length}
-use lib.Seq.{drop-cons}
+use Rattle.spell.proofs.Alike.{afters-alike, afters-keep, alike, alikes, beq-is}
+use Rattle.spell.proofs.Language.{both, both-true}
+use Rattle.spell.proofs.Same.{every-at, sames-is}
+use Rattle.spell.proofs.Tested.{along, byteRight, bytes-right, cellRight, cells-right, empty, rowRight, rows-right, sort, stands, stateRight, states-right, stepRight}
+use Rattle.spell.proofs.Ways.{sortCount, sortOf, ways}
 use Rattle.spell.specs.Forms.{Form}
 use Rattle.spell.specs.Grammar.{text}
-use Rattle.spell.specs.Stuck.{afters, anyEnds, ended, goes, spelling, spellingOf}
-use Rattle.spell.specs.Table.{follows, moves, run}
 use Rattle.spell.specs.Rows.{cellCount, kindCount, kinds, lastState, rows, states}
+use Rattle.spell.specs.Stuck.{afters, anyEnds, ended, goes, spelling, spellingOf}
+use Rattle.spell.specs.Table.{follows, moves, rowAfter, rowRun, run, steps}
 use Rattle.spell.specs.declared.Spelt.{Spelt}
 use Rattle.spell.specs.declared.Spelt.the-variants.{Stuck}
-use Rattle.spell.proofs.Language.{both-true, both}
-use Rattle.spell.proofs.Same.{every-at, sames-is}
-use Rattle.spell.proofs.Alike.{afters-alike, afters-keep, alike, alikes, beq-is}
-use Rattle.spell.proofs.Ways.{sortCount, sortOf, ways}
-use Rattle.spell.proofs.Tested.{along, byteRight, bytes-right, cellRight, cells-right, empty, rowRight, rows-right, sort, stands, stateRight, states-right, stepRight}
 
 -- ---- bytes
 
@@ -38,7 +38,7 @@ byte b h =
     let u = both-true (eqb (getD kinds b 0) (getD kinds (sort (getD sortOf b 0)) 0)) _ (v .1) in
     record { like = w .0; sorted = ltb-true _ _ (v .0); one-kind = eqb-true _ _ (u .0); kind = ltb-true _ _ (u .1) }
 
-pub follows-small : (q b : ℕ) → q < states → b < 256 → follows q b < states
+follows-small : (q b : ℕ) → q < states → b < 256 → follows q b < states
 unfolding follows cellRight
 follows-small q b hq hb =
     let k = byte b hb .kind in
@@ -105,38 +105,71 @@ first : stands 1 ≡ text ∷ []
 unfolding stands along ways
 first = refl
 
-pub run-stuck : (s : List ℕ) → Bytes s → run s 1 0 ≡ spellingOf s
+run-stuck : (s : List ℕ) → Bytes s → run s 1 0 ≡ spellingOf s
 unfolding spellingOf
 run-stuck s h = sym (rw first at (sim s 1 0 (omega arith) h))
 
--- ---- one turn of the run, as the loop takes it
+-- ---- the run by places
 
-run-cons : (s : List ℕ) (q i : ℕ) → i < length s → run (drop i s) q i ≡ moves (run (drop (i + 1) s)) (follows q (getD s i 0)) i
-unfolding run
-run-cons s q i h = rw (add-one, drop-cons s i 0)
+step-at : (i : ℕ) → getD steps i 0 ≡ getD rows i 0 * kindCount
+unfolding steps
+step-at i = List·getD-map (λ (q : ℕ). q * kindCount) rows i 0
+
+row-follows : (q b : ℕ) → rowAfter (q * kindCount) b ≡ follows q b * kindCount
+unfolding rowAfter follows
+row-follows q b = step-at (q * kindCount + getD kinds b 0)
 
 moves-go : (f : ℕ → ℕ → Spelt) (q i : ℕ) → (q ≡ 0 → ⊥) → moves f q i ≡ f q (i + 1)
 moves-go f zero i h = absurd (h refl)
 moves-go f (suc q) i h = refl
 
-pub run-go : (s : List ℕ) (q r i : ℕ) → i < length s → r ≡ follows q (getD s i 0) → (r ≡ 0 → ⊥) → run (drop i s) q i ≡ run (drop (i + 1) s) r (i + 1)
-run-go s q r i h e f = rw (run-cons s q i h, ← e) (moves-go (run (drop (i + 1) s)) r i f)
+row-moves : (f g : ℕ → ℕ → Spelt) (q i : ℕ) → f (q * kindCount) (i + 1) ≡ g q (i + 1) → moves f (q * kindCount) i ≡ moves g q i
+row-moves f g zero i e = refl
+row-moves f g (suc q) i e = moves-go f (suc q * kindCount) i (λ z. omega arith) ∙ e
 
-pub run-stop : (s : List ℕ) (q r i : ℕ) → i < length s → r ≡ follows q (getD s i 0) → r ≡ 0 → run (drop i s) q i ≡ Stuck i
-run-stop s q r i h e f = rw (run-cons s q i h, ← e, f)
+last-row : (q : ℕ) (t : Bool) → eqb q lastState ≡ t → eqb (q * kindCount) (lastState * kindCount) ≡ t
+last-row q true e = let w = eqb-true q lastState e in eq-eqb (q * kindCount) (lastState * kindCount) (omega arith)
+last-row q false e = let w = eqb-false q lastState e in ne-eqb (q * kindCount) (lastState * kindCount) (λ z. w (omega arith))
 
-pub run-end : (s : List ℕ) (q i : ℕ) → length s ≤ i → run (drop i s) q i ≡ ended (eqb q lastState) i
-unfolding run
-run-end s q i h = rw (drop-of-length-le s h)
+row-runs : (s : List ℕ) (q i : ℕ) → rowRun s (q * kindCount) i ≡ run s q i
+unfolding rowRun run
+row-runs [] q i = rw (last-row q (eqb q lastState) refl)
+row-runs (b ∷ s) q i = rw (row-follows q b) (row-moves (rowRun s) (run s) (follows q b) i (row-runs s (follows q b) (i + 1)))
+
+pub row-run-stuck : (s : List ℕ) → Bytes s → rowRun s kindCount 0 ≡ spellingOf s
+row-run-stuck s h = row-runs s 1 0 ∙ run-stuck s h
+
+-- ---- one turn of the run, as the loop takes it
+
+run-cons : (s : List ℕ) (p i : ℕ) → i < length s → rowRun (drop i s) p i ≡ moves (rowRun (drop (i + 1) s)) (rowAfter p (getD s i 0)) i
+unfolding rowRun
+run-cons s p i h = rw (add-one, drop-cons s i 0)
+
+pub run-go : (s : List ℕ) (p r i : ℕ) → i < length s → r ≡ rowAfter p (getD s i 0) → (r ≡ 0 → ⊥) → rowRun (drop i s) p i ≡ rowRun (drop (i + 1) s) r (i + 1)
+run-go s p r i h e f = rw (run-cons s p i h, ← e) (moves-go (rowRun (drop (i + 1) s)) r i f)
+
+pub run-stop : (s : List ℕ) (p r i : ℕ) → i < length s → r ≡ rowAfter p (getD s i 0) → r ≡ 0 → rowRun (drop i s) p i ≡ Stuck i
+run-stop s p r i h e f = rw (run-cons s p i h, ← e, f)
+
+pub run-end : (s : List ℕ) (p i : ℕ) → length s ≤ i → rowRun (drop i s) p i ≡ ended (eqb p (lastState * kindCount)) i
+unfolding rowRun
+run-end s p i h = rw (drop-of-length-le s h)
 
 -- ---- the code's reads
 
-pub cell-in : (ks : List ℕ) (q b k : ℕ) → ks ≡ kinds → q < states → b < 256 → k ≡ getD ks b 0 → q * kindCount + k < cellCount
-cell-in ks q b k e hq hb f = let w = byte b hb .kind in let g : k ≡ getD kinds b 0 = rw e at f in omega arith
+pub cell-in : (ks : List ℕ) (p b k : ℕ) → ks ≡ kinds → p + kindCount ≤ cellCount → b < 256 → k ≡ getD ks b 0 → p + k < cellCount
+cell-in ks p b k e hp hb f = let w = byte b hb .kind in let g : k ≡ getD kinds b 0 = rw e at f in omega arith
 
-cell-follows : (ks rs : List ℕ) (q b k r : ℕ) → ks ≡ kinds → rs ≡ rows → k ≡ getD ks b 0 → r ≡ getD rs (q * kindCount + k) 0 → r ≡ follows q b
-unfolding follows
-cell-follows ks rs q b k r e f g h = rw (← e, ← f, ← g) h
+step-small : (i : ℕ) → i < cellCount → getD steps i 0 + kindCount ≤ cellCount
+unfolding cellRight
+step-small i h = let w = ltb-true (getD rows i 0) states (every-at cellRight cellCount i cells-right h) in let e = step-at i in omega arith
 
-pub cell-is : (ks rs : List ℕ) (q b k r : ℕ) → ks ≡ kinds → rs ≡ rows → q < states → b < 256 → k ≡ getD ks b 0 → r ≡ getD rs (q * kindCount + k) 0 → (r ≡ follows q b) × (r < states)
-cell-is ks rs q b k r e f hq hb g h = let w = cell-follows ks rs q b k r e f g h in (w, rw w (follows-small q b hq hb))
+cell-follows : (ks rs : List ℕ) (p b k r : ℕ) → ks ≡ kinds → rs ≡ steps → k ≡ getD ks b 0 → r ≡ getD rs (p + k) 0 → r ≡ rowAfter p b
+unfolding rowAfter
+cell-follows ks rs p b k r e f g h = rw (← e, ← f, ← g) h
+
+pub cell-is : (ks rs : List ℕ) (p b k r : ℕ) → ks ≡ kinds → rs ≡ steps → p + kindCount ≤ cellCount → b < 256 → k ≡ getD ks b 0 → r ≡ getD rs (p + k) 0 → (r ≡ rowAfter p b) × (r + kindCount ≤ cellCount)
+cell-is ks rs p b k r e f hp hb g h =
+    let w = step-small (p + k) (cell-in ks p b k e hp hb g) in
+    let v : r ≡ getD steps (p + k) 0 = rw f at h in
+    (cell-follows ks rs p b k r e f g h, omega arith)

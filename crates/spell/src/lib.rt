@@ -2,10 +2,10 @@
 mod tables;
 
 ghost use mathlib.Core.Path.{_≡_};
-ghost use Prim.Native.Nat.{_<_};
-ghost use Rattle.spell.specs.Rows.{kinds, rows, states};
+ghost use Prim.Native.Nat.{_+_, _≤_};
+ghost use Rattle.spell.specs.Rows.{cellCount, kindCount, kinds};
 ghost use Rattle.spell.specs.Stuck.{spellingOf};
-ghost use Rattle.spell.specs.Table.{follows};
+ghost use Rattle.spell.specs.Table.{rowAfter, steps};
 
 // A clause text, or the place of the first byte that no clause text could continue with.
 pub enum Spelt {
@@ -13,32 +13,31 @@ pub enum Spelt {
     Stuck(usize),
 }
 
-// The state that follows state q at byte b.
-fn follows(ks: &[u8; 256], rs: &[u8; 1240], q: usize, b: u8) -> usize
-    requires { ⌜ (now ks ≡ kinds) × (now rs ≡ rows) × (q < states) ⌝ }
-    ensures { λ r. ⌜ (r ≡ follows q b) × (r < states) ⌝ }
+// The row that follows the one at place row, at byte b.
+fn follows(ks: &[u8; 256], rs: &[u16; 1240], row: usize, b: u8) -> usize
+    requires { ⌜ (now ks ≡ kinds) × (now rs ≡ steps) × (row + kindCount ≤ cellCount) ⌝ }
+    ensures { λ r. ⌜ (r ≡ rowAfter row b) × (r + kindCount ≤ cellCount) ⌝ }
 {
     let at = basics::wide(b);
-    let k = basics::wide(ks[at]);
-    let to = q * tables::KIND_COUNT + k;
-    basics::wide(rs[to])
+    let to = row + basics::wide(ks[at]);
+    basics::wide_u16(rs[to])
 }
 
 // The run over the tables.
-fn scan(ks: &[u8; 256], rs: &[u8; 1240], text: &[u8]) -> Spelt
-    requires { ⌜ (now ks ≡ kinds) × (now rs ≡ rows) ⌝ }
+fn scan(ks: &[u8; 256], rs: &[u16; 1240], text: &[u8]) -> Spelt
+    requires { ⌜ (now ks ≡ kinds) × (now rs ≡ steps) ⌝ }
     ensures { λ r. ⌜ r ≡ spellingOf (now (text .entry)) ⌝ }
 {
-    let mut q: usize = 1;
+    let mut row: usize = tables::FIRST_ROW;
     let mut i: usize = 0;
     while i < text.len() {
-        q = follows(ks, rs, q, text[i]);
-        if q == 0 {
+        row = follows(ks, rs, row, text[i]);
+        if row == 0 {
             return Spelt::Stuck(i);
         }
         i += 1;
     }
-    if q == tables::LAST {
+    if row == tables::LAST_ROW {
         return Spelt::Right;
     }
     Spelt::Stuck(i)
@@ -48,7 +47,5 @@ fn scan(ks: &[u8; 256], rs: &[u8; 1240], text: &[u8]) -> Spelt
 pub fn spelling(text: &[u8]) -> Spelt
     ensures { λ r. ⌜ r ≡ spellingOf (now (text .entry)) ⌝ }
 {
-    let ks = tables::KINDS;
-    let rs = tables::ROWS;
-    scan(&ks, &rs, text)
+    scan(&tables::KINDS, &tables::STEPS, text)
 }

@@ -1,13 +1,12 @@
 -- A record whose front is laid behind the rest, with variables of its own.
 use mathlib.Core.Path.{_∙_, _≡_, ap, refl, sym}
 use mathlib.Core.Bool.{_&&_, Bool, false, true}
-use mathlib.Core.List.{[], _++_, _∷_, List}
-use Prim.Native.Nat.{_+_, _<_, _≤_, suc, ℕ}
+use mathlib.Core.List.{[], _++_, List}
+use Prim.Native.Nat.{_+_, _≤_, ℕ}
 use lib.Dec.{leb, ltb}
-use lib.ListN.{drop, length, length-append, set, take}
-use lib.Seq.{length-take-le, set-comm, take-all}
+use lib.ListN.{drop, length, length-append, take}
+use lib.Seq.{length-take-le, take-all}
 use borrow.Author.Tests.{le-leb, leb-false, leb-true, lt-leb, ltb-false, ltb-true}
-use native.Mathlib.Nat.{add-zero}
 use native.Mathlib.Omega.{arith}
 use Rattle.lay.specs.Lay.{laid}
 use Rattle.lay_literal.proofs.Laid.{lows-append}
@@ -15,31 +14,15 @@ use Rattle.lay_literal.specs.Lows.{lows}
 use Rattle.lay_text.proofs.Laws.{capped-in, capped-out}
 use Rattle.lay_text.specs.Laying.{capped, most, Writes}
 use Rattle.lay_text.specs.declared.To.{To}
-use Rattle.read_names.proofs.Tabled.{names-length}
+use Rattle.read_names.proofs.Tabled.{names-fit}
 use Rattle.read_names.specs.Tables.{Adds, namesAt, sorted}
 use Rattle.take_clause.specs.TakesClause.{starting, TakesLine}
 use Rattle.take_clause.specs.declared.Taken.{Taken}
-use Rattle.take_term.proofs.Laws.{extends-refl, lows-length}
+use Rattle.take_term.proofs.Laws.{extends-refl, laid-under, lows-length}
 use Rattle.take_term.specs.Takes.{Rows, rows, Takes}
 use Rattle.take_term.specs.declared.Reading.{Reading}
 use Rattle.text_names.specs.Names.{Name}
 use Rattle.text_program.specs.Numbered.{variableNames}
-
--- ---- bytes laid before others
-
-set-laid : (xs o : List ℕ) (i j b : ℕ) → i < j → set (laid o j xs) i b ≡ laid (set o i b) j xs
-unfolding laid
-set-laid [] o i j b h = refl
-set-laid (x ∷ xs) o i j b h =
-    let apart : j ≡ i → ⊥ = λ e. omega arith in
-    set-laid xs (set o j x) i (suc j) b (omega arith) ∙ ap (λ (l : List ℕ). laid l (suc j) xs) (set-comm o j i x b apart)
-
-pub laid-under : (fs xs o : List ℕ) (at : ℕ) → laid (laid o (at + length fs) xs) at fs ≡ laid o at (fs ++ xs)
-unfolding laid
-laid-under [] xs o at = rw add-zero
-laid-under (f ∷ fs) xs o at =
-    let e : at + suc (length fs) ≡ suc at + length fs = omega arith in
-    ap (λ (l : List ℕ). laid l (suc at) fs) (set-laid xs o at (at + suc (length fs)) f (omega arith)) ∙ rw e (laid-under fs xs (set o at f) (suc at))
 
 -- ---- variables
 
@@ -49,7 +32,7 @@ module _ (s t u : List ℕ) (n : ℕ) (ts : List Name) (l : length t ≡ 17) (a 
   names-of = a .names ∙ ap (λ (k : ℕ). take k (variableNames ts)) l
 
   size-of : length (take 17 (variableNames ts)) ≡ n
-  size-of = sym (ap (λ (k : List Name). length k) names-of) ∙ names-length s (take n u) ∙ length-take-le n u (a .inside)
+  size-of = sym (ap (λ (k : List Name). length k) names-of) ∙ names-fit s u n (a .inside)
 
   -- no more than 16, counted in a table of 17
   pub vars-counted : leb n 16 ≡ leb (length (variableNames ts)) 16
@@ -60,10 +43,10 @@ module _ (s t u : List ℕ) (n : ℕ) (ts : List Name) (l : length t ≡ 17) (a 
       go false e = let h = leb-false (length (variableNames ts)) 16 e in let z = size-of in let y = length-take-le 17 (variableNames ts) (omega arith) in lt-leb n 16 (omega arith)
 
   -- then all of them are there
-  pub vars-all : length (variableNames ts) ≤ 16 → namesAt s (take n u) ≡ variableNames ts
+  vars-all : length (variableNames ts) ≤ 16 → namesAt s (take n u) ≡ variableNames ts
   vars-all h = names-of ∙ take-all 17 (variableNames ts) (omega arith)
 
-  pub vars-many : length (variableNames ts) ≤ 16 → n ≡ length (variableNames ts)
+  vars-many : length (variableNames ts) ≤ 16 → n ≡ length (variableNames ts)
   vars-many h = sym size-of ∙ ap (λ (k : List Name). length k) (take-all 17 (variableNames ts) (omega arith))
 
 -- ---- places

@@ -4,18 +4,19 @@ use mathlib.Core.Bool.{_&&_, Bool, false, true}
 use mathlib.Core.List.{[], _++_, _∷_, List, map}
 use Prim.Native.Nat.{_+_, _-_, _≤_, ℕ}
 use lib.Dec.{eqb, leb}
-use lib.ListN.{drop, length}
-use borrow.Author.Tests.{leb-true}
+use lib.ListN.{drop, length, length-map}
 use native.Mathlib.Omega.{arith}
 use Rattle.judge_said.proofs.Sized.{clause-size}
+use Rattle.judge_said.proofs.Told.{ask-parts}
 use Rattle.judge_said.specs.Said.{askRight}
+use Rattle.lay_lines.proofs.Sizes.{clause-long, goal-long, right-parts}
 use Rattle.lay_lines.specs.Fields.{clauseFields, clauseFits, clauseIn}
-use Rattle.lay_literal.specs.Fits.{goalFits}
 use Rattle.lay_lines.specs.Imaged.{asking, askWith}
-use Rattle.lay_lines.proofs.Sizes.{both, clause-long, goal-long, right-parts}
 use Rattle.lay_lines.specs.Lines.{clauseRight, withVars}
-use Rattle.lay_literal.proofs.Laid.{lows-append, lows-cons, map-length, writes-both}
+use Rattle.lay_literal.proofs.Laid.{lows-append, lows-cons}
+use Rattle.lay_literal.specs.Fits.{goalFits}
 use Rattle.lay_literal.specs.Lows.{literalFits, lows}
+use Rattle.lay_text.proofs.Laws.{writes-both}
 use Rattle.lay_text.specs.Laying.{Writes}
 use Rattle.lay_text.specs.declared.To.{To}
 use Rattle.name_index.specs.Index.{Indexed}
@@ -86,7 +87,7 @@ clause-whole : (n : Numbering) (q : SaidClause) (opens : Bool) (at end number ar
 unfolding clauseBytes recordBytes
 clause-whole n q opens at end number arity vars e f g h =
     let size : end - at ≡ 4 + length (look (n .relations) (q .name) ∷ length (map (termNumbered n) (q .terms)) ∷ markBy opens ∷ length (n .variables) ∷ partsBytes n q) = omega arith in
-    rw (size, f, g, h, map-length (termNumbered n) (q .terms)) refl
+    rw (size, f, g, h, length-map (q .terms) (termNumbered n)) refl
 
 clause-right : (q : SaidClause) (many : Bool) (right : Bool) → many ≡ leb (length (variableNames (clauseTerms q))) 16 → right ≡ (leb (length (q .terms)) 4 && (goalRight (q .guard) && goalRight (q .body))) → (many && right) ≡ clauseRight q
 unfolding clauseRight
@@ -132,10 +133,6 @@ module _ (s : List ℕ) (ms : List ModeLine) (from : ℕ) (c : ClauseAt) (h : En
 
 -- ---- the goal
 
-ask-right : (g : List (List Said)) → askRight g ≡ true → (length (variableNames (goalTerms g)) ≤ 16) × (goalRight g ≡ true)
-unfolding askRight
-ask-right g e = let p = both (leb (length (variableNames (goalTerms g))) 16) (goalRight g) e in (leb-true (length (variableNames (goalTerms g))) 16 (p .0), p .1)
-
 ask-told : (g : List (List Said)) (many right : Bool) → many ≡ leb (length (variableNames (goalTerms g))) 16 → right ≡ goalRight g → (many && right) ≡ askRight g
 unfolding askRight
 ask-told g many right e f = rw (e, f) refl
@@ -157,7 +154,7 @@ ask-taken {o} {t} {l} {v} {w} {x} {b} s ms from at n body r hv ha span e tk f g 
     let q = readBody (drop from s) .value in
     let added : Adds s v 0 (b .vars) (x .vars) (sorted true (goalTerms q)) = rw e at (tq .vars) in
     line-taken at n from (askFront (x .at - at) (x .vars)) true true (askRight q) (goalFits true ms q) (goalFits false ms q) (λ cs. askWith (modeNames ms) cs q) r hv ha (omega arith) e tq f
-    (λ k. ask-right q k .0) (λ k cs vs. let z = goal-long (numbersBy (modeNames ms) cs vs) q (ask-right q k .1) in omega arith)
+    (λ k. ask-parts q k .0) (λ k cs vs. let z = goal-long (numbersBy (modeNames ms) cs vs) q (ask-parts q k .1) in omega arith)
     (λ k many cs place. ask-whole (modeNames ms) cs q at (x .at) (x .vars) place many)
     (ap (λ (z : Taken). drop (z .end) s) g ∙ tq .end) (rw g (tq .inside)) (ap (λ (z : Taken). z .at) g) (ap (λ (z : Taken). z .consts) g)
     (ap (λ (z : Taken). z .right) g ∙ ask-told q (leb (x .vars) 16) (body .right) (vars-counted s v (b .vars) (x .vars) (goalTerms q) hv added) (span .right))

@@ -28,7 +28,7 @@ const VARIABLES: usize = 17;
 // How many a clause may have.
 const MOST_VARIABLES: usize = 16;
 
-// How a goal is read: there is none, there is one, or there may be one.
+// How a goal is read: there is none, or there is one; else there may be one.
 const NO_GOAL: usize = 0;
 
 const A_GOAL: usize = 1;
@@ -207,7 +207,7 @@ fn relation_at(
     mode_table::relation(s, rels, arities, chains, lines, from, word.chain)
 }
 
-// What was taken, where the variables are numbered.
+// What was taken; it is right only with at most 16 variables.
 fn told(end: usize, number: usize, semicolon: bool, right: bool, x: Reading) -> Taken
     ensures { λ r. ⌜ r ≡ takenAs end number semicolon right x ⌝ }
 {

@@ -4,17 +4,16 @@ use mathlib.Core.Bool.{_&&_, _||_, Bool, false, true}
 use mathlib.Core.List.{[], _++_, _∷_, append-nil, List, map}
 use Prim.Native.Nat.{_+_, _≤_, ℕ}
 use lib.Dec.{eqb}
-use lib.ListN.{drop, getD, length}
+use lib.ListN.{drop, getD, length, length-map}
 use borrow.Author.Tests.{eq-eqb, ne-eqb}
 use native.Mathlib.Omega.{arith}
 use Rattle.lay.proofs.Laws.{laid-length}
 use Rattle.lay.specs.Lay.{laid}
+use Rattle.lay_literal.proofs.Laid.{joined-map}
 use Rattle.lay_literal.specs.Fits.{goalFits, stageFits}
-use Rattle.lay_literal.proofs.Laid.{joined-map, map-length}
 use Rattle.lay_literal.specs.Lows.{literalFits, lows}
 use Rattle.lay_text.specs.Laying.{capped, most, Writes}
 use Rattle.lay_text.specs.declared.To.{To}
-use Rattle.read_goal.proofs.Turn.{first-at}
 use Rattle.read_names.specs.Tables.{Finds, modeNames}
 use Rattle.read_names.specs.declared.Entry.{Entry}
 use Rattle.take_goal.specs.TakesGoal.{TakesEquality, TakesGoal, TakesLiteral, TakesStage}
@@ -22,6 +21,7 @@ use Rattle.take_goal.specs.Turns.{Puts, TakesLiterals, TakesStages}
 use Rattle.take_term.proofs.Laws.{lows-length, takes-after, takes-as, takes-counted, takes-flags, takes-from, takes-then, takes-to, takes-writes}
 use Rattle.take_term.specs.Takes.{flagged, moved, numbersBy, Ready, relaid, Rows, rows, stands, Takes, TakesTerm, TakesTerms}
 use Rattle.take_term.specs.declared.Reading.{Reading}
+use Rattle.text_names.proofs.Rest.{first-at}
 use Rattle.text_names.specs.Bytes.{front, next, past}
 use Rattle.text_names.specs.Names.{Name}
 use Rattle.text_program.specs.Encoded.{goalBytes, literalBytes, stageBytes, termBytes}
@@ -44,7 +44,7 @@ puts-told w n next v =
     record { row = v .row; state = ap (λ (k : ℕ). stands w (w .end) (w .count) k) (v .place ∙ ap (λ (k : ℕ). capped (w .at + k)) (lows-length (n ∷ []))); small = v .small; size = v .size }
 
 module _ {o p : List ℕ} {w x : Reading} {n : ℕ} (f : Puts o w n p x) where
-  pub puts-end : x .end ≡ w .end
+  puts-end : x .end ≡ w .end
   puts-end = ap (λ (r : Reading). r .end) (f .state)
 
   pub puts-ready : {s t l v : List ℕ} → Ready s (rows o t l v) w → Ready s (rows p t l v) x
@@ -76,10 +76,6 @@ links-same r t =
     let z = t .consts .size in
     omega arith
 
--- the state at another place of the text is one to take from
-pub ready-from : {s : List ℕ} {a : Rows} {w x : Reading} (e n : ℕ) → Ready s a w → x ≡ moved w e n → e ≤ length s → Ready s a x
-ready-from e n r f h = rw f (record { inside = h; index = r .index; vars = r .vars })
-
 -- ---- literals
 
 bytes-equality : (n : Numbering) (a b : Name) → 255 ∷ 2 ∷ (termBytes (termNumbered n a) ++ termBytes (termNumbered n b)) ≡ literalBytes (literalNumbered n (equals a b))
@@ -88,7 +84,7 @@ bytes-equality n a b = rw (append-nil (termBytes (termNumbered n b)))
 
 bytes-call : (n : Numbering) (p : Name) (ts : List Name) (r k : ℕ) → r ≡ literalNumbered n (calls p ts) .rel → k ≡ length ts → r ∷ k ∷ joined termBytes (map (termNumbered n) ts) ≡ literalBytes (literalNumbered n (calls p ts))
 unfolding literalBytes
-bytes-call n p ts r k e f = rw (e, f, map-length (termNumbered n) ts)
+bytes-call n p ts r k e f = rw (e, f, length-map ts (termNumbered n))
 
 -- a term at a place that is told otherwise
 term-at : {s : List ℕ} {a : Rows} {w : Reading} {b : Rows} {x : Reading} (y : List ℕ) → drop (w .end) s ≡ y → TakesTerm s a w b x → (rels : List Name) →
@@ -140,11 +136,11 @@ literal-as ms e t = rw (← e) t
 
 bytes-stage : (n : Numbering) (st : List Said) (k : ℕ) → k ≡ length st → k ∷ joined (λ (l : Said). literalBytes (literalNumbered n l)) st ≡ stageBytes (map (literalNumbered n) st)
 unfolding stageBytes
-bytes-stage n st k e = rw (e, map-length (literalNumbered n) st, joined-map literalBytes (literalNumbered n) st)
+bytes-stage n st k e = rw (e, length-map st (literalNumbered n), joined-map literalBytes (literalNumbered n) st)
 
 bytes-goal : (n : Numbering) (g : List (List Said)) (k : ℕ) → k ≡ length g → k ∷ joined (λ (st : List Said). stageBytes (map (literalNumbered n) st)) g ≡ goalBytes (goalNumbered n g)
 unfolding goalBytes
-bytes-goal n g k e = rw (e, map-length (map (literalNumbered n)) g, joined-map stageBytes (map (literalNumbered n)) g)
+bytes-goal n g k e = rw (e, length-map g (map (literalNumbered n)), joined-map stageBytes (map (literalNumbered n)) g)
 
 module _ {s t l v : List ℕ} {o p q : List ℕ} {w x y : Reading} {b : Rows} (ms : List ModeLine) where
   pub take-stage : (read : Reader (List Said)) → Puts o w 0 p x → TakesLiterals s ms (rows p t l v) x (read (drop (x .end) s)) b y → q ≡ laid (b .out) (w .at) (lows (y .count ∷ [])) →

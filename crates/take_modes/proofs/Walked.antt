@@ -1,27 +1,27 @@
 -- One turn of the loop over mode lines.
 use mathlib.Core.Path.{_∙_, _≡_, ap, refl, sym}
-use mathlib.Core.Bool.{Bool, cond, false, true}
-use mathlib.Core.List.{[], _++_, _∷_, append-assoc, append-nil, List, map-append}
+use mathlib.Core.Bool.{Bool, false, true}
+use mathlib.Core.List.{[], _++_, _∷_, append-assoc, append-nil, List, map, map-append}
 use Prim.Native.Nat.{_*_, _+_, _-_, _<_, _≤_, suc, zero, ℕ}
 use lib.Dec.{leb}
 use lib.ListN.{drop, getD, length, length-append, length-set, set, take}
-use lib.Seq.{getD-append-seam, length-take-le, take-all, take-suc-set}
+use lib.Seq.{getD-append-seam, take-all, take-suc-set}
 use borrow.Author.Tests.{eq-eqb, le-ltb, leb-false, leb-true, ne-eqb}
 use native.Mathlib.Omega.{arith}
 use native.Mathlib.Numerals.{add-one}
 use Rattle.judge_image.specs.Judged.{relationJudged, relationsJudged}
+use Rattle.judge_lines.proofs.Judging.{inGoes, never}
 use Rattle.judge_lines.proofs.Moded.{line-sized, mode-length, mode-tested, modes-end, modes-on, modes-stop}
 use Rattle.judge_lines.specs.Whole.{Opening}
 use Rattle.judge_text.specs.Tests.{tested}
 use Rattle.lay.proofs.Laws.{laid-length, laid-then}
 use Rattle.lay.specs.Lay.{laid}
 use Rattle.lay_lines.specs.Lines.{modesOf}
-use Rattle.lay_literal.proofs.Laid.{lows-append, writes-both}
+use Rattle.lay_literal.proofs.Laid.{lows-append}
 use Rattle.lay_literal.specs.Lows.{lows}
+use Rattle.lay_text.proofs.Laws.{writes-both}
 use Rattle.lay_text.specs.Laying.{Writes}
 use Rattle.lay_text.specs.declared.To.{To}
-use Rattle.mode_table.specs.Moded.{Moded}
-use Rattle.name_index.proofs.Looked.{same-self}
 use Rattle.name_index.specs.Index.{AddsOne, chainOf, Indexed}
 use Rattle.name_index.specs.declared.Added.{Added}
 use Rattle.parlog.specs.Load.{nothingRead, refusal}
@@ -30,31 +30,25 @@ use Rattle.parlog.specs.declared.Loaded.the-variants.{Refused}
 use Rattle.parlog.specs.declared.Progress.{Progress}
 use Rattle.parlog.specs.declared.Verdict.{Verdict}
 use Rattle.parlog.specs.declared.Verdict.the-variants.{Goes, Refuses}
-use Rattle.read_goal.proofs.Turn.{first-at}
 use Rattle.read_goal.specs.Spans.{Spans}
 use Rattle.read_goal.specs.declared.Span.{Span}
-use Rattle.read_names.proofs.Tabled.{names-length}
+use Rattle.read_names.proofs.Short.{line-behind, lines-more}
+use Rattle.read_names.proofs.Tabled.{names-fit}
 use Rattle.read_names.specs.Tables.{modeNames, modesFrom, namesAt}
-use Rattle.take_modes.proofs.Short.{line-behind, lines-more}
 use Rattle.take_modes.specs.TakesModes.{EntersLine, modesFront, oneMore, ReadsLine, saidBy, TakesModes, toldBy}
 use Rattle.take_modes.specs.declared.Line.{Line}
 use Rattle.take_modes.specs.declared.Modes.{Modes}
-use Rattle.take_term.proofs.Laws.{joined-append, laid-set, lows-length}
+use Rattle.take_term.proofs.Laws.{laid-under, lows-length}
+use Rattle.text_names.proofs.Looked.{look-here}
+use Rattle.text_names.proofs.Rest.{first-at}
 use Rattle.text_names.specs.Bytes.{front, next, past}
-use Rattle.text_names.specs.Names.{add, adds, look, Name, sameName}
+use Rattle.text_names.specs.Names.{add, adds, look, Name}
+use Rattle.text_program.proofs.Joined.{joined-append}
 use Rattle.text_program.specs.Encoded.{recordBytes, relationBytes, wordBytes}
 use Rattle.text_program.specs.Numbered.{joined}
-use Rattle.text_program.specs.Source.{consGot, got, Got, isModeLine, lines, ModeLine, readBrackets, readMode, readModeLine, row}
+use Rattle.text_program.specs.Source.{consGot, Got, got, isModeLine, lines, ModeLine, readBrackets, readMode, readModeLine, row}
 
 -- ---- bytes
-
--- bytes laid before those behind them
-laid-front : (us xs out : List ℕ) (at : ℕ) → laid (laid out (at + length us) xs) at us ≡ laid out at (us ++ xs)
-unfolding laid
-laid-front [] xs out at = let z : at + 0 ≡ at = omega arith in rw z
-laid-front (u ∷ us) xs out at =
-    let z : at + suc (length us) ≡ suc at + length us = omega arith in
-    rw z (ap (λ (l : List ℕ). laid l (suc at) us) (laid-set xs out at (suc at + length us) u (omega arith)) ∙ laid-front us xs (set out at u) (suc at))
 
 pub begin-bytes : {o o1 o2 o3 : List ℕ} {w w1 w2 w3 : To} (count : ℕ) → Writes o w (lows (wordBytes (5 + count))) true o1 w1 → Writes o1 w1 (lows (wordBytes 1)) true o2 w2 → Writes o2 w2 (lows (count ∷ [])) true o3 w3 →
     o3 ≡ laid o (w .at) (lows (modesFront count))
@@ -68,7 +62,7 @@ line-bytes o q z at count ms c e f =
     let k : modesFront count ++ ms ≡ wordBytes (5 + length ms) ++ (wordBytes 1 ++ (length ms ∷ ms)) = rw c refl in
     let n : 4 + length (length ms ∷ ms) ≡ 5 + length ms = omega arith in
     let d : q ≡ laid o (at + length (lows (modesFront count))) (lows ms) = e ∙ ap (λ (i : ℕ). laid o (at + i) (lows ms)) (sym (lows-length (modesFront count))) in
-    f ∙ rw (d, n, ← k, lows-append (modesFront count) ms) (laid-front (lows (modesFront count)) (lows ms) o at)
+    f ∙ rw (d, n, ← k, lows-append (modesFront count) ms) (laid-under (lows (modesFront count)) (lows ms) o at)
 
 -- ---- brackets
 
@@ -82,9 +76,6 @@ module _ (s : List ℕ) (at b : ℕ) (is : b ≡ getD s at 0) where
   brackets-some o p to from h e v = rw (first-at s at, ← is, eq-eqb b 40 h, ← e) v
 
 -- ---- a new name
-
-names-fit : (s t : List ℕ) (n : ℕ) → n ≤ length t → length (namesAt s (take n t)) ≡ n
-names-fit s t n h = names-length s (take n t) ∙ length-take-le n t h
 
 module _ (s t l : List ℕ) (n : ℕ) (x : Name) {u k : List ℕ} {r : Added} (room : n < length t) (fresh : n ≤ look (namesAt s (take n t)) x) (one : AddsOne s t l n x u k r) where
   new-names : namesAt s (take (r .count) u) ≡ namesAt s (take n t) ++ (x ∷ [])
@@ -132,58 +123,51 @@ reads-line {o} s p at name chain from end t after inside is opens v ends behind 
 
 -- ---- tests
 
-abbrev isGoes : Verdict → ℕ
-isGoes (Refuses k) = 0
-isGoes (Goes k) = 1
-
-abbrev inGoes : Progress → Verdict → Progress
-inGoes d (Refuses k) = d
-inGoes d (Goes k) = k
-
 abbrev inRefuses : Verdict → ℕ
 inRefuses (Refuses k) = k
 inRefuses (Goes k) = 7
 
-stops : {P : Type 0} (n : ℕ) (g : Progress) → Refuses n ≡ Goes g → P
-stops n g e = absurd (let z = ap isGoes e in omega arith)
-
 -- what a line that goes on has passed
-pub record Passes (many fits known : Bool) (h g : Progress) : Type 0 where
+record Passes (many fits known : Bool) (h g : Progress) : Type 0 where
   pub few : many ≡ false
   pub right : fits ≡ true
   pub fresh : known ≡ true
   pub goes : g ≡ h
 
-pub tested-goes : (many right known : Bool) (h g : Progress) → tested many right known false h ≡ Goes g → Passes many right known h g
+tested-goes : (many right known : Bool) (h g : Progress) → tested many right known false h ≡ Goes g → Passes many right known h g
 unfolding tested
-tested-goes true right known h g e = stops 6 g e
-tested-goes false false known h g e = stops 4 g e
-tested-goes false true false h g e = stops 5 g e
+tested-goes true right known h g e = never 6 g e
+tested-goes false false known h g e = never 4 g e
+tested-goes false true false h g e = never 5 g e
 tested-goes false true true h g e = record { few = refl; right = refl; fresh = refl; goes = sym (ap (inGoes g) e) }
 
 -- a refusal has a number
-pub tested-refuses : (many right known : Bool) (h : Progress) (n : ℕ) → tested many right known false h ≡ Refuses n → 0 < n
+tested-refuses : (many right known : Bool) (h : Progress) (n : ℕ) → tested many right known false h ≡ Refuses n → 0 < n
 unfolding tested
 tested-refuses true right known h n e = let z = ap inRefuses e in omega arith
 tested-refuses false false known h n e = let z = ap inRefuses e in omega arith
 tested-refuses false true false h n e = let z = ap inRefuses e in omega arith
-tested-refuses false true true h n e = absurd (let z = ap isGoes e in omega arith)
+tested-refuses false true true h n e = never n h (sym e)
 
 refused-with : (n at : ℕ) (next : Loaded) → 0 < n → Refused (refusal n at) ≡ saidBy n at next
 refused-with zero at next h = absurd (omega arith)
 refused-with (suc n) at next h = refl
 
--- a name is looked for in front of the place where it stands
-look-here : (ns rs : List Name) (x : Name) → look (ns ++ (x ∷ rs)) x ≡ look ns x
-unfolding look
-look-here [] rs x = rw (same-self x)
-look-here (y ∷ ns) rs x = ap (λ (n : ℕ). cond (sameName y x) 0 (suc n)) (look-here ns rs x)
-
 -- ---- the loop
+
+-- the first mode lines of a text, each of another name, are in tables; the others stand behind them
+pub record Partly (s t a l : List ℕ) (m n p : ℕ) : Type 0 where
+  pub lines : List ModeLine
+  pub whole : modesFrom s m ≡ lines ++ modesFrom s p
+  pub names : modeNames lines ≡ namesAt s (take n t)
+  pub arities : map (λ (m : ModeLine). length (m .modes)) lines ≡ take n a
+  pub index : Indexed s t l n
+  pub size : length a ≡ length t
+  pub inside : p ≤ length s
 
 -- what is known before a turn
 pub record ModesLeft (s : List ℕ) (m : ℕ) (o q t a l : List ℕ) (p at : ℕ) (g : Progress) (left : ℕ) : Type 0 where
-  pub moded : Moded s t a l (record { from = m; count = g .relations; rest = p })
+  pub moded : Partly s t a l m (g .relations) p
   pub said : (next : ℕ → Progress → Loaded) → relationsJudged (modeNames (modesFrom s m)) next (modesOf (modesFrom s p)) at g ≡ relationsJudged (modeNames (modesFrom s m)) next (modesOf (modesFrom s m)) 0 nothingRead
   pub rest : lines isModeLine readModeLine (drop p s) .rest ≡ lines isModeLine readModeLine (drop m s) .rest
   pub opening : Opening g
@@ -225,10 +209,16 @@ module _ {s : List ℕ} {m : ℕ} {o q t a l : List ℕ} {p at : ℕ} {g : Progr
       rw f
       (record {
         from = refl;
-        moded = here .moded;
+        moded = λ z.
+            record {
+              names = ap modeNames whole ∙ here .moded .names;
+              arities = ap (map (λ (y : ModeLine). length (y .modes))) whole ∙ here .moded .arities;
+              index = here .moded .index;
+              size = here .moded .size;
+            };
         said = λ next. sym (here .said next) ∙ sym (modes-end (modeNames (modesFrom s m)) next at g (drop p s) (lines isModeLine readModeLine (drop p s)) e);
         opening = here .opening;
-        none = λ z. ap (λ (y : Got (List ModeLine)). y .value) e;
+        inside = here .moded .inside;
         rest = λ z. sym (ap (λ (y : Got (List ModeLine)). y .rest) e) ∙ here .rest;
         place = λ z. here .place ∙ ap (λ (y : List ModeLine). length (joined relationBytes (modesOf y))) (sym whole);
         bytes = λ z. here .bytes ∙ ap (λ (y : List ModeLine). laid o 0 (lows (joined relationBytes (modesOf y)))) (sym whole);
@@ -247,7 +237,7 @@ module _ {s : List ℕ} {m : ℕ} {o q t a l : List ℕ} {p at : ℕ} {g : Progr
         ∙ rw (here .moded .names, line .name) refl
 
     -- the tests of the line
-    pub line-judged : tested (leb 32 (g .relations)) (leb (r .count) 4) (leb (g .relations) (look (namesAt s (take (g .relations) t)) (front (drop (r .name) s)))) false (oneMore g)
+    line-judged : tested (leb 32 (g .relations)) (leb (r .count) 4) (leb (g .relations) (look (namesAt s (take (g .relations) t)) (front (drop (r .name) s)))) false (oneMore g)
         ≡ relationJudged (modeNames (modesFrom s m)) g (readModeLine (drop p s) .value .modes)
     line-judged =
         let f = names-fit s t (g .relations) (here .moded .index .inside) in
@@ -264,13 +254,13 @@ module _ {s : List ℕ} {m : ℕ} {o q t a l : List ℕ} {p at : ℕ} {g : Progr
         rw h
         (record {
           from = refl;
-          moded = here .moded;
+          moded = λ z. absurd (omega arith);
           said = λ next.
               sym (here .said next)
               ∙ sym (modes-stop (modeNames (modesFrom s m)) next at g (readModeLine (drop p s) .value) (lines isModeLine readModeLine (drop p s)) (lines isModeLine readModeLine (drop (r .end) s)) n line-cons (sym line-judged ∙ sym e ∙ f))
               ∙ refused-with n at (next at g) k;
           opening = here .opening;
-          none = λ z. absurd (omega arith);
+          inside = here .moded .inside;
           rest = λ z. absurd (omega arith);
           place = λ z. absurd (omega arith);
           bytes = λ z. absurd (omega arith);
@@ -279,7 +269,7 @@ module _ {s : List ℕ} {m : ℕ} {o q t a l : List ℕ} {p at : ℕ} {g : Progr
         })
 
     module _ (v : Verdict) (h : Progress) (e : v ≡ tested (leb 32 (g .relations)) (leb (r .count) 4) (leb (g .relations) (look (namesAt s (take (g .relations) t)) (front (drop (r .name) s)))) false (oneMore g)) (f : v ≡ Goes h) where
-      pub line-passes : Passes (leb 32 (g .relations)) (leb (r .count) 4) (leb (g .relations) (look (namesAt s (take (g .relations) t)) (front (drop (r .name) s)))) (oneMore g) h
+      line-passes : Passes (leb 32 (g .relations)) (leb (r .count) 4) (leb (g .relations) (look (namesAt s (take (g .relations) t)) (front (drop (r .name) s)))) (oneMore g) h
       line-passes = tested-goes (leb 32 (g .relations)) (leb (r .count) 4) (leb (g .relations) (look (namesAt s (take (g .relations) t)) (front (drop (r .name) s)))) (oneMore g) h (sym e ∙ f)
 
       pub line-few : g .relations < 32

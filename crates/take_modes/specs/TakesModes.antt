@@ -1,6 +1,6 @@
 -- The mode lines as they are taken from a text, each tested.
-use mathlib.Core.List.{[], _++_, _∷_, List}
 use mathlib.Core.Path.{_≡_}
+use mathlib.Core.List.{[], _++_, _∷_, List}
 use Prim.Native.Nat.{_+_, _≤_, suc, zero, ℕ}
 use lib.ListN.{drop, length, set, take}
 use Rattle.judge_image.specs.Judged.{relationsJudged}
@@ -56,16 +56,16 @@ oneMore g = record { relations = g .relations + 1; clauses = g .clauses; kind = 
 
 -- what is told of mode lines
 abbrev pub toldBy : ℕ → ℕ → Progress → ℕ → ℕ → Modes
-toldBy m p g number at = record { lines = record { from = m; count = g .relations; rest = p }; number = number; at = at; known = g }
+toldBy m p g number at = record { lines = record { from = m; count = g .relations }; rest = p; number = number; at = at; known = g }
 
 -- the mode lines from place m on are tested one after the other; where none is refused, all are in the tables and their records are laid into row o
 pub record TakesModes (s : List ℕ) (m : ℕ) (o p t a l : List ℕ) (r : Modes) : Type 0 where
   pub from : r .lines .from ≡ m
-  pub moded : Moded s t a l (r .lines)
+  pub moded : r .number ≡ 0 → Moded s t a l (r .lines)
   pub said : (next : ℕ → Progress → Loaded) → relationsJudged (modeNames (modesFrom s m)) next (modesOf (modesFrom s m)) 0 nothingRead ≡ saidBy (r .number) (r .at) (next (r .at) (r .known))
   pub opening : Opening (r .known)
-  pub none : r .number ≡ 0 → modesFrom s (r .lines .rest) ≡ []
-  pub rest : r .number ≡ 0 → drop (r .lines .rest) s ≡ lines isModeLine readModeLine (drop m s) .rest
+  pub inside : r .rest ≤ length s
+  pub rest : r .number ≡ 0 → drop (r .rest) s ≡ lines isModeLine readModeLine (drop m s) .rest
   pub place : r .number ≡ 0 → r .at ≡ length (joined relationBytes (modesOf (modesFrom s m)))
   pub bytes : r .number ≡ 0 → p ≡ laid o 0 (lows (joined relationBytes (modesOf (modesFrom s m))))
   pub near : r .at ≤ 16384

@@ -27,9 +27,10 @@ const OUTPUT: usize = 94;
 // How many bytes a relation's record has before its modes.
 const MODES_AT: usize = 5;
 
-// Which mode lines are in the tables; the number of the first refusal, or 0, and the place of its record, or the place behind all; and what is known there.
+// The mode lines in the tables and the place behind them in the text; the number of the first refusal, or 0, and the place of its record, or the place behind all; and what is known there.
 pub struct Modes {
     pub lines: Lines,
+    pub rest: usize,
     pub number: u8,
     pub at: usize,
     pub known: Progress,
@@ -192,8 +193,8 @@ fn told(m: usize, p: usize, g: Progress, number: u8, at: usize) -> Modes
         lines: Lines {
             from: m,
             count: g.relations,
-            rest: p,
         },
+        rest: p,
         number: number,
         at: at,
         known: g,

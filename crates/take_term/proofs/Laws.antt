@@ -1,105 +1,34 @@
 -- Takers one behind the other.
 use mathlib.Core.Path.{_∙_, _≡_, ap, refl, sym}
-use mathlib.Core.Bool.{_&&_, and-assoc, Bool, cond, false, true}
+use mathlib.Core.Bool.{_&&_, and-assoc, and-true as true-right, Bool, false, true}
 use mathlib.Core.List.{[], _++_, _∷_, append-assoc, append-nil, List}
 use Prim.Native.Nat.{_+_, _<_, _≤_, suc, zero, ℕ}
 use lib.Dec.{leb}
 use lib.ListN.{drop, length, length-append, set, take}
 use lib.Seq.{length-take-le, take-all}
-use borrow.Author.Tests.{leb-false, leb-true, lt-ltb, ltb-true}
+use borrow.Author.Tests.{leb-false, leb-true}
 use native.Mathlib.Omega.{arith}
 use Rattle.lay.specs.Lay.{laid}
 use Rattle.lay_literal.proofs.Laid.{lows-append}
 use Rattle.lay_literal.specs.Lows.{lows}
-use Rattle.lay_text.proofs.Laws.{capped-add, capped-in, capped-laid, true-right}
+use Rattle.lay_text.proofs.Laws.{capped-add, capped-in, capped-laid}
 use Rattle.lay_text.specs.Laying.{capped, most, Writes}
 use Rattle.lay_text.specs.declared.To.{To}
-use Rattle.name_index.proofs.Looked.{look-front, look-most, same-self}
-use Rattle.read_names.proofs.Tabled.{adds-as, adds-none, adds-then, names-length}
+use Rattle.read_names.proofs.Tabled.{adds-as, adds-none, adds-then, names-fit, sorted-append, sorted-none}
 use Rattle.read_names.specs.Tables.{Adds, namesAt, sorted}
 use Rattle.take_term.specs.Takes.{Extends, flagged, moved, Ready, relaid, Rows, stands, Takes}
 use Rattle.take_term.specs.declared.Reading.{Reading}
-use Rattle.text_names.specs.Names.{add, adds, known, look, Name, sameName}
-use Rattle.text_program.specs.Numbered.{isUpper, joined, lowers, uppers}
+use Rattle.text_names.proofs.Added.{adds-grow, look-adds}
+use Rattle.text_names.specs.Names.{adds, look, Name}
+use Rattle.text_program.proofs.Joined.{all-append, joined-append}
+use Rattle.text_program.specs.Numbered.{joined}
 use Rattle.text_program.specs.Parsing.{allOf}
-use Rattle.text_program.specs.Source.{consGot, got, Got}
-
--- ---- names that are known stay so, with their numbers
-
-known-left : (ys zs : List Name) (x : Name) → known ys x ≡ true → known (ys ++ zs) x ≡ true
-known-left ys zs x e =
-    let b = ltb-true (look ys x) (length ys) e in
-    let a = look-front ys zs x b in
-    let c = length-append ys zs in
-    lt-ltb (look (ys ++ zs) x) (length (ys ++ zs)) (omega arith)
-
--- a name that was added is known, by the number that it had or would have
-look-last : (ys : List Name) (x : Name) → look (ys ++ (x ∷ [])) x ≡ look ys x
-unfolding look
-look-last [] x = rw (same-self x)
-look-last (y ∷ ys) x = ap (λ (n : ℕ). cond (sameName y x) 0 (suc n)) (look-last ys x)
-
-known-last : (ys : List Name) (x : Name) → known (ys ++ (x ∷ [])) x ≡ true
-known-last ys x =
-    let a = look-last ys x in
-    let b = look-most ys x in
-    let c = length-append ys (x ∷ []) in
-    lt-ltb (look (ys ++ (x ∷ [])) x) (length (ys ++ (x ∷ []))) (omega arith)
-
-pub look-added : (ys : List Name) (x : Name) → look (add ys x) x ≡ look ys x
-unfolding add
-look-added ys x = go (known ys x)
-  where
-    go : (b : Bool) → look (cond b ys (ys ++ (x ∷ []))) x ≡ look ys x
-    go true = refl
-    go false = look-last ys x
-
-pub known-added : (ys : List Name) (x : Name) → known (add ys x) x ≡ true
-unfolding add
-known-added ys x = go (known ys x) refl
-  where
-    go : (b : Bool) → known ys x ≡ b → known (cond b ys (ys ++ (x ∷ []))) x ≡ true
-    go true e = e
-    go false e = known-last ys x
-
--- what one more name leaves
-pub record Kept (ys zs : List Name) : Type 0 where
-  pub numbers : Extends ys zs
-  pub still : (x : Name) → known ys x ≡ true → known zs x ≡ true
-  pub long : length ys ≤ length zs
-
-kept-same : (ys : List Name) → Kept ys ys
-kept-same ys = record { numbers = λ x h. refl; still = λ x h. h; long = omega arith }
-
-kept-add : (ys : List Name) (x : Name) → Kept ys (add ys x)
-unfolding add
-kept-add ys x = go (known ys x)
-  where
-    go : (b : Bool) → Kept ys (cond b ys (ys ++ (x ∷ [])))
-    go true = kept-same ys
-    go false =
-        let c = length-append ys (x ∷ []) in
-        record { numbers = λ z h. look-front ys (x ∷ []) z (ltb-true (look ys z) (length ys) h); still = λ z h. known-left ys (x ∷ []) z h; long = omega arith }
-
-kept-then : (xs ys zs : List Name) → Kept xs ys → Kept ys zs → Kept xs zs
-kept-then xs ys zs f g =
-    let a = f .long in
-    let b = g .long in
-    record { numbers = λ x h. g .numbers x (f .still x h) ∙ f .numbers x h; still = λ x h. g .still x (f .still x h); long = omega arith }
-
--- and some names more
-pub kept-adds : (xs ys : List Name) → Kept ys (adds ys xs)
-unfolding adds
-kept-adds [] ys = kept-same ys
-kept-adds (x ∷ xs) ys = kept-then ys (add ys x) (adds (add ys x) xs) (kept-add ys x) (kept-adds xs (add ys x))
-
-pub extends-refl : (xs : List Name) → Extends xs xs
-extends-refl xs x h = refl
+use Rattle.text_program.specs.Source.{consGot, Got, got}
 
 -- ---- tables that grow
 
-names-fit : (s t : List ℕ) (n : ℕ) → n ≤ length t → length (namesAt s (take n t)) ≡ n
-names-fit s t n h = names-length s (take n t) ∙ length-take-le n t h
+pub extends-refl : (xs : List Name) → Extends xs xs
+extends-refl xs x h = refl
 
 module _ {s t : List ℕ} {n : ℕ} {u : List ℕ} {m : ℕ} {xs : List Name} (f : Adds s t n u m xs) where
   -- where there was room for all names, all are there
@@ -116,7 +45,7 @@ module _ {s t : List ℕ} {n : ℕ} {u : List ℕ} {m : ℕ} {xs : List Name} (f
           let z = f .size in
           absurd (omega arith)
 
-  pub adds-grows : n ≤ length t → n ≤ m
+  adds-grows : n ≤ length t → n ≤ m
   adds-grows h = go (leb (length (adds (namesAt s (take n t)) xs)) (length t)) refl
     where
       go : (b : Bool) → leb (length (adds (namesAt s (take n t)) xs)) (length t) ≡ b → n ≤ m
@@ -124,7 +53,7 @@ module _ {s t : List ℕ} {n : ℕ} {u : List ℕ} {m : ℕ} {xs : List Name} (f
           let k = names-fit s u m (f .inside) in
           let i = names-fit s t n h in
           let o = ap length (f .names ∙ take-all (length t) (adds (namesAt s (take n t)) xs) (leb-true (length (adds (namesAt s (take n t)) xs)) (length t) e)) in
-          let l = kept-adds xs (namesAt s (take n t)) .long in
+          let l = adds-grow xs (namesAt s (take n t)) in
           omega arith
       go false e =
           let g = leb-false (length (adds (namesAt s (take n t)) xs)) (length t) e in
@@ -140,39 +69,11 @@ module _ {s t : List ℕ} {n : ℕ} {u : List ℕ} {m : ℕ} {xs : List Name} (f
   -- names keep their numbers while a table grows
   pub extends-then : (cs : List Name) → m < length u → Extends (namesAt s (take m u)) cs → Extends (namesAt s (take n t)) cs
   extends-then cs r e x k =
-      let p = kept-adds xs (namesAt s (take n t)) in
+      let p = look-adds xs (namesAt s (take n t)) x k in
       let w = adds-whole r in
-      e x (rw w (p .still x k)) ∙ ap (λ (l : List Name). look l x) w ∙ p .numbers x k
+      e x (rw w (p .1)) ∙ ap (λ (l : List Name). look l x) w ∙ p .0
 
 -- ---- variables and constants
-
-uppers-append : (xs ys : List Name) → uppers (xs ++ ys) ≡ uppers xs ++ uppers ys
-unfolding uppers
-uppers-append [] ys = refl
-uppers-append (x ∷ xs) ys = go (isUpper x) (uppers-append xs ys)
-  where
-    go : (b : Bool) → uppers (xs ++ ys) ≡ uppers xs ++ uppers ys → cond b (x ∷ uppers (xs ++ ys)) (uppers (xs ++ ys)) ≡ cond b (x ∷ uppers xs) (uppers xs) ++ uppers ys
-    go true e = ap (λ (l : List Name). x ∷ l) e
-    go false e = e
-
-lowers-append : (xs ys : List Name) → lowers (xs ++ ys) ≡ lowers xs ++ lowers ys
-unfolding lowers
-lowers-append [] ys = refl
-lowers-append (x ∷ xs) ys = go (isUpper x) (lowers-append xs ys)
-  where
-    go : (b : Bool) → lowers (xs ++ ys) ≡ lowers xs ++ lowers ys → cond b (lowers (xs ++ ys)) (x ∷ lowers (xs ++ ys)) ≡ cond b (lowers xs) (x ∷ lowers xs) ++ lowers ys
-    go true e = e
-    go false e = ap (λ (l : List Name). x ∷ l) e
-
-pub sorted-append : (up : Bool) (xs ys : List Name) → sorted up (xs ++ ys) ≡ sorted up xs ++ sorted up ys
-unfolding sorted
-sorted-append true xs ys = uppers-append xs ys
-sorted-append false xs ys = lowers-append xs ys
-
-pub sorted-none : (up : Bool) → sorted up [] ≡ []
-unfolding sorted uppers lowers
-sorted-none true = refl
-sorted-none false = refl
 
 sorted-then : (up : Bool) {s t : List ℕ} {n : ℕ} {u : List ℕ} {m : ℕ} {v : List ℕ} {k : ℕ} (xs ys : List Name) → Adds s t n u m (sorted up xs) → Adds s u m v k (sorted up ys) → Adds s t n v k (sorted up (xs ++ ys))
 sorted-then up xs ys f g = adds-as (sym (sorted-append up xs ys)) (adds-then (sorted up xs) (sorted up ys) f g)
@@ -208,13 +109,21 @@ set-order (x ∷ l) i zero a b h = absurd (omega arith)
 set-order (x ∷ l) zero (suc j) a b h = refl
 set-order (x ∷ l) (suc i) (suc j) a b h = ap (λ (r : List ℕ). x ∷ r) (set-order l i j a b (omega arith))
 
-pub laid-set : (bs out : List ℕ) (i at a : ℕ) → i < at → set (laid out at bs) i a ≡ laid (set out i a) at bs
+laid-set : (bs out : List ℕ) (i at a : ℕ) → i < at → set (laid out at bs) i a ≡ laid (set out i a) at bs
 unfolding laid
 laid-set [] out i at a h = refl
 laid-set (b ∷ bs) out i at a h = laid-set bs (set out at b) i (suc at) a (omega arith) ∙ ap (λ (l : List ℕ). laid l (suc at) bs) (set-order out i at a b h)
 
+-- bytes laid before those behind them
+pub laid-under : (us xs out : List ℕ) (at : ℕ) → laid (laid out (at + length us) xs) at us ≡ laid out at (us ++ xs)
+unfolding laid
+laid-under [] xs out at = let z : at + 0 ≡ at = omega arith in rw z
+laid-under (u ∷ us) xs out at =
+    let z : at + suc (length us) ≡ suc at + length us = omega arith in
+    rw z (ap (λ (l : List ℕ). laid l (suc at) us) (laid-set xs out at (suc at + length us) u (omega arith)) ∙ laid-under us xs (set out at u) (suc at))
+
 -- bytes laid over those that stood in for them
-pub laid-over : (us ds xs out : List ℕ) (at : ℕ) → length us ≡ length ds → laid (laid out at (us ++ xs)) at ds ≡ laid out at (ds ++ xs)
+laid-over : (us ds xs out : List ℕ) (at : ℕ) → length us ≡ length ds → laid (laid out at (us ++ xs)) at ds ≡ laid out at (ds ++ xs)
 unfolding laid
 laid-over [] [] xs out at e = refl
 laid-over [] (d ∷ ds) xs out at e = absurd (omega arith)
@@ -378,7 +287,7 @@ module _ {s : List ℕ} {a : Rows} {w : Reading} {rest : List ℕ} {items : ℕ}
 
 module _ {s : List ℕ} {a : Rows} {w : Reading} {rest : List ℕ} {items : ℕ} {terms : List Name} {g k : Bool} {b : Rows} {x : Reading} where
   -- bytes written over those that stood in for them at its start
-  pub takes-patched : {p : List ℕ} {v y : To} (us ds : List ℕ) (bs : List Name → List Name → List ℕ) → length us ≡ length ds → Takes s a w rest items terms (λ cs vs. us ++ bs cs vs) g k b x → Writes (b .out) v (lows ds) true p y → v .at ≡ w .at →
+  takes-patched : {p : List ℕ} {v y : To} (us ds : List ℕ) (bs : List Name → List Name → List ℕ) → length us ≡ length ds → Takes s a w rest items terms (λ cs vs. us ++ bs cs vs) g k b x → Writes (b .out) v (lows ds) true p y → v .at ≡ w .at →
       Takes s a w rest items terms (λ cs vs. ds ++ bs cs vs) g k (relaid b p) x
   takes-patched {p} us ds bs e t f h =
       record {
@@ -428,16 +337,6 @@ takes-after {s} {a} {w} {u} {p} {v} {y} {rest} {items} {terms} {bs} {g} {k} {b} 
     }
 
 -- ---- rows of items
-
-pub joined-append : {A B : Type 0} (f : A → List B) (xs ys : List A) → joined f (xs ++ ys) ≡ joined f xs ++ joined f ys
-unfolding joined
-joined-append f [] ys = refl
-joined-append {B = B} f (x ∷ xs) ys = ap (λ (l : List B). f x ++ l) (joined-append f xs ys) ∙ sym (append-assoc (f x) (joined f xs) (joined f ys))
-
-pub all-append : {A : Type 0} (f : A → Bool) (xs ys : List A) → allOf f (xs ++ ys) ≡ (allOf f xs && allOf f ys)
-unfolding allOf
-all-append f [] ys = refl
-all-append f (x ∷ xs) ys = ap (λ (b : Bool). f x && b) (all-append f xs ys) ∙ sym (and-assoc (f x) (allOf f xs) (allOf f ys))
 
 -- of the row W, to be taken from w on, n items are done, which has come to x; Y is left
 pub record TakesRow {A : Type 0} (terms : A → List Name) (bytes : List Name → List Name → A → List ℕ) (ok sure : A → Bool) (s : List ℕ) (a : Rows) (w : Reading) (W : Got (List A)) (b : Rows) (x : Reading) (n : ℕ) (Y : Got (List A)) : Type 0 where

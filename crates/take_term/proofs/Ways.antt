@@ -1,25 +1,27 @@
 -- The ways through the takers of terms.
 use mathlib.Core.Path.{_∙_, _≡_, ap, refl, sym}
-use mathlib.Core.Bool.{Bool, false, not, true}
+use mathlib.Core.Bool.{and-true as true-right, Bool, false, not, true}
 use mathlib.Core.List.{[], _∷_, List, map}
 use Prim.Native.Nat.{_+_, _-_, _<_, _≤_, ℕ}
 use lib.ListN.{drop, getD, length, take}
 use borrow.Author.Tests.{eq-eqb, ne-eqb}
 use Rattle.lay_literal.proofs.Laid.{all-true, joined-map}
 use Rattle.lay_literal.specs.Lows.{lows}
-use Rattle.lay_text.proofs.Laws.{true-right}
 use Rattle.lay_text.specs.Laying.{most, Writes}
 use Rattle.lay_text.specs.declared.To.{To}
 use Rattle.name_index.specs.Index.{AddsOne}
 use Rattle.name_index.specs.declared.Added.{Added}
-use Rattle.read_goal.proofs.Turn.{first-at, row-fuel, row-last, row-more, row-none}
+use Rattle.read_goal.proofs.Turn.{row-fuel, row-last, row-more, row-none}
 use Rattle.read_names.proofs.Tabled.{adds-as, adds-none, note-is, note-not, upper-at}
 use Rattle.read_names.specs.Tables.{Adds, namesAt}
-use Rattle.take_term.proofs.Laws.{adds-whole, known-added, look-added, takes-as, takes-from, takes-none, takes-row-done, takes-row-last, takes-row-on, takes-row-start, takes-to, TakesRow}
+use Rattle.take_term.proofs.Laws.{adds-whole, takes-as, takes-from, takes-none, takes-row-done, takes-row-last, takes-row-on, takes-row-start, takes-to, TakesRow}
 use Rattle.take_term.specs.Takes.{Extends, moved, numbersBy, Ready, Rows, rows, Takes, TakesTerm, TakesTerms}
 use Rattle.take_term.specs.declared.Reading.{Reading}
+use Rattle.text_names.proofs.Added.{known-added, look-added}
+use Rattle.text_names.proofs.Rest.{first-at}
 use Rattle.text_names.specs.Bytes.{front, isCapital, next, past}
 use Rattle.text_names.specs.Names.{add, adds, look, Name}
+use Rattle.text_program.proofs.Joined.{singles}
 use Rattle.text_program.specs.Encoded.{termBytes, wordBytes}
 use Rattle.text_program.specs.Numbered.{isUpper, joined, termNumbered}
 use Rattle.text_program.specs.Parsing.{allOf}
@@ -82,13 +84,8 @@ module _ (s o t l v : List ℕ) (w : Reading) (e b : ℕ) (c : Bool) (is : b ≡
 
 -- ---- terms
 
-singles : (xs : List Name) → joined (λ (x : Name). x ∷ []) xs ≡ xs
-unfolding joined
-singles [] = refl
-singles (x ∷ xs) = ap (λ (l : List Name). x ∷ l) (singles xs)
-
 -- the bytes of a name
-abbrev pub nameBytes : List Name → List Name → List Name → Name → List ℕ
+abbrev nameBytes : List Name → List Name → List Name → Name → List ℕ
 nameBytes rels cs vs x = termBytes (termNumbered (numbersBy rels cs vs) x)
 
 -- some of the names of a row are taken
@@ -96,7 +93,7 @@ abbrev pub NamesLeft : List ℕ → Rows → Reading → Got (List Name) → Row
 NamesLeft s a w W b x n Y = (rels : List Name) → TakesRow (λ (y : Name). y ∷ []) (nameBytes rels) (λ (y : Name). true) (λ (y : Name). true) s a w W b x n Y
 
 -- a row of names is some terms
-pub names-taken : {s : List ℕ} {a : Rows} {w : Reading} {b : Rows} {x : Reading} (rels : List Name) (rest : List ℕ) (xs : List Name) →
+names-taken : {s : List ℕ} {a : Rows} {w : Reading} {b : Rows} {x : Reading} (rels : List Name) (rest : List ℕ) (xs : List Name) →
     Takes s a w rest (length xs) (joined (λ (y : Name). y ∷ []) xs) (λ cs vs. joined (nameBytes rels cs vs) xs) (allOf (λ (y : Name). true) xs) (allOf (λ (y : Name). true) xs) b x →
     Takes s a w rest (length xs) xs (λ cs vs. joined termBytes (map (termNumbered (numbersBy rels cs vs)) xs)) true true b x
 names-taken rels rest xs t = takes-as refl refl (singles xs) (λ cs vs. sym (joined-map termBytes (termNumbered (numbersBy rels cs vs)) xs)) (all-true xs) (all-true xs) t

@@ -1,6 +1,6 @@
 -- How far the clauses of a text have been taken, tested and laid.
 use mathlib.Core.Path.{_∙_, _≡_, ap, refl, sym}
-use mathlib.Core.Bool.{_&&_, and-assoc, Bool, false, true}
+use mathlib.Core.Bool.{_&&_, and-assoc, and-true as true-right, Bool, false, true}
 use mathlib.Core.List.{[], _++_, _∷_, List}
 use Prim.Native.Nat.{_*_, _+_, _-_, _<_, _≤_, ℕ}
 use lib.ListN.{drop, getD, length, length-append, take}
@@ -11,12 +11,11 @@ use Rattle.judge_text.proofs.Tried.{clause-name}
 use Rattle.judge_text.specs.Tests.{Counted, kept}
 use Rattle.lay.proofs.Laws.{laid-none, laid-then}
 use Rattle.lay.specs.Lay.{laid}
-use Rattle.lay_lines.specs.Fields.{clauseFits, clauseIn}
 use Rattle.lay_lines.proofs.Lined.{a-clause}
+use Rattle.lay_lines.specs.Fields.{clauseFits, clauseIn}
 use Rattle.lay_lines.specs.Lines.{clausesFrom, clausesWith, withVars}
 use Rattle.lay_literal.proofs.Laid.{lows-append}
 use Rattle.lay_literal.specs.Lows.{lows}
-use Rattle.lay_text.proofs.Laws.{true-right}
 use Rattle.name_index.specs.Index.{Indexed}
 use Rattle.parlog.specs.declared.Loaded.{Loaded}
 use Rattle.parlog.specs.declared.Progress.{Progress}
@@ -27,13 +26,12 @@ use Rattle.read_names.specs.Tables.{modeNames, namesAt, sorted}
 use Rattle.take_modes.specs.TakesModes.{saidBy}
 use Rattle.take_term.proofs.Laws.{adds-room, extends-then, lows-length}
 use Rattle.take_term.specs.Takes.{Extends}
-use Rattle.take_text.proofs.Gathered.{AddsLeft, gather-done, gather-on, left-start, rowNames}
+use Rattle.take_text.proofs.Left.{AddsLeft, left-done, left-item, left-start, rowNames}
 use Rattle.take_text.proofs.Tested.{said-refused, taken-said}
-use Rattle.take_text.specs.TakesText.{clausesIn, TakesClauses, TakesRest}
-use Rattle.take_text.specs.Turned.{RestTurns, started, takenSaid, turnedBy, Turns}
+use Rattle.take_text.specs.TakesText.{clausesIn, TakesClauses}
+use Rattle.take_text.specs.Turned.{started, takenSaid, turnedBy, Turns}
 use Rattle.take_text.specs.declared.Behind.{Behind}
 use Rattle.take_text.specs.declared.Clauses.{Clauses}
-use Rattle.take_text.specs.declared.Rest.{Rest}
 use Rattle.text_names.specs.Bytes.{front}
 use Rattle.text_names.specs.Names.{Name, sameName}
 use Rattle.text_program.specs.Encoded.{clauseBytes}
@@ -42,7 +40,7 @@ use Rattle.text_program.specs.Parsing.{allOf}
 use Rattle.text_program.specs.Source.{consGot, Got, got, isClause, lines, linesFor, ModeLine, readClause, SaidClause}
 
 -- up to so many clauses from a place on, as they are read
-abbrev pub clausesLeft : List ℕ → ℕ → ℕ → Got (List SaidClause)
+abbrev clausesLeft : List ℕ → ℕ → ℕ → Got (List SaidClause)
 clausesLeft s left from = linesFor left isClause readClause (drop from s)
 
 -- the record of a clause
@@ -50,7 +48,7 @@ abbrev recordIn : List ModeLine → List Name → Bool → SaidClause → List �
 recordIn ms cs opens x = clauseBytes (clauseIn (withVars (modeNames ms) cs x) (markBy opens) x)
 
 -- the records of clauses behind one of a name that ended in `;` or not
-abbrev pub rowIn : List ModeLine → List Name → Bool → Name → Got (List SaidClause) → List ℕ
+abbrev rowIn : List ModeLine → List Name → Bool → Name → Got (List SaidClause) → List ℕ
 rowIn ms cs b name Y = joined clauseBytes (clausesWith (modeNames ms) cs b name (Y .value))
 
 -- all calls have their mode lines
@@ -146,7 +144,7 @@ module _ {s : List ℕ} {ms : List ModeLine} {o t : List ℕ} {from at n : ℕ} 
         index = far .index;
         all = λ z. fit-none ms (w .declared) _ _ e ∙ far .declared;
         done = λ z. sym (ap (λ (y : Got (List SaidClause)). y .rest) e) ∙ far .rest;
-        consts = λ z. gather-done false clauseTerms _ _ e (far .consts);
+        consts = λ z. left-done false clauseTerms _ _ e (far .consts);
         place = λ z cs. let a = far .place cs in let b = ap length (row-none ms cs semicolon (front (drop before s)) _ _ e) in omega arith;
         bytes = λ z r cs x. sym (laid-none p (w .at)) ∙ ap (λ (r : List ℕ). laid p (w .at) (lows r)) (sym (row-none ms cs semicolon (front (drop before s)) _ _ e)) ∙ far .bytes r cs x;
         table = far .consts .size;
@@ -187,7 +185,7 @@ module _ {s : List ℕ} {ms : List ModeLine} {o t : List ℕ} {from at n : ℕ} 
           counted = rw e at (turn .kept);
           near = omega arith;
           index = turn .takes .line .index;
-          consts = gather-on false clauseTerms here (turn .taken .end) _ _ one-more (turn .takes .line .inside) (far .consts) (turn .takes .line .consts);
+          consts = left-item false clauseTerms here (turn .taken .end) _ _ one-more (turn .takes .line .inside) (far .consts) (turn .takes .line .consts);
           place = λ cs.
               let a = far .place cs in
               let b = turn .takes .line .place (f .0) cs in
@@ -250,32 +248,3 @@ turn-links l i turn = let a = i .size in let b = turn .takes .line .index .size 
 -- what was known at the start, told otherwise
 pub known-as : {s : List ℕ} {ms : List ModeLine} {o t : List ℕ} {from at n : ℕ} {g h : Progress} {p u l : List ℕ} {w : Clauses} → g ≡ h → TakesClauses s ms o t from at n g p u l w → TakesClauses s ms o t from at n h p u l w
 known-as e f = rw (← e) f
-
--- ---- the rest
-
--- of up to `left` clauses from a place on there may be left `more`, behind w
-pub record FarRest (s : List ℕ) (ms : List ModeLine) (from left : ℕ) (u l : List ℕ) (w : Rest) (more : ℕ) : Type 0 where
-  pub inside : w .end ≤ length s
-  pub rest : clausesLeft s more (w .end) .rest ≡ clausesLeft s left from .rest
-  pub declared : (w .declared && allFit ms (clausesLeft s more (w .end))) ≡ allFit ms (clausesLeft s left from)
-  pub index : Indexed s u l (w .consts)
-
-module _ {s : List ℕ} {ms : List ModeLine} {from left : ℕ} {u l : List ℕ} {w : Rest} {more : ℕ} (far : FarRest s ms from left u l w more) where
-  pub rest-done : clausesLeft s more (w .end) ≡ got [] (drop (w .end) s) → TakesRest s ms from left u l w
-  rest-done e =
-      record {
-        inside = far .inside;
-        end = sym (ap (λ (y : Got (List SaidClause)). y .rest) e) ∙ far .rest;
-        declared = fit-none ms (w .declared) _ _ e ∙ far .declared;
-        index = far .index;
-      }
-
-  pub rest-on : {v k : List ℕ} {r : Rest} (b : ℕ) → RestTurns s ms w v k r → 0 < more → b ≡ getD s (w .end) 0 → (b ≡ 60 → ⊥) → FarRest s ms from left v k r (more - 1)
-  rest-on {r = r} b turn some is not =
-      let e = line-more isClause readClause s more (w .end) (r .end) true some (a-clause s (w .end) b is not) refl (turn .end) in
-      record {
-        inside = turn .inside;
-        rest = sym (ap (λ (y : Got (List SaidClause)). y .rest) e) ∙ far .rest;
-        declared = rw (turn .declared) (fit-cons ms (w .declared) (clauseFits false ms (readClause (drop (w .end) s) .value)) (readClause (drop (w .end) s) .value) _ _ e refl) ∙ far .declared;
-        index = turn .index;
-      }

@@ -1,3 +1,3 @@
-pub mod Gathered
+pub mod Left
 pub mod Tested
 pub mod Far

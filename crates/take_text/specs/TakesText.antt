@@ -1,7 +1,7 @@
 -- The clauses as they are taken from a text, each tested.
+use mathlib.Core.Path.{_≡_}
 use mathlib.Core.Bool.{_&&_, false}
 use mathlib.Core.List.{[], List}
-use mathlib.Core.Path.{_≡_}
 use Prim.Native.Nat.{_+_, _<_, _≤_, ℕ}
 use lib.ListN.{drop, length, take}
 use Rattle.judge_said.specs.Said.{clausesSaid}
@@ -17,7 +17,6 @@ use Rattle.read_names.specs.Tables.{Adds, modeNames, namesAt, sorted}
 use Rattle.take_modes.specs.TakesModes.{saidBy}
 use Rattle.take_term.specs.Takes.{Extends}
 use Rattle.take_text.specs.declared.Clauses.{Clauses}
-use Rattle.take_text.specs.declared.Rest.{Rest}
 use Rattle.text_names.specs.Names.{Name}
 use Rattle.text_program.specs.Encoded.{clauseBytes}
 use Rattle.text_program.specs.Numbered.{clauseTerms, joined}
@@ -44,10 +43,3 @@ pub record TakesClauses (s : List ℕ) (ms : List ModeLine) (o t : List ℕ) (fr
   pub bytes : r .number ≡ 0 → r .consts < length u → (cs : List Name) → Extends (namesAt s (take (r .consts) u)) cs → p ≡ laid o at (lows (clausesIn s ms from cs))
   pub table : length u ≡ length t
   pub size : length p ≡ length o
-
--- whether each call in up to `left` clauses from a place on has a mode line, and the place behind them
-pub record TakesRest (s : List ℕ) (ms : List ModeLine) (from left : ℕ) (u l : List ℕ) (r : Rest) : Type 0 where
-  pub inside : r .end ≤ length s
-  pub end : drop (r .end) s ≡ linesFor left isClause readClause (drop from s) .rest
-  pub declared : r .declared ≡ allOf (clauseFits false ms) (linesFor left isClause readClause (drop from s) .value)
-  pub index : Indexed s u l (r .consts)

@@ -1,22 +1,19 @@
 -- One clause more of a text, and its tests.
-use mathlib.Core.Bool.{_&&_, Bool, false, true}
-use mathlib.Core.List.{List}
 use mathlib.Core.Path.{_≡_}
-use Prim.Native.Nat.{_-_, _≤_, ℕ}
+use mathlib.Core.Bool.{_&&_, Bool, true}
+use mathlib.Core.List.{List}
+use Prim.Native.Nat.{_-_, ℕ}
 use lib.Dec.{leb}
-use lib.ListN.{drop, length}
+use lib.ListN.{drop}
 use Rattle.judge_image.specs.Judged.{judged}
 use Rattle.judge_text.specs.Tests.{kept}
-use Rattle.lay_lines.specs.Fields.{clauseFits}
-use Rattle.name_index.specs.Index.{Indexed}
 use Rattle.parlog.specs.declared.Progress.{Progress}
 use Rattle.parlog.specs.declared.Verdict.{Verdict}
 use Rattle.parlog.specs.declared.Verdict.the-variants.{Goes, Refuses}
 use Rattle.take_clause.specs.TakesClause.{TakesClause}
 use Rattle.take_clause.specs.declared.Taken.{Taken}
-use Rattle.take_text.specs.declared.Clauses.{Clauses}
-use Rattle.take_text.specs.declared.Rest.{Rest}
 use Rattle.take_text.specs.declared.Behind.{Behind}
+use Rattle.take_text.specs.declared.Clauses.{Clauses}
 use Rattle.text_program.specs.Numbered.{markBy}
 use Rattle.text_program.specs.Source.{ModeLine, readClause}
 
@@ -40,10 +37,3 @@ pub record Turns (s : List ℕ) (ms : List ModeLine) (o t : List ℕ) (w : Claus
   pub next : r .next ≡ turnedBy (takenSaid (w .known) opens (taken .number) (taken .right) (taken .fits)) w taken
   pub kept : kept (takenSaid (w .known) opens (taken .number) (taken .right) (taken .fits))
   pub semicolon : r .semicolon ≡ taken .semicolon
-
--- one clause more, of which only the mode lines of its calls matter
-pub record RestTurns (s : List ℕ) (ms : List ModeLine) (w : Rest) (u l : List ℕ) (r : Rest) : Type 0 where
-  pub inside : r .end ≤ length s
-  pub end : drop (r .end) s ≡ readClause (drop (w .end) s) .rest
-  pub declared : r .declared ≡ (w .declared && clauseFits false ms (readClause (drop (w .end) s) .value))
-  pub index : Indexed s u l (r .consts)

@@ -1,4 +1,4 @@
-// The clauses of a text taken in one pass, each tested; and behind one that is refused, whether each call has a mode line.
+// The clauses of a text taken in one pass, each tested, up to the first that is refused.
 use mode_table::Lines;
 use parlog::Progress;
 use parlog::Verdict;
@@ -11,8 +11,8 @@ ghost use Rattle.judge_text.specs.Tests.{Counted, kept};
 ghost use Rattle.mode_table.specs.Moded.{Moded};
 ghost use Rattle.name_index.specs.Index.{Indexed};
 ghost use Rattle.read_names.specs.Tables.{modesFrom};
-ghost use Rattle.take_text.specs.TakesText.{TakesClauses, TakesRest};
-ghost use Rattle.take_text.specs.Turned.{RestTurns, started, takenSaid, turnedBy, Turns};
+ghost use Rattle.take_text.specs.TakesText.{TakesClauses};
+ghost use Rattle.take_text.specs.Turned.{started, takenSaid, turnedBy, Turns};
 
 // How far the clauses were taken: the place in the text and how many may still follow, the number of the first refusal, or 0, and the place of its record, or the place behind all; how many constants there are, what is known there, and whether each call so far has a mode line.
 pub struct Clauses {
@@ -29,13 +29,6 @@ pub struct Clauses {
 struct Behind {
     next: Clauses,
     semicolon: bool,
-}
-
-// The place behind some clauses, how many constants there are, and whether each call has a mode line.
-pub struct Rest {
-    pub end: usize,
-    pub consts: usize,
-    pub declared: bool,
 }
 
 // The mark that the goal line begins with.
@@ -190,75 +183,6 @@ pub fn clause_lines(
         if 0 < w.number {
             return w;
         }
-    }
-    w
-}
-
-// One clause more, of which only the mode lines of its calls are asked for; its bytes are laid where they do not matter.
-fn rest_turn(
-    s: &[u8],
-    rels: &[usize],
-    arities: &[usize],
-    chains: &[u16],
-    lines: Lines,
-    out: &mut [u8],
-    consts: &mut [usize],
-    links: &mut [u16],
-    w: Rest,
-) -> Rest
-    requires { ⌜ (w .end ≤ length (now s)) × Indexed (now s) (now consts) (now links) (w .consts) × Moded (now s) (now rels) (now arities) (now chains) lines ⌝ }
-    ensures { λ r. ⌜ RestTurns (now (s .entry)) (modesFrom (now (s .entry)) (lines .from)) w (now (consts .exit)) (now (links .exit)) r ⌝ }
-{
-    let c = take_clause::clause(
-        s,
-        rels,
-        arities,
-        chains,
-        lines,
-        out,
-        consts,
-        links,
-        w.end,
-        0,
-        w.consts,
-        false,
-    );
-    Rest {
-        end: c.end,
-        consts: c.consts,
-        declared: basics::and(w.declared, c.declared),
-    }
-}
-
-// Up to `left` clauses from a place on, of which only the mode lines of their calls are asked for.
-pub fn rest_declared(
-    s: &[u8],
-    rels: &[usize],
-    arities: &[usize],
-    chains: &[u16],
-    lines: Lines,
-    out: &mut [u8],
-    consts: &mut [usize],
-    links: &mut [u16],
-    from: usize,
-    left: usize,
-    n: usize,
-) -> Rest
-    requires { ⌜ (from ≤ length (now s)) × Indexed (now s) (now consts) (now links) n × Moded (now s) (now rels) (now arities) (now chains) lines ⌝ }
-    ensures { λ r. ⌜ TakesRest (now (s .entry)) (modesFrom (now (s .entry)) (lines .from)) from left (now (consts .exit)) (now (links .exit)) r ⌝ }
-{
-    let mut w = Rest {
-        end: from,
-        consts: n,
-        declared: true,
-    };
-    let mut more = left;
-    while 0 < more {
-        if place::byte_at(s, w.end) == ARROW {
-            return w;
-        }
-        w = rest_turn(s, rels, arities, chains, lines, out, consts, links, w);
-        more -= 1;
     }
     w
 }

@@ -12,6 +12,7 @@ use Rattle.spell.specs.Forms.{inSpan}
 use Rattle.text_names.specs.Bytes.{back, first, front, isBlank, isCapital, isName, isSmall, skip}
 use Rattle.text_names.specs.Entries.{entryFrom, entryName, isEntry}
 use Rattle.text_names.specs.Names.{Name}
+use Rattle.text_program.specs.Source.{modeWord}
 
 -- ---- bytes
 
@@ -70,6 +71,10 @@ letter-name b e = or-cases (isSmall b) (isCapital b) e (small-name b) (capital-n
 unfoldable pub allName : Name → Bool
 allName [] = true
 allName (b ∷ x) = isName b && allName x
+
+pub word-all : allName modeWord ≡ true
+unfolding allName isName isSmall isCapital
+word-all = refl
 
 -- bytes of names, a letter first
 pub record Spelt (x : Name) : Type 0 where

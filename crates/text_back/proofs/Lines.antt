@@ -12,10 +12,12 @@ use Rattle.parlog.specs.Image.{isInput}
 use Rattle.parlog.specs.Orders.{Each}
 use Rattle.parlog.specs.Program.{Clause, Goal, Literal, Program}
 use Rattle.spell.specs.Forms.{inSpan}
-use Rattle.text_back.proofs.Begin.{allName, back-of, entry-lower, first-of, front-of, Lower, lower-spelt, skip-at, small-low, spelt-begins}
+use Rattle.text_back.proofs.Begin.{back-of, entry-lower, first-of, front-of, Lower, lower-spelt, skip-at, small-low, spelt-begins, word-all}
 use Rattle.text_back.proofs.Items.{goal-begins, goal-first, goal-read, GoalOk, open-no-name, ShutGoal, term-closes, term-commas, TermOk, terms-back, termWay}
 use Rattle.text_back.proofs.Rows.{Back, Between, brackets-back, brackets-first, brackets-skip, Way}
 use Rattle.text_back.proofs.Said.{saidClause, saidClauses, saidGoal, saidModes, saidProgram}
+use Rattle.text_loads.proofs.Decoded.{anything}
+use Rattle.text_names.proofs.Looked.{same-self}
 use Rattle.text_names.specs.Bytes.{first, front, isBlank, isCapital, isName, isSmall, next, past, skip}
 use Rattle.text_names.specs.Entries.{entryName, isEntry}
 use Rattle.text_names.specs.Names.{Name, sameName}
@@ -72,12 +74,12 @@ skip-line s = refl
 
 -- ---- lines one after the other
 
-lines-none : {A : Type 0} (is : List ℕ → Bool) (read : Reader A) (n : ℕ) (s : List ℕ) → is s ≡ false → linesFor n is read s ≡ got [] s
+pub lines-none : {A : Type 0} (is : List ℕ → Bool) (read : Reader A) (n : ℕ) (s : List ℕ) → is s ≡ false → linesFor n is read s ≡ got [] s
 unfolding linesFor
 lines-none is read zero s e = refl
 lines-none is read (suc n) s e = rw e
 
-lines-one : {A : Type 0} (is : List ℕ → Bool) (read : Reader A) (n : ℕ) (s t : List ℕ) (x : A) → is s ≡ true → read s ≡ got x t → linesFor (suc n) is read s ≡ consGot x (linesFor n is read t)
+pub lines-one : {A : Type 0} (is : List ℕ → Bool) (read : Reader A) (n : ℕ) (s t : List ℕ) (x : A) → is s ≡ true → read s ≡ got x t → linesFor (suc n) is read s ≡ consGot x (linesFor n is read t)
 unfolding linesFor
 lines-one is read n s t x e f = rw (e, f)
 
@@ -124,10 +126,6 @@ mode-same (suc (suc m)) h = absurd (omega arith)
 modes-same : (ms : List ℕ) → Each ModeOk ms → map modeValue ms ≡ ms
 modes-same [] o = refl
 modes-same (m ∷ ms) o = rw (mode-same m (o .0), modes-same ms (o .1))
-
-pub anything : {A : Type 0} (xs : List A) → Each {A = A} Anything xs
-anything [] = tt
-anything (x ∷ xs) = (tt, anything xs)
 
 module _ (r : ℕ) (nm : List ℕ) where
   -- ---- goals at the end of a line
@@ -371,10 +369,6 @@ module _ (r : ℕ) (nm : List ℕ) where
     mode-lower : Lower y
     mode-lower = entry-lower nm k named
 
-    word-all : allName modeWord ≡ true
-    unfolding allName isName isSmall isCapital
-    word-all = refl
-
     mode-past : past (modeWord ++ (32 ∷ (y ++ behindMode))) ≡ y ++ behindMode
     mode-past = ap skip (back-of modeWord (32 ∷ (y ++ behindMode)) word-all blank-no-name) ∙ blank-skip (y ++ behindMode) ∙ spelt-begins y behindMode (lower-spelt y mode-lower)
 
@@ -393,15 +387,11 @@ module _ (r : ℕ) (nm : List ℕ) where
         (brackets-back modeWay modes-way mode-commas (λ s. tt) ms (46 ∷ 10 ∷ rest) (anything ms) (rw d (λ e. omega arith)) ∙ rw (modes-same ms o, d))
         ∙ ap (got (record { name = y; modes = ms })) (skip-line rest)
 
-    word-same : sameName modeWord modeWord ≡ true
-    unfolding sameName
-    word-same = refl
-
     pub is-mode-line : isModeLine (modeLineText r nm k ms ++ rest) ≡ true
     unfolding isModeLine
     is-mode-line =
         let p = lower-spelt y mode-lower in
-        rw (mode-split, front-of modeWord (32 ∷ (y ++ behindMode)) word-all blank-no-name, word-same, mode-past, first-of y behindMode p) (mode-lower .small)
+        rw (mode-split, front-of modeWord (32 ∷ (y ++ behindMode)) word-all blank-no-name, same-self modeWord, mode-past, first-of y behindMode p) (mode-lower .small)
 
   modes-long : (k : ℕ) (mss : List (List ℕ)) (rest : List ℕ) → length mss ≤ length (modeLinesText r nm k mss ++ rest)
   unfolding modeLinesText modeLineText

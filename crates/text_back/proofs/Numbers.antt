@@ -14,12 +14,13 @@ use Rattle.parlog.specs.Program.{Clause, Goal, Literal, Program}
 use Rattle.parlog.specs.declared.Term.{Term}
 use Rattle.parlog.specs.declared.Term.the-variants.{Const, Var}
 use Rattle.text_back.proofs.Begin.{entry-lower, small-no-capital}
-use Rattle.text_back.proofs.Firsts.{adds-appear, appear-below, firsts-length, look-first, same-refl}
+use Rattle.text_back.proofs.Firsts.{adds-appear, appear-below, firsts-length, look-first}
 use Rattle.text_back.proofs.Items.{GoalOk, LiteralOk, TermOk}
 use Rattle.text_back.proofs.Lines.{ClauseOk, LinesOk, ModeOk}
 use Rattle.text_back.proofs.Rows.{RowOk}
 use Rattle.text_back.proofs.Said.{said, saidBy, saidClause, saidClauses, saidGoal, saidModes, saidProgram}
 use Rattle.text_back.specs.Back.{Appear, constantsIn, Distinct, firsts, PrintsBack, termsOf, termsOfClause, termsOfGoal, VariablesAppear, variablesIn}
+use Rattle.text_names.proofs.Looked.{same-self}
 use Rattle.text_names.specs.Bytes.{first, isCapital}
 use Rattle.text_names.specs.Entries.{entryName, isEntry}
 use Rattle.text_names.specs.Names.{adds, look, Name, sameName}
@@ -428,7 +429,7 @@ module _ (nm : List ℕ) (pr : Program) (n : ℕ) (made : Made pr) (fit : Prints
 
   mark-again : (b c : Clause) → MarkBehind b c → markBy (eqb (c .mark) 1 && sameName (entryName nm (b .rel)) (entryName nm (c .rel))) ≡ c .mark
   mark-again b c (inl e) = rw e
-  mark-again b c (inr (e, f)) = rw (e, f, same-refl (entryName nm (c .rel)))
+  mark-again b c (inr (e, f)) = rw (e, f, same-self (entryName nm (c .rel)))
 
   behind-again : (b : Clause) (cs : List Clause) → Each ClauseAll cs → MarksBehind b cs → clausesBehind p (saidClause r nm b (nextMark cs)) (saidClauses r nm cs) ≡ cs
   unfolding clausesBehind saidClauses

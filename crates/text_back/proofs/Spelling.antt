@@ -19,8 +19,9 @@ use Rattle.spell.specs.Stuck.{spellingOf}
 use Rattle.spell.specs.declared.Spelt.the-variants.{Right}
 use Rattle.text_back.proofs.Begin.{allName, entry-lower, Lower, lower-spelt, or-cases, Spelt, spelt-begins, spelt-some}
 use Rattle.text_back.proofs.Items.{equality-text, goal-begins, GoalOk, LiteralOk, literals-back, literalWay, stages-back, stageWay, term-commas, term-spelt, TermOk, terms-back, termWay}
-use Rattle.text_back.proofs.Lines.{anything, arrow-skip, blank-skip, clause-split, ClauseOk, clauses-solid, colon-skip, goal-line-solid, guard-split, LinesOk, mode-commas, mode-split, modes-solid, modes-way, modeWay, name-lower, plain-skip, skip-stop, stopOf, Stops, stops-46, stops-by}
+use Rattle.text_back.proofs.Lines.{arrow-skip, blank-skip, clause-split, ClauseOk, clauses-solid, colon-skip, goal-line-solid, guard-split, LinesOk, mode-commas, mode-split, modes-solid, modes-way, modeWay, name-lower, plain-skip, skip-stop, stopOf, Stops, stops-46, stops-by}
 use Rattle.text_back.proofs.Rows.{Back, Between, bracket-split, rest-more, row-split, RowOk, rows-back, Way}
+use Rattle.text_loads.proofs.Decoded.{anything}
 use Rattle.text_names.specs.Bytes.{isBlank, isCapital, isName, isSmall, skip}
 use Rattle.text_names.specs.Entries.{entryName, isEntry}
 use Rattle.text_program.specs.Numbered.{joined}
@@ -73,7 +74,7 @@ term-reads (b ∷ x) s p =
 mark-reads : (m : ℕ) (s : List ℕ) → Reads (mark m) (m ∷ s) (skip s)
 mark-reads m s = read-then (read-byte (one-span m m refl)) (skip-reads s)
 
-byte-reads : (m : ℕ) (s : List ℕ) → Reads (byte m) (m ∷ s) s
+pub byte-reads : (m : ℕ) (s : List ℕ) → Reads (byte m) (m ∷ s) s
 byte-reads m s = read-byte (one-span m m refl)
 
 arrow-reads : (s : List ℕ) → Reads arrow (60 ∷ 45 ∷ s) (skip s)
@@ -94,7 +95,7 @@ many-join (read-more a p) q = read-more a (many-join p q)
 pub data Run (f m : Form) (s u : List ℕ) : Type 0 where
   run : {t : List ℕ} → Reads f s t → Reads (many (m then f)) t u → Run f m s u
 
-run-join : {f m : Form} {s t v u : List ℕ} → Run f m s t → Reads m t v → Run f m v u → Run f m s u
+pub run-join : {f m : Form} {s t v u : List ℕ} → Run f m s t → Reads m t v → Run f m v u → Run f m s u
 run-join (run a b) c (run d e) = run a (many-join b (read-more (read-then c d) e))
 
 run-of : {f m : Form} {s t u : List ℕ} → s ≡ t → Run f m t u → Run f m s u

@@ -11,9 +11,10 @@ use Rattle.parlog.proofs.Bools.{never, not-so}
 use Rattle.parlog.specs.Orders.{Each}
 use Rattle.spell.specs.Forms.{_or_, _then_, Form, many, read-byte, read-end, read-left, read-more, read-none, read-right, read-then, Reads}
 use Rattle.spell.specs.Grammar.{arrow, blank, blanks, bracketed, byte, clause, ClauseText, goal, lower, mark, modeLine, perhaps, term, text}
-use Rattle.text_back.proofs.Begin.{allName, back-of, front-lower, front-none, front-of, letter-high, Lower, small-low, small-name, Spelt}
+use Rattle.text_back.proofs.Begin.{back-of, front-lower, front-none, front-of, letter-high, Lower, small-low, small-name, Spelt, word-all}
 use Rattle.text_back.proofs.Lines.{Stops, stops-46, stops-59}
 use Rattle.text_forth.proofs.Follows.{B, blank-first, blanks-skip, brackets-follow, brackets-start, Closed, closed-at, First, first-blank, Follow, goal-follows, goal-letter, GoalSpelt, letter-solid, lower-letter, lower-past, lower-small, mark-at, mark-back, mark-next, mark-shorter, Marked, marked, one, one-byte, shorter, Shut, Solid, term-item, term-starts}
+use Rattle.text_names.proofs.Looked.{same-self}
 use Rattle.text_names.specs.Bytes.{first, front, isBlank, isCapital, isName, isSmall, next, past, skip}
 use Rattle.text_names.specs.Names.{sameName}
 use Rattle.text_program.specs.Source.{behindArrow, Halves, isClause, isModeLine, lines, linesFor, ModeLine, modeWord, readBody, readBrackets, readClause, Reader, readGoal, readHalves, readMode, readModeLine, readTerm, SaidClause, Source, sourceOf}
@@ -23,18 +24,18 @@ use Rattle.text_program.specs.Source.{behindArrow, Halves, isClause, isModeLine
 stops-closed : (t : List ℕ) → Stops (first t) → Closed t
 stops-closed t p = let l = p .low in record { solid = record { name = p .name; blank = p .blank }; bracket = λ e. omega arith; equality = p .none .2 }
 
-stops-shut : (t : List ℕ) → Stops (first t) → Shut t
+pub stops-shut : (t : List ℕ) → Stops (first t) → Shut t
 stops-shut t p = let l = p .low in record { closed = stops-closed t p; comma = λ e. omega arith; both = λ e. omega arith }
 
-colon-shut : (t : List ℕ) → first t ≡ 58 → Shut t
+pub colon-shut : (t : List ℕ) → first t ≡ 58 → Shut t
 unfolding isName isSmall isCapital isBlank
 colon-shut t e = record { closed = closed-at t 58 e refl refl (λ z. omega arith) (λ z. omega arith); comma = λ z. omega arith; both = λ z. omega arith }
 
-end-stops : {s t : List ℕ} → Reads (mark 46 or mark 59) s t → Stops (first s)
+pub end-stops : {s t : List ℕ} → Reads (mark 46 or mark 59) s t → Stops (first s)
 end-stops (read-left a) = let e = mark-at (mark-back a) in rw e stops-46
 end-stops (read-right a) = let e = mark-at (mark-back a) in rw e stops-59
 
-end-next : {s t : List ℕ} → Reads (mark 46 or mark 59) s t → isBlank (first t) ≡ false → next s ≡ t
+pub end-next : {s t : List ℕ} → Reads (mark 46 or mark 59) s t → isBlank (first t) ≡ false → next s ≡ t
 end-next (read-left a) h = mark-next (mark-back a) h
 end-next (read-right a) h = mark-next (mark-back a) h
 
@@ -56,28 +57,28 @@ body-follows : {s t : List ℕ} → Reads (perhaps goal) s t → Stops (first t)
 body-follows {s} (read-left read-none) p = body-none s p
 body-follows {s} {t} (read-right g) p = body-some s t (goal-letter g) (goal-follows g (stops-shut t p))
 
-body-solid : {s t : List ℕ} → Reads (perhaps goal) s t → Stops (first t) → isBlank (first s) ≡ false
+pub body-solid : {s t : List ℕ} → Reads (perhaps goal) s t → Stops (first t) → isBlank (first s) ≡ false
 body-solid (read-left read-none) p = p .blank
 body-solid {s} (read-right g) p = letter-solid s (goal-letter g)
 
 -- ---- arrows
 
-data Arrow : List ℕ → List ℕ → Type 0 where
+pub data Arrow : List ℕ → List ℕ → Type 0 where
   arrow-of : {u t : List ℕ} → Reads blanks u t → Arrow (60 ∷ 45 ∷ u) t
 
 arrow-by : {s m t : List ℕ} → s ≡ 60 ∷ m → Marked 45 m t → Arrow s t
 arrow-by e (marked r) = rw e (arrow-of r)
 
-byte-back : {m : ℕ} {s t : List ℕ} → Reads (byte m) s t → s ≡ m ∷ t
+pub byte-back : {m : ℕ} {s t : List ℕ} → Reads (byte m) s t → s ≡ m ∷ t
 byte-back {m} {t = t} (read-byte {b = b} e) = ap (λ (x : ℕ). x ∷ t) (one-byte m b e)
 
-arrow-back : {s t : List ℕ} → Reads arrow s t → Arrow s t
+pub arrow-back : {s t : List ℕ} → Reads arrow s t → Arrow s t
 arrow-back (read-then p q) = arrow-by (byte-back p) (mark-back q)
 
-arrow-at : {s t : List ℕ} → Arrow s t → first s ≡ 60
+pub arrow-at : {s t : List ℕ} → Arrow s t → first s ≡ 60
 arrow-at (arrow-of r) = refl
 
-arrow-behind : {s t : List ℕ} → Arrow s t → isBlank (first t) ≡ false → behindArrow s ≡ t
+pub arrow-behind : {s t : List ℕ} → Arrow s t → isBlank (first t) ≡ false → behindArrow s ≡ t
 arrow-behind (arrow-of r) h = sym (blanks-skip r h)
 
 -- ---- halves
@@ -103,7 +104,7 @@ halves-both s v m u t e k w h n f =
     let y : next (readGoal v .rest) ≡ u = ap next (w .comes) ∙ n in
     rw (eq-eqb (first s) 60 e, k, x, y) (record { comes = f .comes; holds = record { guard = w .holds; body = f .holds } })
 
-abbrev halvesForm : Form
+abbrev pub halvesForm : Form
 halvesForm = perhaps (arrow then goal then perhaps (mark 58 then perhaps goal))
 
 halves-follow : {s t : List ℕ} → Reads halvesForm s t → Stops (first t) → Follow HalvesSpelt (readHalves s) t
@@ -157,16 +158,16 @@ module _ {s m u w t : List ℕ} (a : Reads lower s m) (b : Reads (bracketed term
   stop-facts : Mark (first w)
   stop-facts = let p = end-stops d in (p .name, p .blank, stop-behind (first w) p)
 
-  head-facts : Mark (first u)
+  pub head-facts : Mark (first u)
   head-facts = halves-start Mark c arrow-facts stop-facts
 
-  name-facts : Mark (first m)
+  pub name-facts : Mark (first m)
   name-facts = brackets-start Mark b open-facts head-facts
 
-  head-no-open : first u ≡ 40 → ⊥
+  pub head-no-open : first u ≡ 40 → ⊥
   head-no-open = halves-start (λ x. x ≡ 40 → ⊥) c (λ e. omega arith) (λ e. let l = end-stops d .low in omega arith)
 
-  clause-past : past s ≡ m
+  pub clause-past : past s ≡ m
   clause-past = lower-past a (record { name = name-facts .0; blank = name-facts .1 })
 
   pub clause-goes : isBlank (first t) ≡ false → Follow ClauseSpelt (readClause s) t
@@ -215,7 +216,7 @@ mode-item s t (read-right a) h = record { comes = mark-next (mark-back a) (h .bl
 marked-some : {m : ℕ} {s t : List ℕ} → Marked m s t → isBlank m ≡ false → (isBlank (first s) ≡ false) × (0 < length s)
 marked-some (marked r) e = (e, omega arith)
 
-mode-starts : (s t : List ℕ) → Reads (mark 63 or mark 94) s t → (isBlank (first s) ≡ false) × (0 < length s)
+pub mode-starts : (s t : List ℕ) → Reads (mark 63 or mark 94) s t → (isBlank (first s) ≡ false) × (0 < length s)
 unfolding isBlank
 mode-starts s t (read-left a) = marked-some (mark-back a) refl
 mode-starts s t (read-right a) = marked-some (mark-back a) refl
@@ -226,14 +227,6 @@ mode-reads s z m u t e f l w n =
     let y : next (readBrackets readMode m .rest) ≡ t = ap next (w .comes) ∙ n in
     rw (e, f) (record { comes = y; holds = l })
 
-word-all : allName modeWord ≡ true
-unfolding allName isName isSmall isCapital
-word-all = refl
-
-word-same : sameName modeWord modeWord ≡ true
-unfolding sameName
-word-same = refl
-
 skip-one : {s m : List ℕ} → First B s m → skip s ≡ skip m
 unfolding skip
 skip-one (one e) = rw e
@@ -243,18 +236,18 @@ unfolding isName isSmall isCapital isBlank
 stop-46 s e = rw e (refl, refl, refl)
 
 module _ {s x y z m u t : List ℕ} (is : s ≡ modeWord ++ x) (bl : Reads blank x y) (bs : Reads blanks y z) (lo : Reads lower z m) (br : Reads (bracketed (mark 63 or mark 94)) m u) (mk : Reads (mark 46) u t) where
-  mode-end : Mark (first u)
+  pub mode-end : Mark (first u)
   mode-end = stop-46 u (mark-at (mark-back mk))
 
-  mode-name : Mark (first m)
+  pub mode-name : Mark (first m)
   mode-name = brackets-start Mark br open-facts mode-end
 
-  mode-past : past s ≡ z
+  pub mode-past : past s ≡ z
   mode-past =
       let b = blank-first bl in
       ap past is ∙ ap skip (back-of modeWord x word-all (first-blank b)) ∙ skip-one b ∙ sym (blanks-skip bs (letter-solid z (lower-letter lo)))
 
-  name-past : past z ≡ m
+  pub name-past : past z ≡ m
   name-past = lower-past lo (record { name = mode-name .0; blank = mode-name .1 })
 
   mode-front : front s ≡ modeWord
@@ -262,7 +255,7 @@ module _ {s x y z m u t : List ℕ} (is : s ≡ modeWord ++ x) (bl : Reads blank
 
   pub mode-is : isModeLine s ≡ true
   unfolding isModeLine
-  mode-is = rw (mode-front, word-same, mode-past) (lower-small lo)
+  mode-is = rw (mode-front, same-self modeWord, mode-past) (lower-small lo)
 
   pub mode-goes : isBlank (first t) ≡ false → Follow ModeSpelt (readModeLine s) t
   mode-goes h =
@@ -279,7 +272,7 @@ module _ {s x y z m u t : List ℕ} (is : s ≡ modeWord ++ x) (bl : Reads blank
       let f : length s ≡ length (modeWord ++ x) = ap (λ (w : List ℕ). length w) is in
       omega arith
 
-four-bytes : {s a b c x : List ℕ} → s ≡ 109 ∷ a → a ≡ 111 ∷ b → b ≡ 100 ∷ c → c ≡ 101 ∷ x → s ≡ modeWord ++ x
+pub four-bytes : {s a b c x : List ℕ} → s ≡ 109 ∷ a → a ≡ 111 ∷ b → b ≡ 100 ∷ c → c ≡ 101 ∷ x → s ≡ modeWord ++ x
 four-bytes e f g h = e ∙ ap (λ (w : List ℕ). 109 ∷ w) (f ∙ ap (λ (w : List ℕ). 111 ∷ w) (g ∙ ap (λ (w : List ℕ). 100 ∷ w) h))
 
 pub mode-follows : {s t : List ℕ} → Reads modeLine s t → isBlank (first t) ≡ false → Follow ModeSpelt (readModeLine s) t
@@ -333,18 +326,18 @@ pub record SourceSpelt (p : Source) : Type 0 where
   pub clauses : Each ClauseSpelt (p .clauses)
   pub goal : GoalSpelt (p .goal)
 
-goal-no-clause : (s : List ℕ) → first s ≡ 60 → isClause s ≡ false
+pub goal-no-clause : (s : List ℕ) → first s ≡ 60 → isClause s ≡ false
 unfolding isClause
 goal-no-clause s e = rw e
 
-goal-no-mode : (s : List ℕ) → first s ≡ 60 → isModeLine s ≡ false
+pub goal-no-mode : (s : List ℕ) → first s ≡ 60 → isModeLine s ≡ false
 unfolding isModeLine sameName
 goal-no-mode s e = rw (front-none s (ap isName e ∙ arrow-facts .0))
 
-goal-solid : (s : List ℕ) → first s ≡ 60 → isBlank (first s) ≡ false
+pub goal-solid : (s : List ℕ) → first s ≡ 60 → isBlank (first s) ≡ false
 goal-solid s e = ap isBlank e ∙ arrow-facts .1
 
-clauses-no-mode : {s u : List ℕ} → Reads (many clause) s u → isModeLine u ≡ false → isModeLine s ≡ false
+pub clauses-no-mode : {s u : List ℕ} → Reads (many clause) s u → isModeLine u ≡ false → isModeLine s ≡ false
 clauses-no-mode read-end e = e
 clauses-no-mode (read-more p q) e = no-mode-line p
 

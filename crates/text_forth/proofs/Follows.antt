@@ -36,11 +36,11 @@ capital-letter : (b : ℕ) → inSpan 65 25 b ≡ true → (isSmall b || isCapit
 unfolding isCapital
 capital-letter b e = or-right (isSmall b) _ e
 
-small-in-name : (b : ℕ) → inSpan 97 25 b ≡ true → isName b ≡ true
+pub small-in-name : (b : ℕ) → inSpan 97 25 b ≡ true → isName b ≡ true
 unfolding isName isSmall
 small-in-name b e = or-left (inSpan 97 25 b) _ e
 
-capital-in-name : (b : ℕ) → inSpan 65 25 b ≡ true → isName b ≡ true
+pub capital-in-name : (b : ℕ) → inSpan 65 25 b ≡ true → isName b ≡ true
 unfolding isName isCapital
 capital-in-name b e = or-right (isSmall b) _ (or-left (inSpan 65 25 b) _ e)
 
@@ -64,14 +64,14 @@ space-blank : (b : ℕ) → inSpan 32 0 b ≡ true → isBlank b ≡ true
 unfolding isBlank
 space-blank b e = or-right (inSpan 9 1 b) _ (or-right (eqb b 13) _ (eq-eqb b 32 (one-byte 32 b e)))
 
-span-first : {P : ℕ → Type 0} {a n : ℕ} {s t : List ℕ} → ((b : ℕ) → inSpan a n b ≡ true → P b) → Reads (span a n) s t → First P s t
+pub span-first : {P : ℕ → Type 0} {a n : ℕ} {s t : List ℕ} → ((b : ℕ) → inSpan a n b ≡ true → P b) → Reads (span a n) s t → First P s t
 span-first f (read-byte {b = b} e) = one (f b e)
 
 either : {P : ℕ → Type 0} {x y : Form} {s t : List ℕ} → (Reads x s t → First P s t) → (Reads y s t → First P s t) → Reads (x or y) s t → First P s t
 either f g (read-left p) = f p
 either f g (read-right p) = g p
 
-abbrev N : ℕ → Type 0
+abbrev pub N : ℕ → Type 0
 N b = isName b ≡ true
 
 abbrev pub B : ℕ → Type 0
@@ -83,7 +83,7 @@ S b = isSmall b ≡ true
 abbrev L : ℕ → Type 0
 L b = (isSmall b || isCapital b) ≡ true
 
-name-first : {s t : List ℕ} → Reads nameByte s t → First N s t
+pub name-first : {s t : List ℕ} → Reads nameByte s t → First N s t
 name-first = either {P = N} (span-first {P = N} small-in-name) (either {P = N} (span-first {P = N} capital-in-name) (either {P = N} (span-first {P = N} digit-in-name) (span-first {P = N} bar-in-name)))
 
 pub blank-first : {s t : List ℕ} → Reads blank s t → First B s t
@@ -116,7 +116,7 @@ blanks-skip (read-more p q) h = blanks-step (blank-first p) (blanks-skip q h)
 pub first-blank : {s m : List ℕ} → First B s m → isName (first s) ≡ false
 first-blank (one {b = b} e) = blank-no-name b e
 
-blanks-before : {s t : List ℕ} → Reads blanks s t → isName (first t) ≡ false → isName (first s) ≡ false
+pub blanks-before : {s t : List ℕ} → Reads blanks s t → isName (first t) ≡ false → isName (first s) ≡ false
 blanks-before read-end h = h
 blanks-before (read-more p q) h = first-blank (blank-first p)
 
@@ -223,11 +223,11 @@ module _ {A : Type 0} (read : Reader A) (P : A → Type 0) (mark : ℕ) where
 
 -- ---- items in brackets
 
-comma-solid : (s : List ℕ) → first s ≡ 44 → Solid s
+pub comma-solid : (s : List ℕ) → first s ≡ 44 → Solid s
 unfolding isName isSmall isCapital isBlank
 comma-solid s e = record { name = ap isName e; blank = ap isBlank e }
 
-close-solid : (s : List ℕ) → first s ≡ 41 → Solid s
+pub close-solid : (s : List ℕ) → first s ≡ 41 → Solid s
 unfolding isName isSmall isCapital isBlank
 close-solid s e = record { name = ap isName e; blank = ap isBlank e }
 
@@ -284,11 +284,11 @@ pub record Closed (t : List ℕ) : Type 0 where
   pub bracket : first t ≡ 40 → ⊥
   pub equality : first t ≡ 61 → ⊥
 
-equals-solid : (s : List ℕ) → first s ≡ 61 → Solid s
+pub equals-solid : (s : List ℕ) → first s ≡ 61 → Solid s
 unfolding isName isSmall isCapital isBlank
 equals-solid s e = record { name = ap isName e; blank = ap isBlank e }
 
-terms-solid : {s t : List ℕ} → Reads (bracketed term) s t → Closed t → Solid s × (first s ≡ 61 → ⊥)
+pub terms-solid : {s t : List ℕ} → Reads (bracketed term) s t → Closed t → Solid s × (first s ≡ 61 → ⊥)
 terms-solid (read-left read-none) h = (h .solid, h .equality)
 terms-solid {s} (read-right (read-then a p)) h = let e = mark-at (mark-back a) in (open-solid s e, λ z. omega arith)
 
@@ -330,11 +330,11 @@ pub record Shut (t : List ℕ) : Type 0 where
 pub closed-at : (s : List ℕ) (m : ℕ) → first s ≡ m → isName m ≡ false → isBlank m ≡ false → (m ≡ 40 → ⊥) → (m ≡ 61 → ⊥) → Closed s
 closed-at s m e f g h k = record { solid = solid-at s m e f g; bracket = λ z. h (sym e ∙ z); equality = λ z. k (sym e ∙ z) }
 
-comma-closed : (s : List ℕ) → first s ≡ 44 → Closed s
+pub comma-closed : (s : List ℕ) → first s ≡ 44 → Closed s
 unfolding isName isSmall isCapital isBlank
 comma-closed s e = closed-at s 44 e refl refl (λ z. omega arith) (λ z. omega arith)
 
-and-closed : (s : List ℕ) → first s ≡ 38 → Closed s
+pub and-closed : (s : List ℕ) → first s ≡ 38 → Closed s
 unfolding isName isSmall isCapital isBlank
 and-closed s e = closed-at s 38 e refl refl (λ z. omega arith) (λ z. omega arith)
 

@@ -11,15 +11,13 @@ use Rattle.parlog.specs.declared.Term.the-variants.{Const, Var}
 use Rattle.text_back.proofs.Numbers.{constants-append, joined-map, map-append}
 use Rattle.text_back.specs.Back.{Appear, constantsIn, termsOf, termsOfClause, termsOfGoal, VariablesAppear, variablesIn}
 use Rattle.text_forth.proofs.Ordered.{appear-adds}
+use Rattle.text_loads.proofs.Decoded.{anything}
 use Rattle.text_names.specs.Names.{look, Name, sameName}
+use Rattle.text_program.proofs.Joined.{lowers-append}
 use Rattle.text_program.specs.Numbered.{clauseNumbered, clausesBehind, clausesNumbered, clauseTerms, constantNames, goalNumbered, goalTerms, isUpper, joined, literalNumbered, lowers, Numbering, numberingFor, programIn, saidTerms, termNumbered, uppers, variableNames}
 use Rattle.text_program.specs.Source.{calls, equals, Said, SaidClause, Source}
 
 -- ---- the terms of what was numbered
-
-anything : {A : Type 0} (xs : List A) → Each (λ (x : A). Unit {0}) xs
-anything [] = tt
-anything (x ∷ xs) = (tt, anything xs)
 
 literal-terms : (n : Numbering) (l : Said) → literalNumbered n l .args ≡ map (termNumbered n) (saidTerms l)
 literal-terms n (calls p ts) = refl
@@ -80,15 +78,6 @@ unfolding programIn
 goal-appears p = rw (goal-terms (numberingFor p (goalTerms (p .goal))) (p .goal)) (variables-appear p (goalTerms (p .goal)))
 
 -- ---- constants appear in order
-
-lowers-append : (xs ys : List Name) → lowers (xs ++ ys) ≡ lowers xs ++ lowers ys
-unfolding lowers
-lowers-append [] ys = refl
-lowers-append (x ∷ xs) ys = go (isUpper x) (lowers-append xs ys)
-  where
-    go : (b : Bool) → lowers (xs ++ ys) ≡ lowers xs ++ lowers ys → cond b (lowers (xs ++ ys)) (x ∷ lowers (xs ++ ys)) ≡ cond b (lowers xs) (x ∷ lowers xs) ++ lowers ys
-    go true i = i
-    go false i = ap (λ (zs : List Name). x ∷ zs) i
 
 module _ (p : Source) where
   abbrev by : List Name → List ℕ

@@ -2,7 +2,7 @@
 use mathlib.Core.Path.{_∙_, _≡_, ap, refl, sym}
 use mathlib.Core.Bool.{Bool, cond, false, true}
 use mathlib.Core.List.{[], _++_, _∷_, List, map}
-use Prim.Native.Nat.{_<_, _≤_, suc, ℕ}
+use Prim.Native.Nat.{_<_, suc, ℕ}
 use lib.ListN.{getD, length, length-append, List·getD-append}
 use lib.Seq.{getD-append-seam}
 use borrow.Author.Tests.{ltb-false, ltb-true}
@@ -11,10 +11,10 @@ use Rattle.parlog.proofs.Bools.{never, split}
 use Rattle.parlog.proofs.Scans.{below-suc}
 use Rattle.parlog.specs.Orders.{Each}
 use Rattle.text_back.proofs.Begin.{Lower, or-cases, Spelt}
-use Rattle.text_back.proofs.Firsts.{look-behind, look-front, look-self, look-within}
 use Rattle.text_back.proofs.Numbers.{each-join}
 use Rattle.text_back.specs.Back.{Appear, Distinct, first-time, met-before, no-more}
-use Rattle.text_loads.proofs.Fitting.{look-most}
+use Rattle.text_names.proofs.Added.{add-fresh, add-old, look-adds}
+use Rattle.text_names.proofs.Looked.{known-own, look-front, look-here, look-within, not-known}
 use Rattle.text_names.specs.Bytes.{first, isCapital, isSmall}
 use Rattle.text_names.specs.Names.{add, adds, known, look, Name}
 use Rattle.text_program.specs.Numbered.{isUpper, lowers}
@@ -22,53 +22,26 @@ use Rattle.text_program.specs.Parsing.{repeated}
 
 -- ---- one name more
 
-not-known : (ys : List Name) (x : Name) → known ys x ≡ false → look ys x ≡ length ys
-not-known ys x e = let a = ltb-false (look ys x) (length ys) e in let b = look-most ys x in omega arith
-
-add-old : (ys : List Name) (x : Name) → known ys x ≡ true → add ys x ≡ ys
-unfolding add
-add-old ys x e = rw e
-
-add-fresh : (ys : List Name) (x : Name) → known ys x ≡ false → add ys x ≡ ys ++ (x ∷ [])
-unfolding add
-add-fresh ys x e = rw e
-
 one-longer : (ys : List Name) (x : Name) → length (ys ++ (x ∷ [])) ≡ suc (length ys)
 one-longer ys x = omega (arith, length-append ys (x ∷ []))
 
 -- the new name is the last one
 look-last : (ys : List Name) (x : Name) → known ys x ≡ false → look (ys ++ (x ∷ [])) x ≡ length ys
-look-last ys x e = let a = look-behind ys (x ∷ []) x (not-known ys x e) in let b = look-self x in omega arith
-
--- a name that is known keeps its number
-add-keeps : (ys : List Name) (y x : Name) → look ys x < length ys → (look (add ys y) x ≡ look ys x) × (length ys ≤ length (add ys y))
-add-keeps ys y x h =
-    split (known ys y) (λ e. rw (add-old ys y e) (refl, omega arith))
-    (λ e. let l = one-longer ys y in rw (add-fresh ys y e) (look-front ys (y ∷ []) x h, omega arith))
-
-adds-keep : (xs ys : List Name) (x : Name) → look ys x < length ys → look (adds ys xs) x ≡ look ys x
-unfolding adds
-adds-keep [] ys x h = refl
-adds-keep (y ∷ xs) ys x h =
-    let a = add-keeps ys y x h in
-    let b = a .0 in
-    let c = a .1 in
-    adds-keep xs (add ys y) x (omega arith) ∙ b
+look-last ys x e = look-here ys [] x ∙ not-known ys x e
 
 -- ---- in order
 
 step-old : (ys : List Name) (x : Name) (xs : List Name) → known ys x ≡ true → Appear (length ys) (length (adds ys xs)) (map (look (adds ys xs)) xs) → Appear (length ys) (length (adds ys xs)) (map (look (adds ys xs)) (x ∷ xs))
 step-old ys x xs e a =
     let h = ltb-true (look ys x) (length ys) e in
-    let k = adds-keep xs ys x h in
+    let k = look-adds xs ys x e .0 in
     let q : look (adds ys xs) x < length ys = omega arith in
     met-before q a
 
 step-fresh : (ys : List Name) (x : Name) (xs : List Name) → known ys x ≡ false → (let zs = adds (ys ++ (x ∷ [])) xs in Appear (length (ys ++ (x ∷ []))) (length zs) (map (look zs) xs) → Appear (length ys) (length zs) (map (look zs) (x ∷ xs)))
 step-fresh ys x xs e a =
     let l = one-longer ys x in
-    let m = look-last ys x e in
-    let k = adds-keep xs (ys ++ (x ∷ [])) x (omega arith) ∙ m in
+    let k = look-adds xs (ys ++ (x ∷ [])) x (known-own ys x) .0 ∙ look-last ys x e in
     rw k (first-time (rw l at a))
 
 -- THE LAW: names have their numbers in order of first appearance

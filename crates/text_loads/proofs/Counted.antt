@@ -1,6 +1,6 @@
 -- An accepted image of a program has its relations and its clauses.
-use mathlib.Core.Path.{_∙_, _≡_}
-use mathlib.Core.List.{[], _++_, _∷_, append-assoc, List}
+use mathlib.Core.Path.{_≡_}
+use mathlib.Core.List.{[], _++_, _∷_, List}
 use Prim.Native.Nat.{_+_, _<_, suc, zero, ℕ}
 use lib.Dec.{ltb}
 use lib.ListN.{drop, length}
@@ -14,9 +14,11 @@ use Rattle.parlog.specs.Program.{clauseOf, modesOf, Program}
 use Rattle.parlog.specs.Records.{kindAt, recordAt, recordEnd}
 use Rattle.parlog.specs.Scan.{along}
 use Rattle.parlog.specs.declared.Loaded.the-variants.{Accepted}
-use Rattle.text_loads.proofs.Decoded.{clauses, clauses-at, clauses-place, from-start, goal-at, goal-place, record-kind, relations}
-use Rattle.text_loads.proofs.Stands.{behind, Decodes}
+use Rattle.text_loads.proofs.Decoded.{clauses, clauses-at, clauses-place, from-start, goal-at, goal-place, relations}
+use Rattle.text_loads.proofs.Stands.{Decodes}
 use Rattle.text_loads.specs.Loads.{ClauseFits}
+use Rattle.text_program.proofs.Fields.{record-kind}
+use Rattle.text_program.proofs.Here.{items-behind, items-split}
 use Rattle.text_program.specs.Encoded.{askBytes, clauseBytes, programBytes, relationBytes}
 use Rattle.text_program.specs.Numbered.{joined}
 
@@ -54,18 +56,16 @@ module _ {A : Type 0} (s : List ℕ) (bytes : A → List ℕ) (read : ℕ → A)
   pub row-at : (xs : List A) (at i : ℕ) (rest : List ℕ) → i < length xs → drop at s ≡ joined bytes xs ++ rest → At s bytes (along next i at)
   unfolding joined along
   row-at [] at i rest h e = absurd (omega arith)
-  row-at (x ∷ xs) at zero rest h e = record { what = x; rest = joined bytes xs ++ rest; stands = e ∙ append-assoc (bytes x) (joined bytes xs) rest }
-  row-at (x ∷ xs) at (suc i) rest h e =
-      let f = e ∙ append-assoc (bytes x) (joined bytes xs) rest in
-      row-at xs (next at) i rest (omega arith) (rw (d .end at x (joined bytes xs ++ rest) f) (behind s at (bytes x) (joined bytes xs ++ rest) f))
+  row-at (x ∷ xs) at zero rest h e = record { what = x; rest = joined bytes xs ++ rest; stands = items-split s bytes next (d .end) x xs at rest e }
+  row-at (x ∷ xs) at (suc i) rest h e = row-at xs (next at) i rest (omega arith) (items-behind s bytes next (d .end) x xs at rest e)
 
 relation-kind : (s : List ℕ) (at : ℕ) → At s relationBytes at → kindAt s at ≡ 1
 unfolding relationBytes
-relation-kind s at a = record-kind s at 1 (length (a .what) ∷ a .what) (a .rest) (a .stands)
+relation-kind s at a = record-kind s 1 (length (a .what) ∷ a .what) at (a .rest) (a .stands)
 
 clause-kind : (s : List ℕ) (at : ℕ) → At s clauseBytes at → kindAt s at ≡ 2
 unfolding clauseBytes
-clause-kind s at a = record-kind s at 2 _ (a .rest) (a .stands)
+clause-kind s at a = record-kind s 2 _ at (a .rest) (a .stands)
 
 module _ (pr : Program) where
   abbrev s : List ℕ
@@ -73,7 +73,7 @@ module _ (pr : Program) where
 
   goal-kind : kindAt s (length (joined relationBytes (pr .relations)) + length (joined clauseBytes (pr .clauses))) ≡ 3
   unfolding askBytes
-  goal-kind = record-kind s _ 3 _ [] (goal-at pr)
+  goal-kind = record-kind s 3 _ _ [] (goal-at pr)
 
   pub encoded-kinds : Kinds (λ k. kindAt s (recordAt s k)) (length (pr .relations)) (length (pr .clauses))
   encoded-kinds = record {

@@ -1,115 +1,67 @@
 -- The bytes of a program, read as an image, are that program.
 use mathlib.Core.Path.{_∙_, _≡_, ap, refl, sym}
 use mathlib.Core.List.{[], _++_, _∷_, append-assoc, append-nil, List}
-use Prim.Native.Nat.{_*_, _+_, _-_, ℕ}
+use Prim.Native.Nat.{_+_, _-_, ℕ}
 use lib.ListN.{drop, getD, length}
 use borrow.Author.Tests.{le-ltb, lt-ltb}
 use native.Mathlib.Omega.{arith}
 use Rattle.parlog.proofs.Along.{along-add}
-use Rattle.parlog.specs.Image.{bodyAt, goalEnd, guardAt, literalEnd, modeEnd, stageEnd, termAt, termEnd}
+use Rattle.parlog.specs.Image.{bodyAt, guardAt, literalEnd, modeEnd, stageEnd, termAt, termEnd}
 use Rattle.parlog.specs.Orders.{Each}
 use Rattle.parlog.specs.Program.{Clause, clauseOf, Goal, goalOf, Literal, literalOf, modesOf, Program, programOf, stageOf}
-use Rattle.parlog.specs.Records.{byteAt, kindAt, recordAt, recordEnd}
+use Rattle.parlog.specs.Records.{byteAt, recordAt, recordEnd}
 use Rattle.parlog.specs.Scan.{along, listOf}
 use Rattle.parlog.specs.declared.Term.{Term}
 use Rattle.parlog.specs.declared.Term.the-variants.{Const, Var}
-use Rattle.text_loads.proofs.Stands.{behind, byte-first, byte-in, Decodes, further, row-end, row-is, word-in}
+use Rattle.text_loads.proofs.Stands.{byte-first, byte-in, Decodes, further, row-is}
 use Rattle.text_loads.specs.Loads.{ClauseFits, DecodeEncode, GoalFits, LiteralFits, ProgramFits, TermFits}
-use Rattle.text_program.specs.Encoded.{askBytes, clauseBytes, goalBytes, literalBytes, programBytes, recordBytes, relationBytes, stageBytes, termBytes, wordBytes}
+use Rattle.text_program.proofs.Fields.{goal-size, goal-step, literal-arity, literal-step, record-body, record-end, relation-step, stage-size, stage-step, term-step, terms-length}
+use Rattle.text_program.proofs.Here.{items-end, skip-by, word-here}
+use Rattle.text_program.specs.Encoded.{askBytes, clauseBytes, goalBytes, literalBytes, programBytes, relationBytes, stageBytes, termBytes}
 use Rattle.text_program.specs.Numbered.{joined}
-
-pub terms-long : (ts : List Term) → length (joined termBytes ts) ≡ 2 * length ts
-unfolding joined termBytes
-terms-long [] = refl
-terms-long (Const c ∷ ts) = let i = terms-long ts in omega arith
-terms-long (Var v ∷ ts) = let i = terms-long ts in omega arith
 
 module _ (s : List ℕ) where
   -- ---- terms
 
   pub term-is : (at : ℕ) (t : Term) (rest : List ℕ) → TermFits t → drop at s ≡ termBytes t ++ rest → termAt s at ≡ t
   unfolding termBytes
-  term-is at (Const c) rest o e = rw (word-in s at c rest e, lt-ltb c 32768 o)
+  term-is at (Const c) rest o e = rw (word-here s at c rest e, lt-ltb c 32768 o)
   term-is at (Var v) rest o e =
       let z : 32768 + v - 32768 ≡ v = omega arith in
-      rw (word-in s at (32768 + v) rest e, le-ltb (32768 + v) 32768 (omega arith), z)
-
-  term-end : (at : ℕ) (t : Term) (rest : List ℕ) → drop at s ≡ termBytes t ++ rest → termEnd at ≡ at + length (termBytes t)
-  unfolding termBytes
-  term-end at (Const c) rest e = refl
-  term-end at (Var v) rest e = refl
+      rw (word-here s at (32768 + v) rest e, le-ltb (32768 + v) 32768 (omega arith), z)
 
   pub terms : Decodes s termBytes (termAt s) termEnd TermFits
-  terms = record { item = term-is; end = term-end }
+  terms = record { item = term-is; end = term-step s }
 
   -- ---- literals
 
   module _ (at : ℕ) (l : Literal) (rest : List ℕ) (e : drop at s ≡ literalBytes l ++ rest) where
-    literal-arity : byteAt s (at + 1) ≡ length (l .args)
-    unfolding literalBytes
-    literal-arity = byte-in s at 1 (literalBytes l ++ rest) e
-
     literal-is : LiteralFits l → literalOf s at ≡ l
     unfolding literalBytes literalOf
     literal-is o =
-        rw (byte-first s at (literalBytes l ++ rest) e, literal-arity)
+        rw (byte-first s at (literalBytes l ++ rest) e, literal-arity s l at rest e)
         (ap (λ (ts : List Term). record { rel = l .rel; args = ts })
         (row-is s termBytes (termAt s) termEnd TermFits terms (l .args) (at + 2) rest o (further s at 2 (literalBytes l ++ rest) e)))
 
-    literal-end : literalEnd s at ≡ at + length (literalBytes l)
-    unfolding literalBytes
-    literal-end = let a = literal-arity in let b = terms-long (l .args) in omega arith
-
   pub literals : Decodes s literalBytes (literalOf s) (literalEnd s) LiteralFits
-  literals = record { item = λ at l rest o e. literal-is at l rest e o; end = literal-end }
+  literals = record { item = λ at l rest o e. literal-is at l rest e o; end = literal-step s }
 
   -- ---- stages
 
   module _ (at : ℕ) (st : List Literal) (rest : List ℕ) (e : drop at s ≡ stageBytes st ++ rest) where
-    stage-size : byteAt s at ≡ length st
-    unfolding stageBytes
-    stage-size = byte-first s at (stageBytes st ++ rest) e
-
     stage-is : Each LiteralFits st → stageOf s at ≡ st
     unfolding stageBytes stageOf
-    stage-is o = rw stage-size (row-is s literalBytes (literalOf s) (literalEnd s) LiteralFits literals st (at + 1) rest o (further s at 1 (stageBytes st ++ rest) e))
-
-    stage-end : stageEnd s at ≡ at + length (stageBytes st)
-    unfolding stageBytes stageEnd
-    stage-end = rw stage-size (row-end s literalBytes (literalOf s) (literalEnd s) LiteralFits literals st (at + 1) rest (further s at 1 (stageBytes st ++ rest) e) ∙ omega arith)
+    stage-is o = rw (stage-size s st at rest e) (row-is s literalBytes (literalOf s) (literalEnd s) LiteralFits literals st (at + 1) rest o (further s at 1 (stageBytes st ++ rest) e))
 
   pub stages : Decodes s stageBytes (stageOf s) (stageEnd s) (Each LiteralFits)
-  stages = record { item = λ at st rest o e. stage-is at st rest e o; end = stage-end }
+  stages = record { item = λ at st rest o e. stage-is at st rest e o; end = stage-step s }
 
   -- ---- goals
 
   module _ (at : ℕ) (g : Goal) (rest : List ℕ) (e : drop at s ≡ goalBytes g ++ rest) where
-    goal-size : byteAt s at ≡ length g
-    unfolding goalBytes
-    goal-size = byte-first s at (goalBytes g ++ rest) e
-
     pub goal-is : GoalFits g → goalOf s at ≡ g
     unfolding goalBytes goalOf
-    goal-is o = rw goal-size (row-is s stageBytes (stageOf s) (stageEnd s) (Each LiteralFits) stages g (at + 1) rest o (further s at 1 (goalBytes g ++ rest) e))
-
-    pub goal-end : goalEnd s at ≡ at + length (goalBytes g)
-    unfolding goalBytes goalEnd
-    goal-end = rw goal-size (row-end s stageBytes (stageOf s) (stageEnd s) (Each LiteralFits) stages g (at + 1) rest (further s at 1 (goalBytes g ++ rest) e) ∙ omega arith)
-
-  -- ---- records
-
-  module _ (at kind : ℕ) (body rest : List ℕ) (e : drop at s ≡ recordBytes kind body ++ rest) where
-    pub record-end : recordEnd s at ≡ at + length (recordBytes kind body)
-    unfolding recordBytes
-    record-end = let w = word-in s at (4 + length body) (wordBytes kind ++ (body ++ rest)) e in omega arith
-
-    pub record-kind : kindAt s at ≡ kind
-    unfolding recordBytes
-    record-kind = word-in s (at + 2) kind (body ++ rest) (further s at 2 _ e)
-
-    pub record-body : drop (at + 4) s ≡ body ++ rest
-    unfolding recordBytes
-    record-body = further s at 4 _ e
+    goal-is o = rw (goal-size s g at rest e) (row-is s stageBytes (stageOf s) (stageEnd s) (Each LiteralFits) stages g (at + 1) rest o (further s at 1 (goalBytes g ++ rest) e))
 
   -- ---- relations
 
@@ -122,19 +74,15 @@ module _ (s : List ℕ) where
   relation-is : (at : ℕ) (ms rest : List ℕ) → drop at s ≡ relationBytes ms ++ rest → modesOf s at ≡ ms
   unfolding relationBytes modesOf
   relation-is at ms rest e =
-      let b = record-body at 1 (length ms ∷ ms) rest e in
+      let b = record-body s 1 (length ms ∷ ms) at rest e in
       let z : at + 4 + 1 ≡ at + 5 = omega arith in
       rw (byte-first s (at + 4) _ b) (mode-is ms (at + 5) rest (rw z at (further s (at + 4) 1 _ b)))
-
-  relation-end : (at : ℕ) (ms rest : List ℕ) → drop at s ≡ relationBytes ms ++ rest → recordEnd s at ≡ at + length (relationBytes ms)
-  unfolding relationBytes
-  relation-end at ms rest e = record-end at 1 (length ms ∷ ms) rest e
 
   abbrev Anything : List ℕ → Type 0
   Anything ms = Unit
 
   pub relations : Decodes s relationBytes (modesOf s) (recordEnd s) Anything
-  relations = record { item = λ at ms rest o e. relation-is at ms rest e; end = relation-end }
+  relations = record { item = λ at ms rest o e. relation-is at ms rest e; end = relation-step s }
 
   -- ---- clauses
 
@@ -150,11 +98,11 @@ module _ (s : List ℕ) where
 
     clause-end : recordEnd s at ≡ at + length (clauseBytes c)
     unfolding clauseBytes
-    clause-end = record-end at 2 inside rest e
+    clause-end = record-end s 2 inside at rest e
 
     clause-body : drop (at + 4) s ≡ inside ++ rest
     unfolding clauseBytes
-    clause-body = record-body at 2 inside rest e
+    clause-body = record-body s 2 inside at rest e
 
     field : (k n : ℕ) → at + 4 + k ≡ n → byteAt s n ≡ getD (inside ++ rest) k 0
     field k n z = rw z at (byte-in s (at + 4) k (inside ++ rest) clause-body)
@@ -168,13 +116,13 @@ module _ (s : List ℕ) where
         (rw z at (further s (at + 4) 4 (inside ++ rest) clause-body)) ∙ append-assoc (joined termBytes (c .head)) goals rest
 
     guard-place : guardAt s at ≡ at + 8 + length (joined termBytes (c .head))
-    guard-place = let a = arity-is in let b = terms-long (c .head) in omega arith
+    guard-place = let a = arity-is in let b = terms-length (c .head) in omega arith
 
     guard-at : drop (guardAt s at) s ≡ goalBytes (c .guard) ++ (goalBytes (c .body) ++ rest)
-    guard-at = rw guard-place (behind s (at + 8) (joined termBytes (c .head)) (goals ++ rest) head-at ∙ append-assoc (goalBytes (c .guard)) (goalBytes (c .body)) rest)
+    guard-at = rw guard-place (skip-by s (at + 8) (joined termBytes (c .head)) (goals ++ rest) head-at ∙ append-assoc (goalBytes (c .guard)) (goalBytes (c .body)) rest)
 
     body-at : drop (bodyAt s at) s ≡ goalBytes (c .body) ++ rest
-    body-at = rw (goal-end (guardAt s at) (c .guard) (goalBytes (c .body) ++ rest) guard-at) (behind s (guardAt s at) (goalBytes (c .guard)) (goalBytes (c .body) ++ rest) guard-at)
+    body-at = rw (goal-step s (c .guard) (guardAt s at) (goalBytes (c .body) ++ rest) guard-at) (skip-by s (guardAt s at) (goalBytes (c .guard)) (goalBytes (c .body) ++ rest) guard-at)
 
     clause-is : ClauseFits c → clauseOf s at ≡ c
     unfolding clauseOf
@@ -190,13 +138,13 @@ module _ (s : List ℕ) where
         )
 
   pub clauses : Decodes s clauseBytes (clauseOf s) (recordEnd s) ClauseFits
-  clauses = record { item = λ at c rest o e. clause-is at c rest e o; end = clause-end }
+  clauses = record { item = λ at c rest o e. clause-is at c rest e o; end = λ c at rest e. clause-end at c rest e }
 
 -- ---- programs
 
-any-modes : (mss : List (List ℕ)) → Each (λ (ms : List ℕ). Unit {0}) mss
-any-modes [] = tt
-any-modes (ms ∷ mss) = (tt, any-modes mss)
+pub anything : {A : Type 0} (xs : List A) → Each (λ (x : A). Unit {0}) xs
+anything [] = tt
+anything (x ∷ xs) = (tt, anything xs)
 
 module _ (pr : Program) where
   abbrev s : List ℕ
@@ -216,23 +164,23 @@ module _ (pr : Program) where
   from-start = refl
 
   pub clauses-place : recordAt s (length (pr .relations)) ≡ length front
-  clauses-place = let z : 0 + length front ≡ length front = omega arith in (rw z at (row-end s relationBytes (modesOf s) (recordEnd s) (λ ms. Unit) (relations s) (pr .relations) 0 (middle ++ last) from-start))
+  clauses-place = let z : 0 + length front ≡ length front = omega arith in (rw z at (items-end s relationBytes (recordEnd s) (relations s .end) (pr .relations) 0 (middle ++ last) from-start))
 
   pub clauses-at : drop (length front) s ≡ middle ++ last
-  clauses-at = let z : 0 + length front ≡ length front = omega arith in (rw z at (behind s 0 front (middle ++ last) from-start))
+  clauses-at = let z : 0 + length front ≡ length front = omega arith in (rw z at (skip-by s 0 front (middle ++ last) from-start))
 
   pub goal-place : recordAt s (length (pr .relations) + length (pr .clauses)) ≡ length front + length middle
   goal-place =
       sym (along-add (recordEnd s) (length (pr .clauses)) (length (pr .relations)) 0)
       ∙ ap (along (recordEnd s) (length (pr .clauses))) clauses-place
-      ∙ row-end s clauseBytes (clauseOf s) (recordEnd s) ClauseFits (clauses s) (pr .clauses) (length front) last clauses-at
+      ∙ items-end s clauseBytes (recordEnd s) (clauses s .end) (pr .clauses) (length front) last clauses-at
 
   pub goal-at : drop (length front + length middle) s ≡ last ++ []
-  goal-at = behind s (length front) middle last clauses-at ∙ sym (append-nil last)
+  goal-at = skip-by s (length front) middle last clauses-at ∙ sym (append-nil last)
 
   ask-body : drop (length front + length middle + 4) s ≡ (pr .goalVars ∷ goalBytes (pr .goal)) ++ []
   unfolding askBytes
-  ask-body = record-body s (length front + length middle) 3 (pr .goalVars ∷ goalBytes (pr .goal)) [] goal-at
+  ask-body = record-body s 3 (pr .goalVars ∷ goalBytes (pr .goal)) (length front + length middle) [] goal-at
 
   -- THE LAW: decoding gives back what was encoded
   pub decoded : ProgramFits pr → programOf s (length (pr .relations)) (length (pr .clauses)) ≡ pr
@@ -245,7 +193,7 @@ module _ (pr : Program) where
         byte-first s (p + 4) _ ask-body,
         goal-is s (p + 5) (pr .goal) [] (rw z at (further s (p + 4) 1 _ ask-body)) (o .goal),
         clauses-place,
-        row-is s relationBytes (modesOf s) (recordEnd s) (λ ms. Unit) (relations s) (pr .relations) 0 (middle ++ last) (any-modes (pr .relations)) from-start,
+        row-is s relationBytes (modesOf s) (recordEnd s) (λ ms. Unit) (relations s) (pr .relations) 0 (middle ++ last) (anything (pr .relations)) from-start,
         row-is s clauseBytes (clauseOf s) (recordEnd s) ClauseFits (clauses s) (pr .clauses) (length front) last (o .clauses) clauses-at,
       )
 

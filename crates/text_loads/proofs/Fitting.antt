@@ -2,52 +2,22 @@
 use mathlib.Core.Path.{_≡_, ap, refl}
 use mathlib.Core.Bool.{_&&_, Bool, cond, false, true}
 use mathlib.Core.List.{[], _++_, _∷_, List, map}
-use Prim.Native.Nat.{_*_, _+_, _<_, _≤_, suc, ℕ}
+use Prim.Native.Nat.{_*_, _<_, _≤_, suc, ℕ}
 use lib.ListN.{length, length-append, length-map}
 use native.Mathlib.Omega.{arith}
 use Rattle.parlog.specs.Orders.{Each}
 use Rattle.parlog.specs.Program.{Goal}
 use Rattle.parlog.specs.declared.Term.the-variants.{Const, Var}
-use Rattle.text_loads.proofs.Decoded.{terms-long}
 use Rattle.text_loads.specs.Loads.{ClauseFits, GoalFits, LiteralFits, ProgramFits, TermFits}
-use Rattle.text_names.specs.Names.{add, adds, known, look, Name, sameName}
-use Rattle.text_program.specs.Encoded.{askBytes, clauseBytes, goalBytes, literalBytes, programBytes, recordBytes, relationBytes, stageBytes, termBytes}
+use Rattle.text_names.proofs.Added.{adds-length}
+use Rattle.text_names.proofs.Looked.{look-most}
+use Rattle.text_names.specs.Names.{look, Name, sameName}
+use Rattle.text_program.proofs.Fields.{record-length, terms-length}
+use Rattle.text_program.proofs.Joined.{lowers-length}
+use Rattle.text_program.specs.Encoded.{askBytes, clauseBytes, goalBytes, literalBytes, programBytes, relationBytes, stageBytes, termBytes}
 use Rattle.text_program.specs.Numbered.{clauseNumbered, clausesBehind, clausesNumbered, clauseTerms, constantNames, goalNumbered, goalTerms, isUpper, joined, literalNumbered, lowers, markBy, Numbering, numberingFor, programIn, relationNames, saidTerms, termNumbered}
 use Rattle.text_program.specs.Parsing.{imageIn}
 use Rattle.text_program.specs.Source.{calls, equals, ModeLine, Said, SaidClause, Source}
-
--- ---- how many names there are
-
-pub look-most : (ys : List Name) (x : Name) → look ys x ≤ length ys
-unfolding look
-look-most [] x = omega arith
-look-most (y ∷ ys) x = go (sameName y x) (look-most ys x)
-  where
-    go : (b : Bool) → look ys x ≤ length ys → cond b 0 (suc (look ys x)) ≤ suc (length ys)
-    go true i = omega arith
-    go false i = omega arith
-
-add-most : (ys : List Name) (x : Name) → length (add ys x) ≤ length ys + 1
-unfolding add
-add-most ys x = go (known ys x)
-  where
-    go : (b : Bool) → length (cond b ys (ys ++ (x ∷ []))) ≤ length ys + 1
-    go true = omega arith
-    go false = let e = length-append ys (x ∷ []) in omega arith
-
-adds-most : (ys xs : List Name) → length (adds ys xs) ≤ length ys + length xs
-unfolding adds
-adds-most ys [] = omega arith
-adds-most ys (x ∷ xs) = omega (arith, adds-most (add ys x) xs, add-most ys x)
-
-lowers-most : (xs : List Name) → length (lowers xs) ≤ length xs
-unfolding lowers
-lowers-most [] = omega arith
-lowers-most (x ∷ xs) = go (isUpper x) (lowers-most xs)
-  where
-    go : (b : Bool) → length (lowers xs) ≤ length xs → length (cond b (lowers xs) (x ∷ lowers xs)) ≤ suc (length xs)
-    go true i = omega arith
-    go false i = omega arith
 
 -- ---- two bytes for each term
 
@@ -60,8 +30,8 @@ joined-size f g h o (x ∷ xs) =
 module _ (n : Numbering) where
   literal-size : (l : Said) → 2 * length (saidTerms l) ≤ length (literalBytes (literalNumbered n l))
   unfolding literalBytes
-  literal-size (calls p ts) = omega (arith, terms-long (map (termNumbered n) ts), length-map ts (termNumbered n))
-  literal-size (equals a b) = omega (arith, terms-long (termNumbered n a ∷ termNumbered n b ∷ []))
+  literal-size (calls p ts) = omega (arith, terms-length (map (termNumbered n) ts), length-map ts (termNumbered n))
+  literal-size (equals a b) = omega (arith, terms-length (termNumbered n a ∷ termNumbered n b ∷ []))
 
   stage-size : (st : List Said) → 2 * length (joined saidTerms st) ≤ length (stageBytes (map (literalNumbered n) st))
   unfolding stageBytes
@@ -70,10 +40,6 @@ module _ (n : Numbering) where
   goal-size : (g : List (List Said)) → 2 * length (goalTerms g) ≤ length (goalBytes (goalNumbered n g))
   unfolding goalBytes
   goal-size g = omega (arith, joined-size (joined saidTerms) (map (literalNumbered n)) stageBytes stage-size g)
-
-pub record-size : (kind : ℕ) (body : List ℕ) → length (recordBytes kind body) ≡ 4 + length body
-unfolding recordBytes
-record-size kind body = omega arith
 
 clause-size : (p : Source) (b : Bool) (c : SaidClause) → 2 * length (clauseTerms c) ≤ length (clauseBytes (clauseNumbered p b c))
 unfolding clauseBytes
@@ -84,8 +50,8 @@ clause-size p b c =
     let bs = goalBytes (goalNumbered n (c .body)) in
     omega (
       arith,
-      record-size 2 (look (relationNames p) (c .name) ∷ length (map (termNumbered n) (c .terms)) ∷ markBy b ∷ length (n .variables) ∷ (hs ++ (gs ++ bs))),
-      terms-long (map (termNumbered n) (c .terms)),
+      record-length 2 (look (relationNames p) (c .name) ∷ length (map (termNumbered n) (c .terms)) ∷ markBy b ∷ length (n .variables) ∷ (hs ++ (gs ++ bs))),
+      terms-length (map (termNumbered n) (c .terms)),
       length-map (c .terms) (termNumbered n),
       goal-size n (c .guard),
       goal-size n (c .body),
@@ -111,7 +77,7 @@ clauses-size p (c ∷ cs) =
 
 ask-size : (k : ℕ) (g : Goal) → length (goalBytes g) ≤ length (askBytes k g)
 unfolding askBytes
-ask-size k g = omega (arith, record-size 3 (k ∷ goalBytes g))
+ask-size k g = omega (arith, record-length 3 (k ∷ goalBytes g))
 
 few-constants : (p : Source) → 2 * length (constantNames p) ≤ length (imageIn p)
 unfolding constantNames imageIn programIn programBytes
@@ -123,8 +89,8 @@ few-constants p =
     let gs = askBytes (length (n .variables)) (goalNumbered n (p .goal)) in
     omega (
       arith,
-      adds-most [] (lowers ts),
-      lowers-most ts,
+      adds-length (lowers ts) [],
+      lowers-length ts,
       length-append (joined clauseTerms (p .clauses)) (goalTerms (p .goal)),
       clauses-size p (p .clauses),
       goal-size n (p .goal),

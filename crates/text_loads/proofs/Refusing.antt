@@ -15,17 +15,17 @@ use Rattle.parlog.specs.Image.{relationKind}
 use Rattle.parlog.specs.Load.{after, blockFull, broken, kindFault, loadEnd, nothingRead, progressed, refuseIf, tooMany, verdict}
 use Rattle.parlog.specs.Names.{namesRight}
 use Rattle.parlog.specs.Program.{clauseOf, modesOf, Program}
-use Rattle.parlog.specs.Records.{cut, kindAt, recordAt, recordEnd, wordAt}
+use Rattle.parlog.specs.Records.{cut, kindAt, recordAt, recordEnd}
 use Rattle.parlog.specs.Scan.{along}
 use Rattle.parlog.specs.declared.Loaded.{Loaded}
 use Rattle.parlog.specs.declared.Loaded.the-variants.{Accepted, Refused}
 use Rattle.parlog.specs.declared.Progress.{Progress}
 use Rattle.parlog.specs.declared.Verdict.the-variants.{Goes}
 use Rattle.text_loads.proofs.Counted.{At, encoded-kinds, Kinds, row-at}
-use Rattle.text_loads.proofs.Decoded.{clauses, clauses-at, clauses-place, from-start, goal-at, goal-place, record-end, record-kind, relations}
-use Rattle.text_loads.proofs.Fitting.{record-size}
+use Rattle.text_loads.proofs.Decoded.{clauses, clauses-at, clauses-place, from-start, goal-at, goal-place, relations}
 use Rattle.text_loads.specs.Loads.{ClauseFits, RecordsRefused}
 use Rattle.text_names.specs.Names.{Name}
+use Rattle.text_program.proofs.Fields.{record-end, record-kind, record-length, record-whole}
 use Rattle.text_program.specs.Encoded.{askBytes, clauseBytes, goalBytes, programBytes, recordBytes, relationBytes}
 use Rattle.text_program.specs.Numbered.{joined, programIn, relationNames}
 use Rattle.text_program.specs.Parsing.{imageIn, onceBy, recordsIn, repeated, textVerdict}
@@ -41,23 +41,19 @@ module _ (s : List ℕ) (at kind : ℕ) (p : Placed s at kind) where
   placed-long : length s - at ≡ 4 + length (p .body) + length (p .rest)
   placed-long =
       sym (length-drop at s) ∙ ap (λ (x : List ℕ). length x) (p .stands)
-      ∙ omega (arith, length-append (recordBytes kind (p .body)) (p .rest), record-size kind (p .body))
+      ∙ omega (arith, length-append (recordBytes kind (p .body)) (p .rest), record-length kind (p .body))
 
   pub placed-end : recordEnd s at ≡ at + 4 + length (p .body)
-  placed-end = record-end s at kind (p .body) (p .rest) (p .stands) ∙ omega (arith, record-size kind (p .body))
+  placed-end = record-end s kind (p .body) at (p .rest) (p .stands) ∙ omega (arith, record-length kind (p .body))
 
   pub placed-in : at + 4 + length (p .body) + length (p .rest) ≤ length s
   placed-in = omega (arith, placed-long)
 
   placed-whole : cut s at ≡ false
-  unfolding cut
-  placed-whole =
-      let e = placed-end in
-      let i = placed-in in
-      rw (le-ltb (length s) (at + 4) (omega arith), le-ltb (wordAt s at) 4 (omega arith), le-ltb (length s) (recordEnd s at) (omega arith))
+  placed-whole = record-whole s kind (p .body) at (p .rest) (p .stands)
 
   placed-kind : kindAt s at ≡ kind
-  placed-kind = record-kind s at kind (p .body) (p .rest) (p .stands)
+  placed-kind = record-kind s kind (p .body) at (p .rest) (p .stands)
 
 relation-placed : (s : List ℕ) (at : ℕ) → At s relationBytes at → Placed s at 1
 unfolding relationBytes
@@ -156,9 +152,9 @@ module _ (rels : List Name) (pr : Program) where
   last-end =
       let at = length (joined relationBytes (pr .relations)) + length (joined clauseBytes (pr .clauses)) in
       let body = pr .goalVars ∷ goalBytes (pr .goal) in
-      let a = record-end s at 3 body [] (goal-at pr) in
+      let a = record-end s 3 body at [] (goal-at pr) in
       let b = sym (length-drop at s) ∙ ap (λ (x : List ℕ). length x) (goal-at pr) ∙ length-append (recordBytes 3 body) [] in
-      omega (arith, record-size 3 body)
+      omega (arith, record-length 3 body)
 
   pub all-end : recordAt s (suc (r + c)) ≡ length s
   all-end = along-snoc (recordEnd s) (r + c) 0 ∙ ap (recordEnd s) (goal-place pr) ∙ last-end

@@ -7,13 +7,16 @@ use lib.Dec.{eqb}
 use lib.ListN.{drop, length, length-append, length-drop}
 use borrow.Author.Tests.{eqb-true}
 use native.Mathlib.Omega.{arith}
-use Rattle.parlog.proofs.Bools.{and-true, never}
+use Rattle.parlog.proofs.Bools.{and-true}
 use Rattle.text_loads.proofs.Parsed.{parse-steps}
 use Rattle.text_loads.proofs.Short.{never-long, passed-short}
 use Rattle.text_loads.specs.Loads.{NamesFit, RowsSuffice}
-use Rattle.text_names.specs.Bytes.{back, first, front, isBlank, isName, next, past, skip}
+use Rattle.text_names.proofs.Looked.{same-is}
+use Rattle.text_names.proofs.Rest.{next-less, past-less, skip-less}
+use Rattle.text_names.specs.Bytes.{first, front, next, past, skip}
 use Rattle.text_names.specs.Entries.{entries}
 use Rattle.text_names.specs.Names.{add, adds, known, Name, sameName}
+use Rattle.text_program.proofs.Joined.{singles}
 use Rattle.text_program.specs.Numbered.{clauseTerms, constantNames, goalTerms, isUpper, joined, lowers, relationNames, saidTerms}
 use Rattle.text_program.specs.Parsing.{imageIn, namesIn, ParseCall}
 use Rattle.text_program.specs.Source.{arrowBy, behindArrow, bracketsBy, Got, got, Halves, halvesBy, isClause, isModeLine, lines, linesBy, linesFor, literalBy, ModeLine, modeWord, readBody, readBrackets, readClause, Reader, readGoal, readHalves, readLiteral, readMode, readModeLine, readTerm, row, rowBy, rowFor, Said, SaidClause, sourceOf}
@@ -59,30 +62,6 @@ adds-size (x ∷ xs) ys = omega (arith, adds-size xs (add ys x), add-size ys x, 
 
 -- ---- what is read off a text
 
-skip-less : (s : List ℕ) → length (skip s) ≤ length s
-unfolding skip
-skip-less [] = omega arith
-skip-less (b ∷ s) = go (isBlank b) (skip-less s)
-  where
-    go : (h : Bool) → length (skip s) ≤ length s → length (cond h (skip s) (b ∷ s)) ≤ suc (length s)
-    go true i = omega arith
-    go false i = omega arith
-
-front-back : (s : List ℕ) → length (front s) + length (back s) ≡ length s
-unfolding front back
-front-back [] = refl
-front-back (b ∷ s) = go (isName b) (front-back s)
-  where
-    go : (h : Bool) → length (front s) + length (back s) ≡ length s → length (cond h (b ∷ front s) []) + length (cond h (back s) (b ∷ s)) ≡ suc (length s)
-    go true i = omega arith
-    go false i = omega arith
-
-past-less : (s : List ℕ) → length (front s) + length (past s) ≤ length s
-past-less s = omega (arith, front-back s, skip-less (back s))
-
-next-less : (s : List ℕ) → length (next s) ≤ length s
-next-less s = omega (arith, skip-less (drop 1 s), length-drop 1 s)
-
 -- a mark is a byte
 next-one : (s : List ℕ) (m : ℕ) → first s ≡ m → 0 < m → length (next s) + 1 ≤ length s
 next-one [] m e h = absurd (omega arith)
@@ -116,11 +95,6 @@ term-pays : (s : List ℕ) → Pays one 1 s (readTerm s)
 unfolding readTerm
 term-pays s = omega (arith, past-less s, size-more (front s) [], size-none)
 
-joined-one : (xs : List Name) → joined one xs ≡ xs
-unfolding joined
-joined-one [] = refl
-joined-one (x ∷ xs) = ap (λ (ys : List Name). x ∷ ys) (joined-one xs)
-
 abbrev all : List Name → List Name
 all xs = xs
 
@@ -132,7 +106,7 @@ brackets-pay s = go (eqb (first s) 40) refl
     go true e =
         let g = row readTerm 44 (next s) in
         let r = row-pays readTerm one 44 (omega arith) term-pays (length (next s)) (next s) in
-        omega (arith, (rw (joined-one (g .value)) at r), next-one s 40 (eqb-true (first s) 40 e) (omega arith), next-less (g .rest))
+        omega (arith, (rw (singles (g .value)) at r), next-one s 40 (eqb-true (first s) 40 e) (omega arith), next-less (g .rest))
     go false e = omega (arith, size-none)
 
 literal-pays : (s : List ℕ) → Pays saidTerms 1 s (readLiteral s)
@@ -209,13 +183,6 @@ clause-pays s =
 
 -- ---- mode lines
 
-same-long : (x y : Name) → sameName x y ≡ true → length x ≡ length y
-unfolding sameName
-same-long [] [] e = refl
-same-long [] (b ∷ y) e = never e
-same-long (a ∷ x) [] e = never e
-same-long (a ∷ x) (b ∷ y) e = ap suc (same-long x y (and-true (eqb a b) (sameName x y) e .1))
-
 -- modes have no names
 mode-pays : (s : List ℕ) → Pays {A = ℕ} (λ m. []) 1 s (readMode s)
 mode-pays s = omega (arith, size-none, next-less s)
@@ -237,7 +204,7 @@ mode-line-pays : (s : List ℕ) → isModeLine s ≡ true → Pays modeName 0 s 
 unfolding readModeLine isModeLine
 mode-line-pays s e =
     let g = readBrackets readMode (past (past s)) in
-    let w = same-long (front s) modeWord (and-true (sameName (front s) modeWord) _ e .0) in
+    let w = ap length (same-is (front s) modeWord (and-true (sameName (front s) modeWord) _ e .0)) in
     omega (arith, w, past-less s, past-less (past s), modes-pay (past (past s)), next-less (g .rest), size-more (front (past s)) [], size-none)
 
 -- ---- lines

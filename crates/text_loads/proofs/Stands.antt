@@ -3,13 +3,13 @@ use mathlib.Core.Path.{_∙_, _≡_, ap, refl, sym}
 use mathlib.Core.List.{[], _++_, _∷_, append-assoc, List}
 use Prim.Native.Nat.{_+_, _<_, _≤_, suc, zero, ℕ}
 use lib.ListN.{drop, getD, length, length-append, length-drop}
-use lib.Seq.{drop-append-seam, drop-cons, drop-drop, getD-drop}
+use lib.Seq.{drop-cons, drop-drop, getD-drop}
 use native.Mathlib.Omega.{arith}
 use native.Mathlib.Numerals.{add-one}
 use Rattle.parlog.specs.Orders.{Each}
-use Rattle.parlog.specs.Records.{byteAt, wordAt}
+use Rattle.parlog.specs.Records.{byteAt}
 use Rattle.parlog.specs.Scan.{along, listOf}
-use Rattle.text_program.specs.Encoded.{wordBytes}
+use Rattle.text_program.proofs.Here.{items-behind, items-split}
 use Rattle.text_program.specs.Numbered.{joined}
 
 module _ (s : List ℕ) where
@@ -19,16 +19,9 @@ module _ (s : List ℕ) where
   pub byte-first : (at : ℕ) (t : List ℕ) → drop at s ≡ t → byteAt s at ≡ getD t 0 0
   byte-first at t e = let z : at + 0 ≡ at = omega arith in (rw z at (byte-in at 0 t e))
 
-  pub behind : (at : ℕ) (x rest : List ℕ) → drop at s ≡ x ++ rest → drop (at + length x) s ≡ rest
-  behind at x rest e = sym (drop-drop (length x) at s) ∙ ap (drop (length x)) e ∙ drop-append-seam x rest
-
   -- k bytes further on
   pub further : (at k : ℕ) (t : List ℕ) → drop at s ≡ t → drop (at + k) s ≡ drop k t
   further at k t e = sym (drop-drop k at s) ∙ ap (drop k) e
-
-  -- two bytes that are a number
-  pub word-in : (at w : ℕ) (rest : List ℕ) → drop at s ≡ wordBytes w ++ rest → wordAt s at ≡ w
-  word-in at w rest e = let a = byte-first at (wordBytes w ++ rest) e in let b = byte-in at 1 (wordBytes w ++ rest) e in omega arith
 
   -- the next byte
   pub one-more : (at : ℕ) → at < length s → drop at s ≡ byteAt s at ∷ drop (at + 1) s
@@ -48,28 +41,15 @@ module _ (s : List ℕ) where
 
 pub record Decodes {A : Type 0} (s : List ℕ) (bytes : A → List ℕ) (read : ℕ → A) (next : ℕ → ℕ) (Ok : A → Type 0) : Type 0 where
   pub item : (at : ℕ) (x : A) (rest : List ℕ) → Ok x → drop at s ≡ bytes x ++ rest → read at ≡ x
-  pub end : (at : ℕ) (x : A) (rest : List ℕ) → drop at s ≡ bytes x ++ rest → next at ≡ at + length (bytes x)
+  pub end : (x : A) (at : ℕ) (rest : List ℕ) → drop at s ≡ bytes x ++ rest → next at ≡ at + length (bytes x)
 
 module _ {A : Type 0} (s : List ℕ) (bytes : A → List ℕ) (read : ℕ → A) (next : ℕ → ℕ) (Ok : A → Type 0) (d : Decodes s bytes read next Ok) where
-  apart : (at : ℕ) (x : A) (xs : List A) (rest : List ℕ) → drop at s ≡ joined bytes (x ∷ xs) ++ rest → drop at s ≡ bytes x ++ (joined bytes xs ++ rest)
-  unfolding joined
-  apart at x xs rest e = e ∙ append-assoc (bytes x) (joined bytes xs) rest
-
-  pub row-end : (xs : List A) (at : ℕ) (rest : List ℕ) → drop at s ≡ joined bytes xs ++ rest → along next (length xs) at ≡ at + length (joined bytes xs)
-  unfolding joined along
-  row-end [] at rest e = omega arith
-  row-end (x ∷ xs) at rest e =
-      let f = apart at x xs rest e in
-      let m = behind s at (bytes x) (joined bytes xs ++ rest) f in
-      ap (along next (length xs)) (d .end at x (joined bytes xs ++ rest) f) ∙ row-end xs (at + length (bytes x)) rest m ∙ omega (arith, length-append (bytes x) (joined bytes xs))
-
   pub row-is : (xs : List A) (at : ℕ) (rest : List ℕ) → Each Ok xs → drop at s ≡ joined bytes xs ++ rest → listOf read next (length xs) at ≡ xs
   unfolding joined listOf
   row-is [] at rest o e = refl
   row-is (x ∷ xs) at rest o e =
-      let f = apart at x xs rest e in
-      let m = behind s at (bytes x) (joined bytes xs ++ rest) f in
-      rw (d .end at x (joined bytes xs ++ rest) f, d .item at x (joined bytes xs ++ rest) (o .0) f) (ap (λ (ys : List A). x ∷ ys) (row-is xs (at + length (bytes x)) rest (o .1) m))
+      rw (d .item at x (joined bytes xs ++ rest) (o .0) (items-split s bytes next (d .end) x xs at rest e))
+      (ap (λ (ys : List A). x ∷ ys) (row-is xs (next at) rest (o .1) (items-behind s bytes next (d .end) x xs at rest e)))
 
 -- ---- and the other way: what stands at a place is the bytes of what is read there
 

@@ -1,1 +1,4 @@
-mod Walk
+pub mod Walk
+pub mod Rest
+pub mod Looked
+pub mod Added

@@ -1,19 +1,22 @@
 -- One turn of the loops over names and blanks.
 use mathlib.Core.Path.{_∙_, _≡_, ap, refl, sym}
-use mathlib.Core.Bool.{Bool, false, not, true}
+use mathlib.Core.Bool.{_||_, Bool, false, false≢true, not, true}
 use mathlib.Core.List.{[], _∷_, List}
 use Prim.Native.Nat.{_+_, _<_, _≤_, ℕ}
-use lib.Dec.{leb}
+use lib.Dec.{eqb, leb}
 use lib.ListN.{drop, drop-of-length-le, getD, length, List·getD-eq-default}
 use lib.Seq.{drop-cons, drop-drop}
 use borrow.Author.Tests.{eq-eqb, leb-false, leb-true, ne-eqb, not-false, not-true}
 use native.Mathlib.Omega.{arith}
 use native.Mathlib.Numerals.{add-one}
+use Rattle.spell.specs.Forms.{inSpan}
 use Rattle.text_names.specs.Bytes.{back, front, isBlank, isCapital, isName, isSmall, next, skip}
 use Rattle.text_names.specs.Names.{sameName}
 
-never : {P : Type 0} → false ≡ true → P
-never e = absurd (let z : _≡_ {A = ℕ} 0 1 = cc in omega arith)
+-- a byte of a name that is no lower-case letter
+pub name-other : (b : ℕ) (small d c o r : Bool) → small ≡ isSmall b → small ≡ false → d ≡ inSpan 48 9 b → c ≡ isCapital b → o ≡ (d || eqb b 95) → r ≡ (c || o) → r ≡ isName b
+unfolding isName
+name-other b small d c o r e f g i k m = m ∙ rw (k, g, i, ← e, f)
 
 module _ (s : List ℕ) (i : ℕ) where
   pub skip-stop : (r : Bool) → i < length s → r ≡ isBlank (getD s i 0) → not r ≡ true → drop i s ≡ skip (drop i s)
@@ -46,7 +49,7 @@ module _ (s : List ℕ) (i : ℕ) where
   name-in e = go (leb (length s) i) refl
     where
       go : (b : Bool) → leb (length s) i ≡ b → i < length s
-      go true f = never (rw (List·getD-eq-default s 0 (leb-true (length s) i f)) at e)
+      go true f = absurd (false≢true (rw (List·getD-eq-default s 0 (leb-true (length s) i f)) at e))
       go false f = omega (arith, leb-false (length s) i f)
 
   pub front-on : isName (getD s i 0) ≡ true → front (drop i s) ≡ getD s i 0 ∷ front (drop (i + 1) s)

@@ -30,12 +30,15 @@ pub fn is_capital(b: usize) -> bool
     in_span(65, 25, b)
 }
 
-// A byte of a name.
-fn is_name(b: usize) -> bool
+// A byte of a name: a lower-case letter in most cases.
+pub fn is_name(b: usize) -> bool
     ensures { λ r. ⌜ r ≡ isName b ⌝ }
 {
+    if is_small(b) {
+        return true;
+    }
     let rest = basics::or(in_span(48, 9, b), b == 95);
-    basics::or(is_small(b), basics::or(is_capital(b), rest))
+    basics::or(is_capital(b), rest)
 }
 
 // A blank or a line end.

@@ -1,2 +1,5 @@
 mod Opened
 mod Computed
+pub mod Joined
+pub mod Here
+pub mod Fields

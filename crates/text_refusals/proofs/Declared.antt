@@ -8,7 +8,7 @@ use lib.ListN.{length}
 use borrow.Author.Tests.{ltb-false, ltb-true}
 use native.Mathlib.Omega.{arith}
 use Rattle.parlog.proofs.Bools.{never, not-so}
-use Rattle.text_back.proofs.Firsts.{same-is, same-refl}
+use Rattle.text_names.proofs.Looked.{same-is, same-self}
 use Rattle.text_names.specs.Names.{known, look, Name, sameName}
 use Rattle.text_program.specs.Numbered.{relationNames}
 use Rattle.text_program.specs.Parsing.{allOf, clauseDeclared, declared, goalDeclared, literalDeclared}
@@ -60,7 +60,7 @@ known-in (y ∷ ys) x h = go (sameName y x) refl h (known-in ys x)
 
 in-known : {x : Name} {ys : List Name} → In x ys → look ys x < length ys
 unfolding look
-in-known {x} in-front = rw (same-refl x) (omega arith)
+in-known {x} in-front = rw (same-self x) (omega arith)
 in-known {x} (behind {y = y} {xs = ys} i) = go (sameName y x) (in-known i)
   where
     go : (b : Bool) → look ys x < length ys → cond b 0 (suc (look ys x)) < suc (length ys)

@@ -1,7 +1,7 @@
 -- The test of an entry finds a lower-case name exactly where there is one.
 use mathlib.Core.Path.{_∙_, _≡_, ap, refl, sym}
 use mathlib.Core.Logic.{_⊎_, inl, inr}
-use mathlib.Core.Bool.{Bool, cond, false, true}
+use mathlib.Core.Bool.{Bool, false, true}
 use mathlib.Core.List.{[], _++_, _∷_, List}
 use Prim.Native.Nat.{_<_, suc, zero, ℕ}
 use lib.Dec.{eqb}
@@ -12,6 +12,7 @@ use Rattle.parlog.proofs.Bools.{and-true, never, true-and}
 use Rattle.parlog.specs.Orders.{Each}
 use Rattle.refusals.proofs.Tests.{Decides}
 use Rattle.text_back.proofs.Begin.{allName, back-of, end-no-name, first-of, front-lower, Lower, lower-spelt}
+use Rattle.text_names.proofs.Rest.{empty-entry, front-back}
 use Rattle.text_names.specs.Bytes.{back, first, front, isName, isSmall}
 use Rattle.text_names.specs.Entries.{behindEntry, entryFrom, isEntry}
 use Rattle.text_names.specs.Names.{Name}
@@ -56,15 +57,6 @@ has-entry nm k h =
 
 -- ---- the other way
 
-front-and-back : (s : List ℕ) → front s ++ back s ≡ s
-unfolding front back
-front-and-back [] = refl
-front-and-back (b ∷ s) = go (isName b) (front-and-back s)
-  where
-    go : (h : Bool) → front s ++ back s ≡ s → cond h (b ∷ front s) [] ++ cond h (back s) (b ∷ s) ≡ b ∷ s
-    go true e = ap (λ (t : List ℕ). b ∷ t) e
-    go false e = refl
-
 begins-with : (s : List ℕ) (m : ℕ) → first s ≡ m → 0 < m → s ≡ m ∷ drop 1 s
 begins-with [] m e h = absurd (omega arith)
 begins-with (b ∷ s) m e h = ap (λ (x : ℕ). x ∷ s) e
@@ -72,7 +64,7 @@ begins-with (b ∷ s) m e h = ap (λ (x : ℕ). x ∷ s) e
 here-named : (nm : List ℕ) → isSmall (first nm) ≡ true → first (back nm) ≡ 10 → HasName nm 0
 here-named nm e f =
     let l = front-lower nm e in
-    let z : front nm ++ (10 ∷ drop 1 (back nm)) ≡ nm = ap (λ (t : List ℕ). front nm ++ t) (sym (begins-with (back nm) 10 f (omega arith))) ∙ front-and-back nm in
+    let z : front nm ++ (10 ∷ drop 1 (back nm)) ≡ nm = ap (λ (t : List ℕ). front nm ++ t) (sym (begins-with (back nm) 10 f (omega arith))) ∙ front-back nm in
     record { name = front nm; entry = first-entry (drop 1 (back nm)) (sym z) (names-endless (front nm) (l .all)); lower-case = record { letter = l .small; bytes = names-all (front nm) (l .all) } }
 
 -- the first byte 10, if there is one
@@ -91,14 +83,9 @@ find-end (b ∷ s) = go (eqb b 10) refl (find-end s)
     go false e (inl w) = inl (unfold behindEntry in rw e w)
     go false e (inr w) = inr (record { before = b ∷ w .before; free = (eqb-false b 10 e, w .free); is = unfold behindEntry in rw e (ap (λ (t : List ℕ). b ∷ t) (w .is)) })
 
-none-from : (k : ℕ) → entryFrom [] k ≡ []
-unfolding entryFrom behindEntry
-none-from zero = refl
-none-from (suc k) = none-from k
-
 no-entry : (k : ℕ) → isEntry [] k ≡ false
 unfolding isEntry isSmall
-no-entry k = rw (none-from k)
+no-entry k = rw (empty-entry k)
 
 next-entry : (nm : List ℕ) (k : ℕ) → isEntry nm (suc k) ≡ isEntry (behindEntry nm) k
 unfolding isEntry entryFrom

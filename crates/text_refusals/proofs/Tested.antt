@@ -28,10 +28,10 @@ use Rattle.refusals.proofs.Fields.{body-fits}
 use Rattle.refusals.proofs.Tests.{Decides, refuted, refutes}
 use Rattle.refusals.proofs.Walked.{before-next, body-not, cut-not, kind-not, many-not, names-not, next-place, nothing-before, right-goes}
 use Rattle.refusals.specs.Right.{howMany, KindRight, recordKind, Whole}
-use Rattle.text_back.proofs.Firsts.{look-found, look-within}
 use Rattle.text_loads.proofs.Counted.{encoded-kinds}
 use Rattle.text_loads.proofs.Refusing.{all-end, at-place, goes-up, placed, placed-end, placed-in}
 use Rattle.text_loads.proofs.Stands.{along-up}
+use Rattle.text_names.proofs.Looked.{look-found, look-within}
 use Rattle.text_names.specs.Names.{look, Name}
 use Rattle.text_program.specs.Encoded.{programBytes}
 use Rattle.text_program.specs.Parsing.{recordsIn, repeated, textVerdict}

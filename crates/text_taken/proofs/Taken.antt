@@ -2,23 +2,24 @@
 use mathlib.Core.Path.{_∙_, _≡_, ap, refl}
 use mathlib.Core.Bool.{_&&_, Bool, false, not, true}
 use mathlib.Core.List.{[], _++_, _∷_, List}
-use Prim.Native.Nat.{_*_, _+_, _<_, _≤_, ℕ}
+use Prim.Native.Nat.{_*_, _+_, _≤_, ℕ}
 use lib.Dec.{eqb, leb, ltb}
 use lib.ListN.{length, length-append}
-use borrow.Author.Tests.{le-leb, leb-false, leb-true}
+use borrow.Author.Tests.{le-leb, leb-true}
 use native.Mathlib.Omega.{arith}
-use Rattle.judge_image.proofs.Named.{record-length}
+use Rattle.judge_image.proofs.Counts.{few-clauses, few-relations, more-clauses, more-relations}
 use Rattle.judge_image.specs.Judged.{judged, progressOf, relationJudged, relationSized, relationsJudged, taken}
 use Rattle.judge_lines.proofs.Judging.{size-small}
 use Rattle.judge_lines.proofs.Moded.{mode-few, mode-length}
 use Rattle.judge_said.proofs.Clauses.{clause-few}
 use Rattle.judge_said.proofs.Sized.{clause-size}
-use Rattle.judge_said.specs.Said.{askRight, askSaid, clauseSaid, clausesSaid, clauseSize}
+use Rattle.judge_said.proofs.Told.{ask-parts}
+use Rattle.judge_said.specs.Said.{askRight, askSaid, clauseSaid, clauseSize, clausesSaid}
+use Rattle.lay_lines.proofs.Sizes.{goal-long}
 use Rattle.lay_lines.specs.Fields.{clauseIn}
 use Rattle.lay_lines.specs.Imaged.{asking, askWith, imageWith}
-use Rattle.judge_said.proofs.Told.{right-parts}
-use Rattle.lay_lines.proofs.Sizes.{both, goal-long}
 use Rattle.lay_lines.specs.Lines.{clauseRight, clausesWith, modesOf, modesRight, withVars}
+use Rattle.parlog.proofs.Bools.{and-true}
 use Rattle.parlog.specs.Load.{after, blockWith, kindFault, refusal, refuseIf, tooMany}
 use Rattle.parlog.specs.declared.Loaded.{Loaded}
 use Rattle.parlog.specs.declared.Loaded.the-variants.{Accepted, Refused}
@@ -27,6 +28,7 @@ use Rattle.parlog.specs.declared.Verdict.{Verdict}
 use Rattle.parlog.specs.declared.Verdict.the-variants.{Goes, Refuses}
 use Rattle.read_names.specs.Tables.{modeNames}
 use Rattle.text_names.specs.Names.{look, Name, sameName}
+use Rattle.text_program.proofs.Fields.{record-length}
 use Rattle.text_program.specs.Encoded.{askBytes, clauseBytes, goalBytes, relationBytes}
 use Rattle.text_program.specs.Numbered.{clauseTerms, goalNumbered, goalTerms, joined, markBy, variableNames}
 use Rattle.text_program.specs.Parsing.{allOf, onceBy, repeated}
@@ -73,21 +75,13 @@ pub record ModesTaken (ms : List ModeLine) (f : ℕ → Progress → Loaded) (a 
   pub sized : allOf relationSized (modesOf ms) ≡ true
   pub rest : Onward f a b
 
-few-relations : (g : Progress) → tooMany g 1 ≡ false → g .relations < 32
-unfolding tooMany
-few-relations g e = leb-false 32 (g .relations) e
-
-next-relation : (g : Progress) → (progressOf g 1 0 0 .relations ≡ g .relations + 1) × (progressOf g 1 0 0 .clauses ≡ g .clauses)
-unfolding progressOf
-next-relation g = (refl, refl)
-
 pub modes-taken : (names : List Name) (f : ℕ → Progress → Loaded) (a b : ℕ) (ms : List ModeLine) (at : ℕ) (g : Progress) → g .clauses ≡ 0 → g .relations ≤ 32 → relationsJudged names f (modesOf ms) at g ≡ Accepted a b → ModesTaken ms f a b × (g .relations + length ms ≤ 32)
 unfolding relationsJudged relationJudged modesRight allOf
 modes-taken names f a b [] at g z l e = (record { right = refl; sized = refl; rest = record { at = at; g = g; none = z; on = e } }, omega arith)
 modes-taken names f a b (m ∷ ms) at g z l e =
     let p = judged-on (relationsJudged names f (modesOf ms) (at + length (relationBytes (m .modes)))) at g 1 (relationSized (m .modes)) true 0 0 a b (once-on _ at (repeated names (g .relations)) (judged g 1 (relationSized (m .modes)) true 0 0) a b e) in
     let h = few-relations g (p .1) in
-    let n = next-relation g in
+    let n = more-relations g in
     let n0 = n .0 in
     let q = modes-taken names f a b ms (at + length (relationBytes (m .modes))) (progressOf g 1 0 0) (n .1 ∙ z) (omega arith) (p .2) in
     let s = mode-few (m .modes) (p .0) in
@@ -95,14 +89,6 @@ modes-taken names f a b (m ∷ ms) at g z l e =
     (record { right = rw (le-leb (length (m .modes)) 4 s) (q .0 .right); sized = rw (p .0) (q .0 .sized); rest = q .0 .rest }, omega arith)
 
 -- ---- clauses
-
-few-clauses : (g : Progress) → tooMany g 2 ≡ false → g .clauses < 64
-unfolding tooMany
-few-clauses g e = leb-false 64 (g .clauses) e
-
-next-clause : (g : Progress) (r mark : ℕ) → progressOf g 2 r mark .clauses ≡ g .clauses + 1
-unfolding progressOf
-next-clause g r mark = refl
 
 pub record ClausesTaken (cs : List SaidClause) (f : ℕ → Progress → Loaded) (a b : ℕ) : Type 0 where
   pub right : allOf clauseRight cs ≡ true
@@ -116,7 +102,7 @@ clauses-taken ms f a b [] semicolon name at g l e = (record { right = refl; at =
 clauses-taken ms f a b (c ∷ cs) semicolon name at g l e =
     let p = judged-on (clausesSaid ms f (c .semicolon) (c .name) cs (at + clauseSize c)) at g 2 (clauseRight c) _ _ _ a b e in
     let h = few-clauses g (p .1) in
-    let n = next-clause g (look (modeNames ms) (c .name)) (markBy (semicolon && sameName name (c .name))) in
+    let n = more-clauses g (look (modeNames ms) (c .name)) (markBy (semicolon && sameName name (c .name))) .0 in
     let q = clauses-taken ms f a b cs (c .semicolon) (c .name) (at + clauseSize c) (progressOf g 2 (look (modeNames ms) (c .name)) (markBy (semicolon && sameName name (c .name)))) (omega arith) (p .2) in
     let t = q .1 in
     (record { right = rw (p .0) (q .0 .right); at = q .0 .at; g = q .0 .g; on = q .0 .on }, omega arith)
@@ -131,7 +117,7 @@ pub terms-few : (cs : List SaidClause) → allOf clauseRight cs ≡ true → len
 unfolding joined allOf
 terms-few [] e = omega arith
 terms-few (c ∷ cs) e =
-    let p = both (clauseRight c) (allOf clauseRight cs) e in
+    let p = and-true (clauseRight c) (allOf clauseRight cs) e in
     let a = clause-few c (p .0) in
     let b = terms-few cs (p .1) in
     let d = length-append (clauseTerms c) (joined clauseTerms cs) in
@@ -141,7 +127,7 @@ modes-long : (ms : List ModeLine) → modesRight ms ≡ true → length (joined 
 unfolding joined allOf modesRight
 modes-long [] e = omega arith
 modes-long (m ∷ ms) e =
-    let p = both (leb (length (m .modes)) 4) (allOf (λ (m : ModeLine). leb (length (m .modes)) 4) ms) e in
+    let p = and-true (leb (length (m .modes)) 4) (allOf (λ (m : ModeLine). leb (length (m .modes)) 4) ms) e in
     let a = leb-true (length (m .modes)) 4 (p .0) in
     let b = modes-long ms (p .1) in
     let c = mode-length (m .modes) in
@@ -152,7 +138,7 @@ clauses-long : (rels consts : List Name) (b : Bool) (name : Name) (cs : List Sai
 unfolding joined allOf clausesWith
 clauses-long rels consts b name [] e = omega arith
 clauses-long rels consts b name (c ∷ cs) e =
-    let p = both (clauseRight c) (allOf clauseRight cs) e in
+    let p = and-true (clauseRight c) (allOf clauseRight cs) e in
     let a = size-small c (p .0) in
     let k = clause-size (withVars rels consts c) (markBy (b && sameName name (c .name))) c in
     let l = clauses-long rels consts (c .semicolon) (c .name) cs (p .1) in
@@ -162,7 +148,7 @@ clauses-long rels consts b name (c ∷ cs) e =
 ask-long : (rels consts : List Name) (g : List (List Said)) → askRight g ≡ true → length (askWith rels consts g) ≤ 94
 unfolding askWith askBytes
 ask-long rels consts g e =
-    let a = goal-long (asking rels consts g) g (right-parts g e .1) in
+    let a = goal-long (asking rels consts g) g (ask-parts g e .1) in
     let b = record-length 3 (length (variableNames (goalTerms g)) ∷ goalBytes (goalNumbered (asking rels consts g) g)) in
     omega arith
 

@@ -1,14 +1,15 @@
 -- The ways through the writing of a clause.
-use mathlib.Core.Path.{_∙_, _≡_, ap, refl, sym}
-use mathlib.Core.Bool.{_&&_, and-assoc, Bool, true}
+use mathlib.Core.Path.{_∙_, _≡_, refl, sym}
+use mathlib.Core.Bool.{_&&_, and-true as true-right, Bool, true}
 use mathlib.Core.List.{[], _++_, _∷_, List}
 use Prim.Native.Nat.{_*_, _+_, _-_, _<_, suc, zero, ℕ}
-use lib.ListN.{getD, length, length-append}
+use lib.ListN.{getD, length}
 use borrow.Author.Tests.{eq-eqb, ne-eqb}
 use native.Mathlib.Omega.{arith}
-use Rattle.lay_text.proofs.Laws.{capped-add, capped-laid, left-as, left-end, left-step, true-right}
-use Rattle.lay_text.specs.Laying.{capped, Left, Writes}
+use Rattle.lay_text.proofs.Laws.{left-as, left-end, left-step, writes-both}
+use Rattle.lay_text.specs.Laying.{Left, Writes}
 use Rattle.lay_text.specs.declared.To.{To}
+use Rattle.parlog.proofs.Along.{list-length}
 use Rattle.parlog.specs.Image.{goalEnd, stageEnd}
 use Rattle.parlog.specs.Program.{Clause, clauseOf, Goal, goalOf, stageOf}
 use Rattle.parlog.specs.Records.{recordEnd}
@@ -16,26 +17,13 @@ use Rattle.parlog.specs.Scan.{listOf}
 use Rattle.text_names.specs.Entries.{entryName, isEntry}
 use Rattle.text_program.specs.Parsing.{allOf}
 use Rattle.text_program.specs.Printing.{arrowMark, bracketText, clauseNamed, clausesText, clauseText, endMark, goalNamed, goalText, guardMark, halvesText, nextMark, semicolonMark, stopMark, termNamed, termText}
-use Rattle.write_goal.proofs.Rowed.{items-length}
 use Rattle.write_goal.specs.Rows.{termsAt}
-
--- two writers
-pub both-write : {o p q : List ℕ} {w x y : To} {bs cs : List ℕ} {a b : Bool} → Writes o w bs a p x → Writes p x cs b q y → Writes o w (bs ++ cs) (a && b) q y
-both-write {o} {p} {q} {w} {x} {y} {bs} {cs} {a} {b} f g =
-    let e : w .at + length bs + length cs ≡ w .at + length (bs ++ cs) = omega (arith, length-append bs cs) in
-    record {
-      row = g .row ∙ rw (f .row, f .place) (capped-laid o bs cs (w .at) (f .small));
-      place = g .place ∙ rw (f .place) (capped-add (w .at + length bs) (length cs)) ∙ ap capped e;
-      named = g .named ∙ rw (f .named) (and-assoc (w .named) a b);
-      small = f .small;
-      size = g .size ∙ f .size;
-    }
 
 -- ---- guard and body
 
 goal-size : (s : List ℕ) (at : ℕ) → length (goalOf s at) ≡ getD s at 0
 unfolding goalOf
-goal-size s at = items-length (stageOf s) (stageEnd s) (getD s at 0) (at + 1)
+goal-size s at = list-length (stageOf s) (stageEnd s) (getD s at 0) (at + 1)
 
 module _ (r : ℕ) (nm : List ℕ) {o p : List ℕ} {w x : To} where
   ways-none : (g b : Goal) → length g ≡ 0 → length b ≡ 0 → Writes o w [] true p x → Writes o w (halvesText r nm g b) (goalNamed r nm g && goalNamed r nm b) p x
@@ -48,7 +36,7 @@ module _ (r : ℕ) (nm : List ℕ) {o p : List ℕ} {w x : To} where
       Writes o w (halvesText r nm g b) (goalNamed r nm g && goalNamed r nm b) p1 x1
   unfolding halvesText allOf
   ways-body [] [] e f u v = absurd (f refl)
-  ways-body [] (st ∷ b) e f u v = both-write u v
+  ways-body [] (st ∷ b) e f u v = writes-both u v
   ways-body (st ∷ g) b e f u v = absurd (omega arith)
 
   ways-both : {p1 p2 p3 : List ℕ} {x1 x2 x3 : To} (g b : Goal) → (length g ≡ 0 → ⊥) →
@@ -56,7 +44,7 @@ module _ (r : ℕ) (nm : List ℕ) {o p : List ℕ} {w x : To} where
       Writes o w (halvesText r nm g b) (goalNamed r nm g && goalNamed r nm b) p3 x3
   unfolding halvesText
   ways-both [] b f u v a c = absurd (f refl)
-  ways-both (st ∷ g) b f u v a c = both-write u (both-write v (both-write a c))
+  ways-both (st ∷ g) b f u v a c = writes-both u (writes-both v (writes-both a c))
 
   module _ (s : List ℕ) (at body : ℕ) (e : body ≡ goalEnd s at) where
     pub halves-none : (m n : ℕ) → m ≡ getD s at 0 → n ≡ getD s body 0 → m ≡ 0 → n ≡ 0 → Writes o w [] true p x →
@@ -89,7 +77,7 @@ pub clause-told : (r : ℕ) (nm s : List ℕ) (at m rel n : ℕ) {o p p1 p2 p3 :
 unfolding clauseText clauseOf
 clause-told r nm s at m rel n e f a b c d =
     rw (← e, ← f, ← true-right (goalNamed r nm (goalOf s (at + 8 + 2 * n)) && goalNamed r nm (goalOf s (goalEnd s (at + 8 + 2 * n)))))
-    (both-write a (both-write b (both-write c d)))
+    (writes-both a (writes-both b (writes-both c d)))
 
 -- ---- clauses
 

@@ -1,15 +1,16 @@
 -- One turn of a loop over a row of items.
 use mathlib.Core.Path.{_∙_, _≡_, ap, refl}
-use mathlib.Core.Bool.{_&&_, Bool, true}
+use mathlib.Core.Bool.{_&&_, and-true as true-right, Bool, true}
 use mathlib.Core.List.{[], _++_, _∷_, append-assoc, List}
 use Prim.Native.Nat.{_%_, _+_, _-_, _<_, _≤_, suc, zero, ℕ}
 use lib.ListN.{getD, length}
 use borrow.Author.Tests.{eq-eqb, ne-eqb}
 use native.Mathlib.Omega.{arith}
 use native.Mathlib.Numerals.{add-one}
-use Rattle.lay_text.proofs.Laws.{left-as, left-end, left-start, left-step, true-right, writes-in, writes-two}
+use Rattle.lay_text.proofs.Laws.{left-as, left-end, left-start, left-step, writes-both}
 use Rattle.lay_text.specs.Laying.{Left, most, Writes}
 use Rattle.lay_text.specs.declared.To.{To}
+use Rattle.parlog.proofs.Along.{list-length}
 use Rattle.parlog.specs.Image.{literalEnd, stageEnd}
 use Rattle.parlog.specs.Program.{goalOf, Literal, literalOf, stageOf}
 use Rattle.parlog.specs.Scan.{listOf}
@@ -102,17 +103,12 @@ unfolding bracketText
 brackets-is text [] h = absurd (omega arith)
 brackets-is text (x ∷ xs) h = refl
 
-pub items-length : {A : Type 0} (read : ℕ → A) (next : ℕ → ℕ) (n q : ℕ) → length (listOf read next n q) ≡ n
-unfolding listOf
-items-length read next zero q = refl
-items-length read next (suc n) q = ap suc (items-length read next n (next q))
-
 pub brackets-some : {A : Type 0} (text : A → List ℕ) (ok : A → Bool) (read : ℕ → A) (next : ℕ → ℕ) (n q : ℕ) {o p p1 p2 : List ℕ} {w x x1 x2 : To} → 0 < n → w .at ≤ most →
     Writes o w (40 ∷ []) true p x → Writes p x (rowText text (44 ∷ []) (listOf read next n q)) (allOf ok (listOf read next n q)) p1 x1 → Writes p1 x1 (41 ∷ []) true p2 x2 →
     Writes o w (bracketText text (listOf read next n q)) (allOf ok (listOf read next n q)) p2 x2
 brackets-some text ok read next n q h g a b c =
-    rw (brackets-is text (listOf read next n q) (rw (items-length read next n q) h), ← true-right (allOf ok (listOf read next n q)))
-    (writes-two g a (writes-two (writes-in a) b c))
+    rw (brackets-is text (listOf read next n q) (rw (list-length read next n q) h), ← true-right (allOf ok (listOf read next n q)))
+    (writes-both a (writes-both b c))
 
 -- ---- a literal
 
@@ -127,7 +123,7 @@ module _ (r : ℕ) (nm s : List ℕ) (at rel n : ℕ) {o p : List ℕ} {w x : To
       Writes o w (entryName nm rel) (isEntry nm rel) p x → Writes p x (bracketText (termText r nm) (termsAt s n (at + 2))) (allOf (termNamed r nm) (termsAt s n (at + 2))) p1 x1 →
       Writes o w (literalText r nm (literalOf s at)) (literalNamed r nm (literalOf s at)) p1 x1
   unfolding literalText literalNamed literalOf
-  literal-call e f h g v u = rw (← e, ← f, ne-eqb rel 255 h) (writes-two g v u)
+  literal-call e f h g v u = rw (← e, ← f, ne-eqb rel 255 h) (writes-both v u)
 
 -- ---- a stage and a goal, by what their loops leave
 

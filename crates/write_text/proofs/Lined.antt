@@ -1,14 +1,15 @@
 -- The ways through the writing of lines.
 use mathlib.Core.Path.{_∙_, _≡_, refl}
-use mathlib.Core.Bool.{_&&_, Bool, true}
+use mathlib.Core.Bool.{_&&_, and-true as true-right, Bool, true}
 use mathlib.Core.List.{[], _++_, _∷_, List}
 use Prim.Native.Nat.{_+_, _-_, _<_, _≤_, suc, ℕ}
 use lib.ListN.{getD, length}
 use native.Mathlib.Omega.{arith}
 use native.Mathlib.Numerals.{add-one}
-use Rattle.lay_text.proofs.Laws.{left-as, left-end, left-start, left-step, true-right}
+use Rattle.lay_text.proofs.Laws.{left-as, left-end, left-start, left-step, writes-both}
 use Rattle.lay_text.specs.Laying.{Left, most, Writes}
 use Rattle.lay_text.specs.declared.To.{To}
+use Rattle.parlog.proofs.Along.{list-length}
 use Rattle.parlog.specs.Image.{modeEnd}
 use Rattle.parlog.specs.Program.{clauseOf, Goal, goalOf, modesOf, programOf}
 use Rattle.parlog.specs.Records.{byteAt, recordAt, recordEnd}
@@ -16,8 +17,7 @@ use Rattle.parlog.specs.Scan.{listOf}
 use Rattle.text_names.specs.Entries.{entryName, isEntry}
 use Rattle.text_program.specs.Parsing.{allOf}
 use Rattle.text_program.specs.Printing.{bracketText, clauseNamed, clausesText, goalLineText, goalNamed, goalText, modeLinesText, modeLineText, modeText, programNamed, programText, relationsNamed, rowText, stopMark}
-use Rattle.write_clause.proofs.Claused.{both-write}
-use Rattle.write_goal.proofs.Rowed.{brackets-none, brackets-some, items-length}
+use Rattle.write_goal.proofs.Rowed.{brackets-none, brackets-some}
 use Rattle.write_text.specs.Modes.{anyMode}
 
 -- ---- modes
@@ -45,7 +45,7 @@ pub mode-line-told : (r : ℕ) (nm s : List ℕ) (k at : ℕ) {o p p1 p2 p3 : Li
     Writes o w (109 ∷ 111 ∷ 100 ∷ 101 ∷ 32 ∷ []) true p x → Writes p x (entryName nm k) (isEntry nm k) p1 x1 → Writes p1 x1 (bracketText modeText (modesOf s at)) true p2 x2 → Writes p2 x2 stopMark true p3 x3 →
     Writes o w (modeLineText r nm k (modesOf s at)) (isEntry nm k) p3 x3
 unfolding modeLineText
-mode-line-told r nm s k at a b c d = rw (← true-right (isEntry nm k)) (both-write a (both-write b (both-write c d)))
+mode-line-told r nm s k at a b c d = rw (← true-right (isEntry nm k)) (writes-both a (writes-both b (writes-both c d)))
 
 -- ---- mode lines
 
@@ -83,7 +83,7 @@ module _ (r : ℕ) (nm s : List ℕ) where
 pub goal-line-told : (r : ℕ) (nm : List ℕ) (g : Goal) {o p p1 p2 : List ℕ} {w x x1 x2 : To} →
     Writes o w (60 ∷ 45 ∷ 32 ∷ []) true p x → Writes p x (goalText r nm g) (goalNamed r nm g) p1 x1 → Writes p1 x1 stopMark true p2 x2 → Writes o w (goalLineText r nm g) (goalNamed r nm g) p2 x2
 unfolding goalLineText
-goal-line-told r nm g a b c = rw (← true-right (goalNamed r nm g)) (both-write a (both-write b c))
+goal-line-told r nm g a b c = rw (← true-right (goalNamed r nm g)) (writes-both a (writes-both b c))
 
 pub program-told : (nm s : List ℕ) (r c from ask : ℕ) {o p p1 p2 : List ℕ} {w x x1 x2 : To} → from ≡ recordAt s r → ask ≡ recordAt s (r + c) →
     Writes o w (modeLinesText r nm 0 (listOf (modesOf s) (recordEnd s) r 0)) (relationsNamed r nm 0 (listOf (modesOf s) (recordEnd s) r 0)) p x →
@@ -91,4 +91,4 @@ pub program-told : (nm s : List ℕ) (r c from ask : ℕ) {o p p1 p2 : List ℕ}
     Writes p1 x1 (goalLineText r nm (goalOf s (ask + 5))) (goalNamed r nm (goalOf s (ask + 5))) p2 x2 →
     Writes o w (programText nm (programOf s r c)) (programNamed nm (programOf s r c)) p2 x2
 unfolding programText programNamed programOf
-program-told nm s r c from ask e f a b d = rw (items-length (modesOf s) (recordEnd s) r 0, ← e, ← f) (both-write a (both-write b d))
+program-told nm s r c from ask e f a b d = rw (list-length (modesOf s) (recordEnd s) r 0, ← e, ← f) (writes-both a (writes-both b d))

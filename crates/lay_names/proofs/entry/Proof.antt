@@ -1,7 +1,6 @@
 use mathlib.Core.Path.{_∙_}
-use Rattle.lay_text.proofs.Laws.{writes-two}
+use Rattle.lay_text.proofs.Laws.{writes-both}
 use borrow.Author.Needs.{needs}
-use native.Mathlib.Omega.{arith}
 use Rattle.lay_names.proofs.entry.Statement.{statement}
 use Rattle.lay_names.proofs.entry.Tie as tie
 
@@ -12,4 +11,4 @@ entry-spec =
     (λ c κs. search needs)
     (λ c κs. search needs)
     (λ c. (c .before .before .put .ensures .size) ∙ (c .before .before .before .before .before .before .name .ensures .size))
-    (λ c. writes-two (omega arith) (c .before .before .before .before .before .before .name .ensures) (c .before .before .put .ensures)))
+    (λ c. writes-both (c .before .before .before .before .before .before .name .ensures) (c .before .before .put .ensures)))

@@ -1,4 +1,4 @@
-use Rattle.parse.specs.Says.{offsetOf}
+use Rattle.parse.specs.Ways.{offsetOf}
 use mathlib.Core.Path.{refl}
 use borrow.Author.Tests.{eq-eqb, ne-eqb}
 use Rattle.parse.proofs.offset_of.Statement.{statement}

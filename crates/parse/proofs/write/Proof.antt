@@ -2,7 +2,7 @@ use native.Mathlib.Omega.{arith}
 use Rattle.text_names.specs.Entries.{entries}
 use Rattle.read_names.specs.Tables.{modeNames, modesFrom, namesAt}
 use Rattle.parse.proofs.Called.{measured-at, no-room, room, size-told, tells}
-use Rattle.lay_literal.proofs.Laid.{writes-both}
+use Rattle.lay_text.proofs.Laws.{writes-both}
 use mathlib.Core.List.{_++_}
 use mathlib.Core.Path.{_∙_, refl}
 use borrow.Author.Needs.{needs}

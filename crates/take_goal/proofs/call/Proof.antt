@@ -4,7 +4,8 @@ use Prim.Native.Nat.{ℕ}
 use lib.ListN.{length}
 use Rattle.lay.proofs.Laws.{laid-length}
 use Rattle.read_names.specs.Tables.{modesFrom}
-use Rattle.take_goal.proofs.Ways.{puts-ready, ready-from, take-call}
+use Rattle.take_term.proofs.Laws.{ready-moved}
+use Rattle.take_goal.proofs.Ways.{puts-ready, take-call}
 use borrow.Author.Needs.{needs}
 use Rattle.take_goal.proofs.call.Statement.{statement}
 use Rattle.take_goal.proofs.call.Tie as tie
@@ -17,7 +18,7 @@ call-spec =
     (λ c κs. search needs)
     (λ c κs. search needs)
     (λ c κs. search needs)
-    (λ c κs. ((ready-from (c .before .before .before .before .before .before .before .before .before .before .before .before .before .before .before .before .before .before .before .before .before .before .args .behind) 0 (puts-ready (c .before .before .before .before .before .before .before .number2 .ensures) (puts-ready (c .before .before .before .before .before .before .before .before .before .before .before .number .ensures) (c .before .before .before .before .before .before .before .before .before .before .before .before .before .before .before .before .before .before .before .before .before .before .pre .0))) (c .before .before .before .before .move-to .ensures) (c .before .before .before .before .before .before .before .before .before .before .before .before .before .before .before .before .before .before .before .before .before .before .pre .3))))
+    (λ c κs. ((ready-moved (c .before .before .before .before .before .before .before .before .before .before .before .before .before .before .before .before .before .before .before .before .before .before .args .behind) 0 (puts-ready (c .before .before .before .before .before .before .before .number2 .ensures) (puts-ready (c .before .before .before .before .before .before .before .before .before .before .before .number .ensures) (c .before .before .before .before .before .before .before .before .before .before .before .before .before .before .before .before .before .before .before .before .before .before .pre .0))) (c .before .before .before .before .move-to .ensures) (c .before .before .before .before .before .before .before .before .before .before .before .before .before .before .before .before .before .before .before .before .before .before .pre .3))))
     (λ c κs. search needs)
     (λ c κs. search needs)
     (λ c κs. search needs)

@@ -7,7 +7,8 @@ use Rattle.read_goal.proofs.Turn.{row-fuel, row-last, row-more, row-none}
 use Rattle.read_goal.proofs.Spanned.{span-done, span-last, span-on, span-start, SpanLeft}
 use Rattle.lay_text.specs.Laying.{Left}
 use Rattle.lay_literal.specs.Lows.{lows}
-use Rattle.lay_lines.proofs.Lined.{mode-item, singles}
+use Rattle.text_program.proofs.Joined.{singles}
+use Rattle.lay_lines.proofs.Lined.{mode-item}
 use Rattle.lay_literal.proofs.Laid.{all-true, lay-done, lay-last, lay-on, lay-start, whole-as}
 use Prim.Native.Nat.{_-_, ℕ}
 use lib.ListN.{drop, length}

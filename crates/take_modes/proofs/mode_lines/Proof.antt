@@ -2,7 +2,7 @@ use native.Mathlib.Omega.{arith}
 use borrow.Author.Tests.{not-false, not-true}
 use borrow.Author.Needs.{needs}
 use Rattle.take_modes.proofs.Walked.{bytes-long, line-few, line-fresh, line-long, line-right, ModesLeft, near-enough, walk-end, walk-on, walk-start, walk-stop}
-use Rattle.take_modes.proofs.Short.{lines-last, lines-none}
+use Rattle.read_names.proofs.Short.{lines-last, lines-none}
 use lib.ListN.{length}
 use mathlib.Core.Path.{_∙_, _≡_, refl, sym}
 use Rattle.take_modes.proofs.mode_lines.Statement.{statement}

@@ -1,0 +1,6 @@
+mod Fitted
+mod Passes
+mod Turns
+mod Gathered
+mod Clearing
+mod Classes

@@ -1,0 +1,7 @@
+mod Ordered
+mod Folded
+mod One
+mod Walked
+mod Ways
+pub mod Order
+pub mod Minimum
