@@ -25,7 +25,9 @@ pub mod Newly
 pub mod Bound
 pub mod BoundSupply
 pub mod Traces
+pub mod Noted
 pub mod Recorded
+pub mod Beside
 pub mod Texts
 pub mod TextsBack
 pub mod Computed

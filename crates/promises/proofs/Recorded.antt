@@ -1,51 +1,49 @@
 -- Request 7: what calls recorded replays: every record is played, and the bytes are those that the calls left.
 use mathlib.Core.Path.{_∙_, _≡_, ap, refl, sym}
-use mathlib.Core.Bool.{Bool, cond, false, true}
+use mathlib.Core.Bool.{Bool, false, true}
 use mathlib.Core.List.{[], _++_, append-assoc, append-nil, List}
 use Prim.Native.Nat.{_%_, _*_, _+_, _/_, _<_, _≤_, suc, zero, ℕ}
 use lib.Dec.{eqb, ltb}
-use lib.ListN.{getD, length, length-append, take}
-use lib.Seq.{getD-append-add}
-use borrow.Author.Tests.{eq-eqb, eqb-false, eqb-true, ltb-false, ltb-true, ne-eqb}
+use lib.ListN.{drop, getD, length, length-append, take}
+use lib.Seq.{getD-append-add, take-append-seam}
+use borrow.Author.Tests.{eq-eqb, eqb-false, eqb-true, ltb-true, ne-eqb}
 use native.Mathlib.Omega.{arith}
 use Rattle.entry.proofs.Entering.{lent-inside}
 use Rattle.entry.proofs.Held.{cells-fit, put-over, rows-fit, same-lent}
-use Rattle.lay.specs.Lay.{laid}
 use Rattle.load.proofs.Accepted.{accepted}
 use Rattle.parlog.proofs.Bools.{split}
 use Rattle.parlog.proofs.Effects.{apply-count}
+use Rattle.parlog.proofs.Kept.{step-keeps}
 use Rattle.parlog.proofs.Steps.{few-by, step-made}
 use Rattle.parlog.specs.Limits.{Limits, Usable}
 use Rattle.parlog.specs.Numbers.{ruleNumber, word}
 use Rattle.parlog.specs.Program.{Program, programOf}
 use Rattle.parlog.specs.Records.{kindAt, wordAt}
-use Rattle.parlog.specs.Run.{given, goalEnded, halt, made, procsIn, runFrom, Running, runTables, stepped, Stepping, stepTables, supplyTables, turnFor, unmade}
+use Rattle.parlog.specs.Run.{given, made, procsIn, runTables, stepped, stepTables, supplyTables, unmade}
+use Rattle.parlog.specs.Sane.{Sane}
+use Rattle.parlog.specs.TableRules.{tablesOk}
 use Rattle.parlog.specs.Tables.{Lent, putTables, Tables, tablesIn}
-use Rattle.parlog.specs.declared.End.{End}
-use Rattle.parlog.specs.declared.Found.{Found}
-use Rattle.parlog.specs.declared.Found.the-variants.{At, Nothing}
 use Rattle.parlog.specs.declared.Move.{Move}
 use Rattle.promises.proofs.Demand2.{image-sane}
-use Rattle.promises.proofs.Entry.{enter-let, let-full, let-image, let-ok, let-tables, replay-let, run-let}
-use Rattle.promises.proofs.Keeping.{Goes, goes-holds, goes-let, goes-more, goes-ok, goes-run, goes-step, goes-supply}
+use Rattle.promises.proofs.Entry.{let-full, let-image, let-ok, let-tables, replay-let}
+use Rattle.promises.proofs.Keeping.{Goes, goes-holds, goes-let, goes-more, goes-none, goes-ok, goes-run, goes-step, goes-supply, goes-then}
+use Rattle.promises.proofs.Noted.{moved-so, noted-size, rule-makes}
 use Rattle.promises.proofs.RunTurns.{put-same}
-use Rattle.promises.proofs.Traces.{front-is, plain-run-traced, step-traced-made, supply-traced-given}
-use Rattle.promises.proofs.Words.{ended-told, large-of, refusal-of, rule-small}
-use Rattle.promises.specs.Moves.{AllBytes}
+use Rattle.promises.proofs.Traces.{step-traced-made, supply-traced-given}
+use Rattle.promises.proofs.Words.{large-of, refusal-of, rule-small}
+use Rattle.promises.specs.Moves.{afterStep, AllBytes}
 use Rattle.promises.specs.Outcomes.{largeIn, refusalIn, ReplayMeets}
 use Rattle.promises.specs.Refusals.{LetIn}
-use Rattle.promises.specs.Traces.{nothing-yet, PlaysBack, Recorded, RunTracedMeets, stampAfter, StepTracedMeets, SupplyTracedMeets, then-run-traced, then-step-traced, then-supply-traced}
+use Rattle.promises.specs.Traces.{move-noted, no-move-noted, NotedMoves, nothing-yet, PlaysBack, Recorded, RunTracedMeets, stampAfter, StepTracedMeets, SupplyTracedMeets, then-run-traced, then-step-traced, then-supply-traced}
 use Rattle.replay.specs.Replay.{Played, playFrom, playRecord, plays, replayCall, replayNumbers}
 use Rattle.replay.specs.declared.Replayed.the-variants.{Replays}
-use Rattle.run.proofs.Runs.{run-ended, run-goes, run-room, run-spent, run-waits}
-use Rattle.run.specs.Running.{unlessEnded}
-use Rattle.run_traced.proofs.Records.{records-goes, records-none, records-room}
-use Rattle.run_traced.specs.Traced.{movesFor, runRecords, runTracedCall}
+use Rattle.run_traced.specs.Traced.{movesFor, runRecords}
 use Rattle.trace.proofs.Formed.{right-tested}
 use Rattle.trace.specs.Formed.{Follows, KnownKind, of-step, of-supply, RightRecord, RightTrace}
 use Rattle.trace.specs.Trace.{following, recordBytes, stampAt, stepKind, supplyKind, traceSize, traceTested, whatAt, whoAt}
 use Rattle.trace.specs.declared.Tested.the-variants.{Records}
 use Rattle.traced.proofs.Records.{record-length}
+use Rattle.words.specs.Nights.{toldOffset}
 
 -- ---- a record read back
 
@@ -104,7 +102,7 @@ abbrev playedTo : Tables → ℕ → Played
 playedTo t j = record { records = j; tables = t }
 
 module _ (lim : Limits) (pr : Program) where
-  data Chain : Tables → ℕ → List ℕ → Tables → ℕ → Type 0 where
+  pub data Chain : Tables → ℕ → List ℕ → Tables → ℕ → Type 0 where
     no-move : {t : Tables} {st : ℕ} → Chain t st [] t st
     a-step : {t u v : Tables} {st st′ p : ℕ} {m : Move} {x : List ℕ} → stepTables lim pr t p ≡ made m u → p < 65536 → Chain u (following st) x v st′
         → Chain t st (recordBytes stepKind p (ruleNumber m) st ++ x) v st′
@@ -196,59 +194,14 @@ module _ (lim : Limits) (pr : Program) where
           let z : unmade 9 ≡ made m u = sym q ∙ e in
           let w : _≡_ {A = ℕ} 0 1 = cc in absurd (omega arith)
 
-  record Ran-so (n j : ℕ) (t : Tables) (st : ℕ) : Type 0 where
-    count : ℕ
-    moves : runFrom n lim pr j t .moves ≡ j + count
-    most : count ≤ n
-    size : length (runRecords n lim pr st t) ≡ count * traceSize
-    all : Chain t st (runRecords n lim pr st t) (runFrom n lim pr j t .tables) (stampAfter st count)
-
-  run-all : (n : ℕ) (t : Tables) (st : ℕ) (x : Ran-so n 0 t st) → Chain t st (runRecords n lim pr st t) (runTables n lim pr t .tables) (stampAfter st (x .count))
-  unfolding runTables
-  run-all n t st x = x .all
-
-  halts : (n j : ℕ) (t : Tables) (st : ℕ) → st < 65536 → {e : End} → runFrom n lim pr j t ≡ halt e j t → runRecords n lim pr st t ≡ [] → Ran-so n j t st
-  halts n j t st h q z =
-      let same : stampAfter st 0 ≡ st = omega arith in
-      record { count = 0; moves = rw q (omega arith); most = omega arith; size = rw z refl; all = rw (q, z, same) no-move }
-
-  ran-on : Usable lim → (n j : ℕ) (t : Tables) (st p : ℕ) {m : Move} {u : Tables} → stepTables lim pr t p ≡ made m u
-      → runFrom (suc n) lim pr j t ≡ runFrom n lim pr (suc j) u → runRecords (suc n) lim pr st t ≡ recordBytes stepKind p (ruleNumber m) st ++ runRecords n lim pr (following st) u
-      → Ran-so n (suc j) u (following st) → Ran-so (suc n) j t st
-  ran-on ok n j t st p {m} {u} e q z x =
-      let c = x .count in
-      let stamps : stampAfter (following st) c ≡ stampAfter st (suc c) = omega arith in
-      record {
-        count = suc c;
-        moves = rw q (x .moves ∙ omega arith);
-        most = omega (arith, x .most);
-        size = rw z (omega (arith, length-append (recordBytes stepKind p (ruleNumber m) st) (runRecords n lim pr (following st) u), record-length stepKind p (ruleNumber m) st, x .size));
-        all = rw (q, z, ← stamps) (a-step e (step-below ok t p e) (x .all));
-      }
-
-  run-made : Usable lim → (n j : ℕ) (t : Tables) (st : ℕ) → st < 65536 → Ran-so n j t st
-  run-made ok zero j t st h = go (goalEnded t) refl (turnFor pr t) refl
-    where
-      nothing : runRecords zero lim pr st t ≡ []
-      nothing = unfold runRecords in refl
-
-      go : (b : Bool) → goalEnded t ≡ b → (f : Found) → turnFor pr t ≡ f → Ran-so zero j t st
-      go true z f y = halts zero j t st h (run-ended lim pr t zero j z) nothing
-      go false z Nothing y = halts zero j t st h (run-waits lim pr t z zero j y) nothing
-      go false z (At p) y = halts zero j t st h (run-spent lim pr t z y j) nothing
-  run-made ok (suc n) j t st h = go (goalEnded t) refl (turnFor pr t) refl (λ u. run-made ok n (suc j) u (following st) (following-small st))
-    where
-      next : (b : Bool) → goalEnded t ≡ b → (f : Found) → turnFor pr t ≡ f → unlessEnded (goalEnded t) (turnFor pr t) ≡ unlessEnded b f
-      next b z f y = rw (z, y)
-
-      by : goalEnded t ≡ false → {p : ℕ} → turnFor pr t ≡ At p → (x : Stepping) → stepTables lim pr t p ≡ x → ((u : Tables) → Ran-so n (suc j) u (following st)) → Ran-so (suc n) j t st
-      by z {p} y (unmade k) e rest = halts (suc n) j t st h (run-room lim pr t z y n j e) (records-room lim pr st t (next false z (At p) y) e n)
-      by z {p} y (made m u) e rest = ran-on ok n j t st p e (run-goes lim pr t z y n j e) (records-goes lim pr st t (next false z (At p) y) e n) (rest u)
-
-      go : (b : Bool) → goalEnded t ≡ b → (f : Found) → turnFor pr t ≡ f → ((u : Tables) → Ran-so n (suc j) u (following st)) → Ran-so (suc n) j t st
-      go true z f y rest = halts (suc n) j t st h (run-ended lim pr t (suc n) j z) (records-none lim pr st t (next true z f y) (suc n))
-      go false z Nothing y rest = halts (suc n) j t st h (run-waits lim pr t z (suc n) j y) (records-none lim pr st t (next false z Nothing y) (suc n))
-      go false z (At p) y rest = by z y (stepTables lim pr t p) refl rest
+  -- moves of a run, noted, are such a chain
+  noted-chain : Usable lim → Sane pr → {t v : Tables} {st k : ℕ} {x : List ℕ} → NotedMoves lim pr t st x k v → st < 65536 → tablesOk lim pr t ≡ true → Chain t st x v (stampAfter st k)
+  noted-chain ok sane {st = st} no-move-noted h ruled = let same : stampAfter st 0 ≡ st = omega arith in rw same no-move
+  noted-chain ok sane {t} (move-noted {s′ = s′} {m = m} {p = p} {stamp = st} {k = k} live whose rule fits j) h ruled =
+      let e = rule-makes lim pr t ruled p rule fits in
+      let rest = noted-chain ok sane j (following-small st) (step-keeps lim pr sane t (afterStep t p s′) p m ruled e) in
+      let stamps : stampAfter (following st) k ≡ stampAfter st (suc k) = omega arith in
+      rw (← stamps) (a-step e (step-below ok t p e) rest)
 
 -- ---- calls that record, one after the other
 
@@ -258,119 +211,111 @@ goal-most lim s l {r} {c} i =
     let k = lent-inside lim s r c l (let-image i) (a .relations) (a .clauses) (let-tables i) in
     omega (arith, k .goal, k .vars-most)
 
-moves-room : (bytes limit : ℕ) → movesFor bytes limit * traceSize ≤ bytes
-moves-room bytes limit = go (ltb (bytes / traceSize) limit) refl
-  where
-    go : (b : Bool) → ltb (bytes / traceSize) limit ≡ b → cond b (bytes / traceSize) limit * traceSize ≤ bytes
-    go true e = omega arith
-    go false e = omega (arith, ltb-false (bytes / traceSize) limit e)
-
--- a run that is not turned away is the plain one, and the records of its moves stand in front of the row
-module _ (lim : Limits) (s : List ℕ) (l : Lent) (row : List ℕ) (limit stamp w : ℕ) (l′ : Lent) (row′ : List ℕ) (meets : RunTracedMeets lim s l row limit stamp w l′ row′) where
-  run-traced-ran : {r c : ℕ} → LetIn lim s l r c → (x : Ran-so lim (programOf s r c) (movesFor (length row) limit) 0 (tablesIn l) stamp)
-      → (largeIn w ≡ x .count) × (l′ ≡ putTables l (runTables (movesFor (length row) limit) lim (programOf s r c) (tablesIn l) .tables))
-      × (take (x .count * traceSize) row′ ≡ runRecords (movesFor (length row) limit) lim (programOf s r c) stamp (tablesIn l))
-  run-traced-ran {r} {c} i x =
-      let n : ℕ = movesFor (length row) limit in
-      let plain = plain-run-traced lim s l row limit stamp w l′ row′ meets .contract in
-      let q = run-let lim s l i n in
-      let y : Running = runTables n lim (programOf s r c) (tablesIn l) in
-      let told = ended-told w (y .end) (y .moves) (plain .answer ∙ rw q) .2 in
-      let moves : y .moves ≡ x .count = unfold runTables in (x .moves ∙ omega arith) in
-      let records : row′ ≡ laid row 0 (runRecords n lim (programOf s r c) stamp (tablesIn l)) = unfold runTracedCall in (meets .contract .row ∙ rw (enter-let lim s l i)) in
-      (told ∙ moves, same-lent l′ (putTables l (y .tables)) (plain .head ∙ rw q) (plain .procs ∙ rw q) (plain .vars ∙ rw q), front-is (x .count * traceSize) (runRecords n lim (programOf s r c) stamp (tablesIn l)) row (x .size) (omega (arith, x .most, moves-room (length row) limit)) records)
+-- a trace that is without fault and plays to its end is played to its end
+replay-all : (lim : Limits) (s : List ℕ) (l : Lent) {r c : ℕ} → LetIn lim s l r c → (x : List ℕ) (n : ℕ) (t : Tables) → traceTested x ≡ Records n → playFrom n lim (programOf s r c) x 0 (tablesIn l) ≡ playedTo t n
+    → replayCall lim s l x ≡ record { answer = Replays n; lent = putTables l t }
+replay-all lim s l i x n t e q = replay-let lim s l i x ∙ rw (e, q, eq-eqb n n refl)
 
 module _ (lim : Limits) (ok : Usable lim) (s : List ℕ) (l : Lent) {r c : ℕ} (i : LetIn lim s l r c) (a : ℕ) where
   abbrev pr : Program
   pr = programOf s r c
 
-  record Trail (x : List ℕ) (m : Lent) (b : ℕ) : Type 0 where
-    records : ℕ
-    size : length x ≡ records * traceSize
-    all : Chain lim pr (tablesIn l) a x (tablesIn m) b
-    enters : LetIn lim s m r c
-    bytes : m ≡ putTables l (tablesIn m)
-    procs : length (tablesIn l .state .procs) ≤ length (tablesIn m .state .procs)
-    vars : length (tablesIn l .state .vars) ≤ length (tablesIn m .state .vars)
-    stamp : b < 65536
+  -- from the tables of l to those of m, and the records x of that
+  pub record Trail (x : List ℕ) (m : Lent) (b : ℕ) : Type 0 where
+    pub records : ℕ
+    pub size : length x ≡ records * traceSize
+    pub all : Chain lim pr (tablesIn l) a x (tablesIn m) b
+    pub enters : LetIn lim s m r c
+    pub gone : Goes lim pr (tablesIn l) (tablesIn m)
+    pub stamp : b < 65536
 
-  trail-on : {x : List ℕ} {m : Lent} {b : ℕ} → Trail x m b → (t : Tables) → Goes lim pr (tablesIn m) t → (y : List ℕ) (n b′ : ℕ) → Chain lim pr (tablesIn m) b y t b′ → length y ≡ n * traceSize → b′ < 65536
-      → (m′ : Lent) → m′ ≡ putTables m t → Trail (x ++ y) m′ b′
-  trail-on {x} {m} {b} tr t g y n b′ k e h m′ em =
-      let j = tr .enters in
+  -- without a night the bytes too are those of l, written over
+  pub record Day (x : List ℕ) (m : Lent) (b : ℕ) : Type 0 where
+    pub trail : Trail x m b
+    bytes : AllBytes l → m ≡ putTables l (tablesIn m)
+
+  pub trail-on : {x : List ℕ} {m : Lent} {b : ℕ} → Trail x m b → (t : Tables) → Goes lim pr (tablesIn m) t → (y : List ℕ) (n b′ : ℕ) → Chain lim pr (tablesIn m) b y t b′ → length y ≡ n * traceSize → b′ < 65536
+      → (m′ : Lent) → tablesIn m′ ≡ t → LetIn lim s m′ r c → Trail (x ++ y) m′ b′
+  trail-on {x} tr t g y n b′ k e h m′ read enters = record {
+    records = tr .records + n;
+    size = omega (arith, length-append x y, tr .size, e);
+    all = rw read (made-then lim pr (tr .all) k);
+    enters = enters;
+    gone = rw read (goes-then (tr .gone) g);
+    stamp = h;
+  }
+
+  day-on : {x : List ℕ} {m : Lent} {b : ℕ} → Day x m b → (t : Tables) → Goes lim pr (tablesIn m) t → (y : List ℕ) (n b′ : ℕ) → Chain lim pr (tablesIn m) b y t b′ → length y ≡ n * traceSize → b′ < 65536
+      → (m′ : Lent) → m′ ≡ putTables m t → Day (x ++ y) m′ b′
+  day-on {x} {m} {b} d t g y n b′ k e h m′ em =
+      let j = d .trail .enters in
       let read : tablesIn m′ ≡ t = ap tablesIn em ∙ goes-holds lim s m j t g .read in
       let more = goes-more lim pr (image-sane lim s m j) (let-ok lim s m j) g in
       let good = goes-ok lim s m j t g in
       let full = let-full lim s l i in
-      let over : putTables m t ≡ putTables l t = ap (λ (z : Lent). putTables z t) (tr .bytes) ∙ put-over l (tablesIn m) t (more .0) (more .1) (rows-fit lim pr l t full good) (cells-fit lim pr l t full good) in
+      let over = put-over l (tablesIn m) t (more .0) (more .1) (rows-fit lim pr l t full good) (cells-fit lim pr l t full good) in
       record {
-        records = tr .records + n;
-        size = omega (arith, length-append x y, tr .size, e);
-        all = rw read (made-then lim pr (tr .all) k);
-        enters = rw em (goes-let lim s m j t g);
-        bytes = em ∙ over ∙ ap (λ (z : Tables). putTables l z) (sym read);
-        procs = rw read (omega (arith, tr .procs, more .0));
-        vars = rw read (omega (arith, tr .vars, more .1));
-        stamp = h;
+        trail = trail-on (d .trail) t g y n b′ k e h m′ read (rw em (goes-let lim s m j t g));
+        bytes = λ are. em ∙ ap (λ (z : Lent). putTables z t) (d .bytes are) ∙ over ∙ ap (λ (z : Tables). putTables l z) (sym read);
       }
 
-  trail-start : AllBytes l → a < 65536 → Trail [] l a
-  trail-start bytes h = record {
-    records = 0;
-    size = refl;
-    all = no-move;
-    enters = i;
-    bytes = sym (put-same lim s l i bytes);
-    procs = omega arith;
-    vars = omega arith;
-    stamp = h;
+  day-start : a < 65536 → Day [] l a
+  day-start h = record {
+    trail = record { records = 0; size = refl; all = no-move; enters = i; gone = goes-none; stamp = h };
+    bytes = λ are. sym (put-same lim s l i are);
   }
 
-  trail-step : {x row row′ : List ℕ} {m m′ : Lent} {b p w : ℕ} → Trail x m b → StepTracedMeets lim s m row p b w m′ row′ → refusalIn w ≡ 0 → Trail (x ++ take traceSize row′) m′ (following b)
-  trail-step {row = row} {row′ = row′} {m = m} {m′ = m′} {b = b} {p = p} {w = w} tr meets z =
-      let (mv, t, e, em, er) = step-traced-made lim s m row p b w m′ row′ meets z (tr .enters) in
+  day-step : {x row row′ : List ℕ} {m m′ : Lent} {b p w : ℕ} → Day x m b → StepTracedMeets lim s m row p b w m′ row′ → refusalIn w ≡ 0 → Day (x ++ take traceSize row′) m′ (following b)
+  day-step {row = row} {row′ = row′} {m = m} {m′ = m′} {b = b} {p = p} {w = w} d meets z =
+      let (mv, t, e, em, er) = step-traced-made lim s m row p b w m′ row′ meets z (d .trail .enters) in
       let bs : List ℕ = recordBytes stepKind p (ruleNumber mv) b in
       let one : Chain lim pr (tablesIn m) b (bs ++ []) t (following b) = a-step e (step-below lim pr ok (tablesIn m) p e) no-move in
-      rw er (trail-on tr t (goes-step p e) bs 1 (following b) (rw (append-nil bs) at one) (omega (arith, record-length stepKind p (ruleNumber mv) b)) (following-small b) m′ em)
+      rw er (day-on d t (goes-step p e) bs 1 (following b) (rw (append-nil bs) at one) (omega (arith, record-length stepKind p (ruleNumber mv) b)) (following-small b) m′ em)
 
-  trail-supply : {x row row′ : List ℕ} {m m′ : Lent} {b v k w : ℕ} → Trail x m b → SupplyTracedMeets lim s m row v k b w m′ row′ → refusalIn w ≡ 0 → Trail (x ++ take traceSize row′) m′ (following b)
-  trail-supply {row = row} {row′ = row′} {m = m} {m′ = m′} {b = b} {v = v} {k = k} {w = w} tr meets z =
-      let (u, t, e, hv, hk, em, er) = supply-traced-given lim s m row v k b w m′ row′ meets z (tr .enters) in
+  day-supply : {x row row′ : List ℕ} {m m′ : Lent} {b v k w : ℕ} → Day x m b → SupplyTracedMeets lim s m row v k b w m′ row′ → refusalIn w ≡ 0 → Day (x ++ take traceSize row′) m′ (following b)
+  day-supply {row = row} {row′ = row′} {m = m} {m′ = m′} {b = b} {v = v} {k = k} {w = w} d meets z =
+      let j = d .trail .enters in
+      let (u, t, e, hv, hk, em, er) = supply-traced-given lim s m row v k b w m′ row′ meets z j in
       let bs : List ℕ = recordBytes supplyKind v k b in
-      let small-v : v < 65536 = omega (arith, hv, goal-most lim s m (tr .enters), ok .vars-counted) in
+      let small-v : v < 65536 = omega (arith, hv, goal-most lim s m j, ok .vars-counted) in
       let one : Chain lim pr (tablesIn m) b (bs ++ []) t (following b) = a-supply e small-v (omega (arith, hk)) no-move in
-      rw er (trail-on tr t (goes-supply v k e) bs 1 (following b) (rw (append-nil bs) at one) (omega (arith, record-length supplyKind v k b)) (following-small b) m′ em)
+      rw er (day-on d t (goes-supply v k e) bs 1 (following b) (rw (append-nil bs) at one) (omega (arith, record-length supplyKind v k b)) (following-small b) m′ em)
 
-  trail-run : {x row row′ : List ℕ} {m m′ : Lent} {b limit w : ℕ} → Trail x m b → RunTracedMeets lim s m row limit b w m′ row′ → Trail (x ++ take (largeIn w * traceSize) row′) m′ (stampAfter b (largeIn w))
-  trail-run {row = row} {row′ = row′} {m = m} {m′ = m′} {b = b} {limit = limit} {w = w} tr meets =
+  day-run : {x row row′ : List ℕ} {m m′ : Lent} {b limit w : ℕ} → Day x m b → RunTracedMeets lim s m row limit b w m′ row′ → Day (x ++ take (largeIn w * traceSize) row′) m′ (stampAfter b (largeIn w))
+  day-run {row = row} {row′ = row′} {m = m} {m′ = m′} {b = b} {limit = limit} {w = w} d meets =
+      let j = d .trail .enters in
       let n : ℕ = movesFor (length row) limit in
-      let ran = run-made lim pr ok n 0 (tablesIn m) b (tr .stamp) in
-      let out = run-traced-ran lim s m row limit b w m′ row′ meets (tr .enters) ran in
-      rw (out .0, out .2)
-      (trail-on tr (runTables n lim pr (tablesIn m) .tables) (goes-run n) (runRecords n lim pr b (tablesIn m)) (ran .count) (stampAfter b (ran .count)) (run-all lim pr n (tablesIn m) b ran) (ran .size) (omega arith) m′ (out .1))
+      let bs : List ℕ = runRecords n lim pr b (tablesIn m) in
+      let k = moved-so lim s m row limit b w m′ row′ meets j in
+      let size : length bs ≡ largeIn w * traceSize = noted-size lim pr (k .noted) in
+      let chain = noted-chain lim pr ok (image-sane lim s m j) (k .noted) (d .trail .stamp) (let-ok lim s m j) in
+      let front : take (largeIn w * traceSize) row′ ≡ bs = rw (k .front, ← size) (take-append-seam bs (drop (length bs) row)) in
+      rw front (day-on d (runTables n lim pr (tablesIn m) .tables) (goes-run n) bs (largeIn w) (stampAfter b (largeIn w)) chain size (omega arith) m′ (k .lent))
 
-  trail-of : AllBytes l → a < 65536 → {x : List ℕ} {m : Lent} {b : ℕ} → Recorded lim s l a x m b → Trail x m b
-  trail-of bytes h nothing-yet = trail-start bytes h
-  trail-of bytes h (then-step-traced k meets z) = trail-step (trail-of bytes h k) meets z
-  trail-of bytes h (then-supply-traced k meets z) = trail-supply (trail-of bytes h k) meets z
-  trail-of bytes h (then-run-traced k meets z) = trail-run (trail-of bytes h k) meets
+  pub day-of : a < 65536 → {x : List ℕ} {m : Lent} {b : ℕ} → Recorded lim s l a x m b → Day x m b
+  day-of h nothing-yet = day-start h
+  day-of h (then-step-traced k meets z) = day-step (day-of h k) meets z
+  day-of h (then-supply-traced k meets z) = day-supply (day-of h k) meets z
+  day-of h (then-run-traced k meets z) = day-run (day-of h k) meets
 
-  replay-all : (x : List ℕ) (n : ℕ) (t : Tables) → traceTested x ≡ Records n → playFrom n lim pr x 0 (tablesIn l) ≡ record { records = n; tables = t } → replayCall lim s l x ≡ record { answer = Replays n; lent = putTables l t }
-  replay-all x n t e q = replay-let lim s l i x ∙ rw (e, q, eq-eqb n n refl)
+  -- a replay on bytes that hold the tables of l plays every record, and writes the tables of m
+  pub trail-plays : a < 65536 → {x : List ℕ} {m : Lent} {b : ℕ} → Trail x m b → (q : Lent) → LetIn lim s q r c → tablesIn q ≡ tablesIn l → {w : ℕ} {m′ : Lent} → ReplayMeets lim s q x w m′
+      → (refusalIn w ≡ 0) × (largeIn w ≡ toldOffset (length x / traceSize)) × (m′ ≡ putTables q (tablesIn m))
+  trail-plays h {x} {m} tr q j same {w} {m′} meets =
+      let n : ℕ = tr .records in
+      let p = made-plays lim pr (tr .all) h [] 0 n refl (tr .size) in
+      let right : RightTrace x n = record { filled = record { size = tr .size; each = λ k u. p .each k (omega arith) (omega arith) }; follow = λ k u. p .follow k (omega arith) (omega arith) } in
+      let played : playFrom n lim pr x 0 (tablesIn q) ≡ playedTo (tablesIn m) n = rw same (p .played ∙ ap (playedTo (tablesIn m)) (omega arith)) in
+      let call = replay-all lim s q j x n (tablesIn m) (right-tested x right) played in
+      let word-is : w ≡ word (replayNumbers (Replays n)) = meets .contract .answer ∙ rw call in
+      let many : n ≡ length x / traceSize = omega (arith, tr .size) in
+      let accepted : refusalIn w ≡ 0 = rw word-is (refusal-of (replayNumbers (Replays n)) (omega arith) (omega arith) (omega arith)) in
+      let told : largeIn w ≡ toldOffset (length x / traceSize) = rw (word-is, ← many) (large-of (replayNumbers (Replays n)) (omega arith) (omega arith) (omega arith)) in
+      (accepted, told, same-lent m′ (putTables q (tablesIn m)) (meets .contract .head ∙ rw call) (meets .contract .procs ∙ rw call) (meets .contract .vars ∙ rw call))
 
   -- THE LAW: what calls recorded, replayed on the bytes that the first began with, plays every record and leaves the bytes that the last left
   pub recorded-replays : AllBytes l → a < 65536 → {x : List ℕ} {m : Lent} {b : ℕ} → Recorded lim s l a x m b → {w : ℕ} {m′ : Lent} → ReplayMeets lim s l x w m′ → PlaysBack x w m m′
-  recorded-replays bytes h {x} {m} k {w} {m′} meets =
-      let tr = trail-of bytes h k in
-      let n : ℕ = tr .records in
-      let p = made-plays lim pr (tr .all) h [] 0 n refl (tr .size) in
-      let right : RightTrace x n = record { filled = record { size = tr .size; each = λ j u. p .each j (omega arith) (omega arith) }; follow = λ j u. p .follow j (omega arith) (omega arith) } in
-      let played : playFrom n lim pr x 0 (tablesIn l) ≡ record { records = n; tables = tablesIn m } = p .played ∙ ap (playedTo (tablesIn m)) (omega arith) in
-      let call : replayCall lim s l x ≡ record { answer = Replays n; lent = m } = replay-all x n (tablesIn m) (right-tested x right) played ∙ rw (← tr .bytes) in
-      let word-is : w ≡ word (replayNumbers (Replays n)) = meets .contract .answer ∙ rw call in
-      let many : n ≡ length x / traceSize = omega (arith, tr .size) in
-      record {
-        accepted = rw word-is (refusal-of (replayNumbers (Replays n)) (omega arith) (omega arith) (omega arith));
-        told = rw (word-is, ← many) (large-of (replayNumbers (Replays n)) (omega arith) (omega arith) (omega arith));
-        bytes = same-lent m′ m (meets .contract .head ∙ rw call) (meets .contract .procs ∙ rw call) (meets .contract .vars ∙ rw call);
-      }
+  recorded-replays are h k meets =
+      let d = day-of h k in
+      let (accepted, told, bytes) = trail-plays h (d .trail) l i refl meets in
+      record { accepted = accepted; told = told; bytes = bytes ∙ sym (d .bytes are) }

@@ -47,7 +47,7 @@ use Rattle.traced.proofs.Records.{record-length}
 use Rattle.traced.specs.Traced.{stepTracedCall, supplyTracedCall}
 
 -- what was laid at the front of a row
-pub front-is : (n : ℕ) (bs row : List ℕ) → length bs ≡ n → n ≤ length row → {w : List ℕ} → w ≡ laid row 0 bs → take n w ≡ bs
+front-is : (n : ℕ) (bs row : List ℕ) → length bs ≡ n → n ≤ length row → {w : List ℕ} → w ≡ laid row 0 bs → take n w ≡ bs
 front-is n bs row e h ew =
     let room : length bs ≤ length row = omega arith in
     rw (ew, ← e) (laid-read bs row room)

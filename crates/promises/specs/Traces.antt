@@ -1,20 +1,23 @@
 -- Request 7: outcomes of the calls that record, when they are refused, and what calls that follow one another have recorded.
 use mathlib.Core.Path.{_≡_}
 use mathlib.Core.List.{[], _++_, List}
-use Prim.Native.Nat.{_%_, _*_, _+_, _/_, _<_, _≤_, ℕ}
+use Prim.Native.Nat.{_%_, _*_, _+_, _/_, _<_, _≤_, suc, ℕ}
 use lib.ListN.{drop, length, take}
 use Rattle.capi.specs.Tells.{RunTracedTells, StepTracedTells, SupplyTracedTells}
+use Rattle.parlog.specs.Codes.{dormant}
 use Rattle.parlog.specs.Limits.{Limits}
-use Rattle.parlog.specs.Notions.{Leads}
+use Rattle.parlog.specs.Notions.{HasMode, Leads}
 use Rattle.parlog.specs.Numbers.{ruleNumber}
 use Rattle.parlog.specs.Program.{Program, programOf}
 use Rattle.parlog.specs.Relation.{Fits, Rule}
-use Rattle.parlog.specs.Tables.{Lent, State}
+use Rattle.parlog.specs.Tables.{Lent, State, Tables, tablesIn}
 use Rattle.parlog.specs.declared.Move.{Move}
 use Rattle.parlog.specs.declared.Term.the-variants.{Var}
-use Rattle.promises.specs.Moves.{Shows, Supplies}
+use Rattle.promises.specs.Moves.{afterStep, Holds, RunsExactly, Shows, Supplies}
 use Rattle.promises.specs.Outcomes.{largeIn, refusalIn}
-use Rattle.promises.specs.Refusals.{LetIn, stateIn, StepRefused, SupplyRefused}
+use Rattle.promises.specs.Reach.{Night}
+use Rattle.promises.specs.Refusals.{LetIn, stateIn, StepRefused, SupplyRefused, Turn}
+use Rattle.run_traced.specs.Traced.{movesFor}
 use Rattle.trace.specs.Trace.{following, recordBytes, stepKind, supplyKind, traceSize}
 use Rattle.words.specs.Nights.{toldOffset}
 
@@ -85,6 +88,24 @@ pub record SupplyNoted (l : Lent) (row : List ℕ) (v k stamp w : ℕ) (l′ : L
   pub supplies : Supplies l v k w l′
   pub notes : RowNotes row (recordBytes supplyKind v k stamp) row′
 
+-- Traces 11: moves one after the other, each that of the process whose turn it is, none of them after the goal's end: from the tables t, the first with this
+-- stamp; the bytes of their records, each in front of those of the moves behind it, their number, and the tables that they leave
+pub data NotedMoves (lim : Limits) (pr : Program) : Tables → ℕ → List ℕ → ℕ → Tables → Type 0 where
+  no-move-noted : {t : Tables} {stamp : ℕ} → NotedMoves lim pr t stamp [] 0 t
+  move-noted : {t u : Tables} {s′ : State} {m : Move} {p stamp k : ℕ} {bytes : List ℕ} → (HasMode (t .state) 0 dormant → ⊥) → Turn pr t p → Rule pr (t .state) p m s′ → Fits lim s′
+      → NotedMoves lim pr (afterStep t p s′) (following stamp) bytes k u → NotedMoves lim pr t stamp (recordBytes stepKind p (ruleNumber m) stamp ++ bytes) (suc k) u
+
+-- Traces 11: the run is the plain one, of as many moves as there is room for; the records of its moves, in their order, stand in front of the row, and behind
+-- them is what was there
+pub record RunNoted (lim : Limits) (s : List ℕ) (pr : Program) (l : Lent) (row : List ℕ) (limit stamp w : ℕ) (l′ : Lent) (row′ : List ℕ) : Type 0 where
+  pub runs : RunsExactly lim s pr l (movesFor (length row) limit) w l′
+  pub bytes : List ℕ
+  pub after : Tables
+  pub moves : NotedMoves lim pr (tablesIn l) stamp bytes (largeIn w) after
+  pub tables : Holds l after l′
+  pub room : largeIn w * traceSize ≤ length row
+  pub front : row′ ≡ bytes ++ drop (largeIn w * traceSize) row
+
 -- ---- what was recorded
 
 -- Traces 2: the stamp n records on
@@ -107,3 +128,18 @@ pub record PlaysBack (x : List ℕ) (w : ℕ) (m m′ : Lent) : Type 0 where
   pub accepted : refusalIn w ≡ 0
   pub told : largeIn w ≡ toldOffset (length x / traceSize)
   pub bytes : m′ ≡ m
+
+-- ---- what was recorded over nights
+
+-- Traces 9, 11, Saved 10: the same with nights in between: the calls of the next day begin with the bytes that were read back and the stamp that follows
+pub data RecordedOver (lim : Limits) (s : List ℕ) (l : Lent) (a : ℕ) : List ℕ → Lent → ℕ → Type 0 where
+  first-day : {x : List ℕ} {m : Lent} {b : ℕ} → Recorded lim s l a x m b → RecordedOver lim s l a x m b
+  then-night-traced : {x y : List ℕ} {m n m′ : Lent} {b c : ℕ} → RecordedOver lim s l a x m b → Night lim s m n → Recorded lim s n b y m′ c
+      → RecordedOver lim s l a (x ++ y) m′ c
+
+-- Traces 6: of a replay of the trace x on the bytes l: no refusal, the number of all its records is told, and the bytes hold the tables of m. Past their
+-- rows they are those of l, where m may have the zeros of a night
+pub record PlaysTo (x : List ℕ) (w : ℕ) (l m m′ : Lent) : Type 0 where
+  pub accepted : refusalIn w ≡ 0
+  pub told : largeIn w ≡ toldOffset (length x / traceSize)
+  pub tables : Holds l (tablesIn m) m′
