@@ -2,6 +2,7 @@
 #define _XOPEN_SOURCE 700
 #include "outputs.h"
 
+#include "paths.h"
 #include "say.h"
 #include "stops.h"
 
@@ -63,76 +64,6 @@ static int write_all(int file, const struct bytes *bytes)
         done += some > 0 ? (size_t)some : 0;
     }
     return 1;
-}
-
-static char *joined(const char *path, const char *end)
-{
-    char *both = (char *)malloc(strlen(path) + strlen(end) + 1);
-
-    if (both == NULL)
-        quit(NO_FILE, "no memory is left");
-    strcpy(both, path);
-    strcat(both, end);
-    return both;
-}
-
-/* ---- paths ---- */
-
-/* The last part of a path. */
-static const char *name_in(const char *path)
-{
-    const char *slash = strrchr(path, '/');
-
-    return slash != NULL ? slash + 1 : path;
-}
-
-/* The folder of a path, by a name that leads to folders alone. */
-static char *folder_of(const char *path)
-{
-    char *folder = joined(path, ".");
-
-    strcpy(folder + (name_in(path) - path), ".");
-    return folder;
-}
-
-/* Where a path leads, links followed, to a file that is there or that would be made; NULL where there is no folder for it. */
-static char *end_of(const char *path)
-{
-    char *whole = realpath(path, NULL), *folder, *slashed;
-
-    if (whole != NULL)
-        return whole;
-    folder = folder_of(path);
-    whole = realpath(folder, NULL);
-    free(folder);
-    if (whole == NULL)
-        return NULL;
-    slashed = joined(whole, "/");
-    free(whole);
-    whole = joined(slashed, name_in(path));
-    free(slashed);
-    return whole;
-}
-
-/* Standard input and output are no files here; what is no file that could be renamed is not lost when it is written to. */
-int is_same_file(const char *left, const char *right)
-{
-    struct stat found;
-    char *one, *other;
-    int same;
-
-    if (strcmp(left, "-") == 0 || strcmp(right, "-") == 0)
-        return 0;
-    if (strcmp(left, right) == 0)
-        return 1;
-    if (stat(left, &found) == 0 && !S_ISREG(found.st_mode))
-        return 0;
-    one = end_of(left);
-    other = end_of(right);
-    same = one != NULL && other != NULL && strcmp(one, other) == 0;
-    free(one);
-    free(other);
-    return same;
 }
 
 /* ---- what cannot be renamed ---- */

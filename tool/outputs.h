@@ -12,9 +12,6 @@ struct output {
 
 enum { OUTPUTS_MOST = 2 };
 
-/* Whether two paths lead to one file, links followed; "-" leads to none. */
-int is_same_file(const char *left, const char *right);
-
 /*
  * Ends the tool where a file could not be written now, as far as that can be seen without making one: before anything is read
  * or run that would be lost. NULL is none.
