@@ -1,4 +1,4 @@
-/* Files written whole. open, fcntl, fsync, realpath, sigprocmask and sigsetjmp are POSIX, not C99. */
+/* Files written whole. open, fcntl, fsync, sync, realpath, sigprocmask and sigsetjmp are POSIX, not C99. */
 #define _XOPEN_SOURCE 700
 #include "outputs.h"
 
@@ -26,6 +26,7 @@ struct place {
     char *target;
     char *beside;
     int file; /* the file beside; -1 where there is none to be taken away */
+    int folder; /* its folder; -1 where that may not be read */
     int stood; /* whether there is an old one */
     int shut; /* whether who owns it may not write to it, which it becomes in its place */
     mode_t mode;
@@ -216,12 +217,22 @@ static int find_place(struct place *place, const char *path)
     return place->target != NULL;
 }
 
+/* Opens the folder of a place, while every file is still the old one. 0 where it cannot be; errno tells. */
+static int open_folder(struct place *place)
+{
+    char *folder = folder_of(place->target);
+
+    place->folder = open(folder, O_RDONLY | O_DIRECTORY);
+    free(folder);
+    return place->folder >= 0 || errno == EACCES;
+}
+
 /* All bytes of a file beside its place and on the disk; a file that stood there keeps its mode. */
 static void write_beside(const struct output *output)
 {
     struct place *place = &places[place_count++];
 
-    if (!find_place(place, output->path))
+    if (!find_place(place, output->path) || !open_folder(place))
         give_up(output->path);
     place->file = hold(place->beside, place->mode);
     if (place->file < 0)
@@ -234,18 +245,47 @@ static void write_beside(const struct output *output)
         give_up(place->path);
 }
 
+/* Has the new name of a file on the disk. 0 where that is not sure; errno tells. Not every disk syncs folders. */
+static int sync_folder(const struct place *place)
+{
+    if (place->folder < 0) {
+        sync();
+        return 1;
+    }
+    return fsync(place->folder) == 0 || errno == EINVAL || errno == ENOTSUP;
+}
+
+/* Ends the tool where a new name may be lost. What comes behind is not renamed: it might be on the disk without this one. */
+static void leave_unsure(const struct place *place)
+{
+    const char *why = strerror(errno), *rest = place + 1 < places + place_count ? place[1].path : NULL;
+
+    take_away();
+    quit(NO_FILE, "%s: in its place, but a power cut may undo that: %s%s%s", place->path, why,
+         rest != NULL ? "; not written: " : "", rest != NULL ? rest : "");
+}
+
+static void into_place(struct place *place)
+{
+    if (rename(place->beside, place->target) != 0)
+        give_up(place->path);
+    /* not before: what a kill leaves beside could not be opened again */
+    if (place->shut)
+        fchmod(place->file, place->mode & ~(mode_t)S_IWUSR);
+    close(place->file);
+    place->file = -1;
+    if (!sync_folder(place))
+        leave_unsure(place);
+    if (place->folder >= 0)
+        close(place->folder);
+}
+
 static void rename_all(void)
 {
     struct place *place;
 
     for (place = places; place < places + place_count; place++) {
-        if (rename(place->beside, place->target) != 0)
-            give_up(place->path);
-        /* not before: what a kill leaves beside could not be opened again */
-        if (place->shut)
-            fchmod(place->file, place->mode & ~(mode_t)S_IWUSR);
-        close(place->file);
-        place->file = -1;
+        into_place(place);
         free(place->beside);
         free(place->target);
     }

@@ -21,8 +21,9 @@ void output_test(const char *path);
 /*
  * Writes all files of a command. The bytes of each go into a file beside its place, and when all are on the disk each is
  * renamed, in this order: whatever happens, a path leads to the old bytes or to the new ones, whole, and a disk that is full
- * leaves every old file. What is no file that could be renamed, a device or a pipe, is written as it stands, before the
- * others. Ends the tool where something cannot be done.
+ * leaves every old file. Behind each rename the folder is synced, so that a power cut keeps this order, too. What is no file
+ * that could be renamed, a device or a pipe, is written as it stands, before the others. Ends the tool where something cannot
+ * be done.
  */
 void outputs_write(const struct output *outputs, unsigned count);
 

@@ -4,6 +4,7 @@ takes; and files that do not belong together are not taken for a pair. MOMENTS i
 
 Each command below is stopped at each of its calls: killed, and by a call that fails; told to stop at every second one; killed by chance; past a limit on the size of files; on /dev/full; and, where one can be
 mounted, on a small disk (whole.py PROGRAM MOMENTS --disk FOLDER, in a space of its own)."""
+import errno
 import fcntl
 import os
 import random
@@ -17,7 +18,9 @@ import time
 
 ROOT = os.path.dirname(os.path.dirname(os.path.dirname(os.path.abspath(__file__))))
 PROGRAM, MOMENTS = map(os.path.abspath, sys.argv[1:3])
-BESIDE, PAGE, KILLS, CALLS_MOST, CALLS_THAT_MATTER, PATIENCE = '.rissobarm-new', 4096, 12, 60, 5, 20
+BESIDE, PAGE, KILLS, CALLS_MOST, PATIENCE, OTHER_USER = '.rissobarm-new', 4096, 12, 60, 20, 65534
+# calls that must not fail, for each file: open of its folder and of the file beside, truncate, write, sync; then, file by file, rename and sync of the folder
+CALLS_BEFORE, CALLS_IN_PLACE = 5, 2
 # two plans with as many names and with images of one length: without a mark, either list goes with either image
 OLD = 'mode page(?,^).\npage(a, b).\npage(a, c).\npage(d, c).\n<- page(Key, Page).\n'
 NEW = 'mode leaf(?,^).\nleaf(k, l).\nleaf(m, l).\nleaf(n, k).\n<- leaf(Key, Page).\n'
@@ -145,9 +148,9 @@ def prepare():
 
 # ---- stopped at each call
 
-def at_call(command, moment, fate):
+def at_call(command, moment, fate, **more):
     command.reset()
-    return run(command.words, MOMENTS, env=dict(os.environ, MOMENT=str(moment), FATE=fate))
+    return run(command.words, MOMENTS, env=dict(os.environ, MOMENT=str(moment), FATE=fate, **more))
 
 
 def taken(command):
@@ -172,19 +175,40 @@ def killed(command):
     wrong(command, 'never comes to an end')
 
 
+def words_of_failure(command, over):
+    """What is said where the call fails that is so many behind the first rename, or before it: a file that is in its place already is not called unwritten."""
+    at, synced = over // CALLS_IN_PLACE - 1, over > 0 and over % CALLS_IN_PLACE == 0
+    if not synced:
+        return ['rissobarm: %s: not written: No space left on device\n' % path for path in command.files]
+    rest = ''.join('; not written: ' + path for path in command.files[at + 1:])
+    return ['rissobarm: %s: in its place, but a power cut may undo that: No space left on device%s\n' % (command.files[at], rest)]
+
+
 def failed(command):
-    """A call that fails is told, and nothing is left beside; only behind a rename a file may be new. Open, truncate, write, sync and rename of each file must not fail."""
-    told = CALLS_THAT_MATTER * len(command.files)
+    """A call that fails is told, and nothing is left beside; behind a rename a file is new, and none is renamed before that is sure on the disk."""
+    before = CALLS_BEFORE * len(command.files)
+    told = before + CALLS_IN_PLACE * len(command.files)
     for moment in range(1, told + 2):
         status, said = at_call(command, moment, 'fail')
-        state, last = taken(command), moment > told
+        state, last, over = taken(command), moment > told, max(0, moment - before)
         if left_beside():
             wrong(command, 'failing at call %d, it leaves a file beside' % moment)
         if last and (status != command.status or said or state != len(command.files)):
             wrong(command, 'has more calls than it should')
-        if not last and (status != 10 or said not in ['rissobarm: %s: not written: No space left on device\n' % path for path in command.files] or state == len(command.files)):
+        if not last and (status != 10 or said not in words_of_failure(command, over) or state != over // CALLS_IN_PLACE):
             wrong(command, 'failing at call %d, it ends with %d and says: %s' % (moment, status, said))
     return told
+
+
+def synced(command):
+    """Behind each rename the folder is synced, before the next one; a disk that does not sync folders is none that fails."""
+    calls = at_call(command, 0, 'tell')[1].splitlines()
+    if [call for call in calls if call in ('rename', 'fsync folder', 'sync')] != ['rename', 'fsync folder'] * len(command.files):
+        wrong(command, 'does not sync the folder behind each rename: %s' % ', '.join(calls))
+    for why in (errno.EINVAL, errno.ENOTSUP):
+        done = at_call(command, CALLS_BEFORE * len(command.files) + CALLS_IN_PLACE, 'fail', WHY=str(why))
+        if done != (command.status, '') or command.state() != len(command.files):
+            wrong(command, 'on a disk that does not sync folders it ends with %d and says: %s' % done)
 
 
 def stopped(command, moments):
@@ -308,7 +332,7 @@ def left_over(command):
 
 def one_waits():
     """A tool that writes a file waits for another that does, wherever that one is: both end well, and the later one has the file."""
-    for moment in range(2, 6):
+    for moment in range(3, 7):
         first = subprocess.Popen([MOMENTS, 'compile', 'old.plan', '-o', 'both.image'], env=dict(os.environ, MOMENT=str(moment), FATE='pause'))
         began = time.time()
         while not left_beside() and first.poll() is None and time.time() - began < PATIENCE:
@@ -349,7 +373,7 @@ def stopped_waiting():
 
 def crossed():
     """Of two tools that each hold what the other wants one gives up, and the files are those of the other; where the second comes too late for that, both end well."""
-    first = subprocess.Popen([MOMENTS] + 'compile old.plan -o two.b --names two.a'.split(), env=dict(os.environ, MOMENT='2', FATE='pause'), stderr=subprocess.PIPE, universal_newlines=True)
+    first = subprocess.Popen([MOMENTS] + 'compile old.plan -o two.b --names two.a'.split(), env=dict(os.environ, MOMENT='3', FATE='pause'), stderr=subprocess.PIPE, universal_newlines=True)
     began = time.time()
     while not left_beside() and first.poll() is None and time.time() - began < PATIENCE:
         time.sleep(0.002)
@@ -374,6 +398,27 @@ def shut():
         if status == 0 and mode == 0o444 and not left_beside():
             return
     sys.exit('whole: a file that may not be written to does not stay so')
+
+
+def as_other_user():
+    """For a child of root: from here on it is another user, for whom the modes of files count."""
+    if os.geteuid() == 0:
+        os.setuid(OTHER_USER)
+
+
+def unreadable():
+    """A folder that may be written to but not read cannot be opened to be synced: every disk is, instead."""
+    os.mkdir('dark')
+    shutil.copy(MOMENTS, 'moments')
+    os.chmod('.', 0o755)
+    if os.geteuid() == 0:
+        os.chown('dark', OTHER_USER, OTHER_USER)
+    os.chmod('dark', 0o300)
+    status, said = run('compile old.plan -o dark/x --names dark/y'.split(), './moments', env=dict(os.environ, FATE='tell'), preexec_fn=as_other_user)
+    calls = [call for call in said.splitlines() if 'sync' in call or call == 'rename']
+    os.chmod('dark', 0o700)
+    if status != 0 or calls != ['fsync', 'fsync'] + ['rename', 'sync'] * 2 or read('dark/x') != read('old.image'):
+        sys.exit('whole: in a folder that may not be read it ends with %d and calls: %s' % (status, said))
 
 
 def at_once():
@@ -401,6 +446,7 @@ def main():
         for command in commands():
             made, some = killed(command)
             moments, between, told, count = moments + made, between + some, told + failed(command), count + 1
+            synced(command)
             stopped(command, made)
             left_over(command)
             by_chance(command)
@@ -412,6 +458,7 @@ def main():
         crossed()
         shut()
         at_once()
+        unreadable()
         os.chdir('/')
     full = small_disk()
     print('whole: %d commands killed at each of %d calls, %d of them between two files, and %d times by chance; %d failing calls, limits and full devices told; %s' % (
