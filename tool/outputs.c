@@ -16,8 +16,6 @@
 #include <sys/stat.h>
 #include <unistd.h>
 
-static const char suffix[] = ".rissobarm-new";
-
 enum { NEW_MODE = 0666, MODE_BITS = 0777, TRIES_MOST = 1000 };
 
 /* A file on its way: where it goes, links followed, and the file beside that place. */
@@ -198,6 +196,18 @@ static void refuse_twice(const struct place *place)
         }
 }
 
+/* Why there can be no file by that path, by a number of errno; 0 where there can. A link that leads nowhere can be replaced. */
+static int hindrance(const char *path)
+{
+    struct stat found;
+
+    if (path[0] == '\0')
+        return ENOENT;
+    if (lstat(path, &found) != 0)
+        return errno == ENAMETOOLONG ? errno : 0;
+    return stat(path, &found) == 0 && S_ISDIR(found.st_mode) ? EISDIR : 0;
+}
+
 /* Fills a place in, all but its file. 0 where there is none for a file; errno tells. */
 static int find_place(struct place *place, const char *path)
 {
@@ -209,11 +219,11 @@ static int find_place(struct place *place, const char *path)
     place->stood = stood;
     place->shut = stood && !(old.st_mode & S_IWUSR);
     place->mode = stood ? (old.st_mode & MODE_BITS) | S_IWUSR : (mode_t)NEW_MODE;
-    place->target = NULL;
-    errno = path[0] == '\0' ? ENOENT : EISDIR;
-    if (path[0] != '\0' && (!stood || !S_ISDIR(old.st_mode)))
-        place->target = stood ? realpath(path, NULL) : joined(path, "");
-    place->beside = place->target != NULL ? joined(place->target, suffix) : NULL;
+    errno = hindrance(path);
+    if (errno != 0)
+        return 0;
+    place->target = stood ? realpath(path, NULL) : joined(path, "");
+    place->beside = place->target != NULL ? beside_of(place->target) : NULL;
     return place->target != NULL;
 }
 

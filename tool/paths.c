@@ -2,11 +2,19 @@
 #define _XOPEN_SOURCE 700
 #include "paths.h"
 
+#include "files.h"
 #include "say.h"
 
+#include <inttypes.h>
+#include <stdio.h>
 #include <stdlib.h>
 #include <string.h>
 #include <sys/stat.h>
+
+static const char ending[] = ".rissobarm-new";
+
+/* The most bytes of a name that gets the ending: every disk takes both. And the room of a sum in text. */
+enum { PLAIN_MOST = 100, SUM_ROOM = 17 };
 
 char *joined(const char *path, const char *end)
 {
@@ -32,6 +40,23 @@ char *folder_of(const char *path)
 
     strcpy(folder + (name_in(path) - path), ".");
     return folder;
+}
+
+char *beside_of(const char *target)
+{
+    const char *name = name_in(target);
+    char sum[SUM_ROOM], *folder, *path, *beside;
+
+    if (strlen(name) <= PLAIN_MOST)
+        return joined(target, ending);
+    snprintf(sum, sizeof sum, "%016" PRIx64, bytes_sum(name, strlen(name)));
+    folder = joined(target, "");
+    folder[name - target] = '\0';
+    path = joined(folder, sum);
+    free(folder);
+    beside = joined(path, ending);
+    free(path);
+    return beside;
 }
 
 /* Where a path leads, links followed, to a file that is there or that would be made; NULL where there is no folder for it. */

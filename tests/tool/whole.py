@@ -6,6 +6,7 @@ Each command below is stopped at each of its calls: killed, and by a call that f
 mounted, on a small disk (whole.py PROGRAM MOMENTS --disk FOLDER, in a space of its own)."""
 import errno
 import fcntl
+import itertools
 import os
 import random
 import resource
@@ -21,6 +22,8 @@ PROGRAM, MOMENTS = map(os.path.abspath, sys.argv[1:3])
 BESIDE, PAGE, KILLS, CALLS_MOST, PATIENCE, OTHER_USER = '.rissobarm-new', 4096, 12, 60, 20, 65534
 # calls that must not fail, for each file: open of its folder and of the file beside, truncate, write, sync; then, file by file, rename and sync of the folder
 CALLS_BEFORE, CALLS_IN_PLACE = 5, 2
+# a name of more bytes than PLAIN_MOST gives way to a number beside it; LONGEST are two of as many bytes as a disk takes, of which only the last ones differ
+PLAIN_MOST, LONGEST = 100, ['\u00e9' * 127 + end for end in 'ab']
 # two plans with as many names and with images of one length: without a mark, either list goes with either image
 OLD = 'mode page(?,^).\npage(a, b).\npage(a, c).\npage(d, c).\n<- page(Key, Page).\n'
 NEW = 'mode leaf(?,^).\nleaf(k, l).\nleaf(m, l).\nleaf(n, k).\n<- leaf(Key, Page).\n'
@@ -71,6 +74,17 @@ def write(path, bytes_):
             file.write(bytes_)
     elif os.path.exists(path):
         os.remove(path)
+
+
+def beside(path):
+    """The name of the file beside."""
+    name = path.encode()
+    if len(name) <= PLAIN_MOST:
+        return path + BESIDE
+    total = 0xcbf29ce484222325
+    for byte in name:
+        total = (total ^ byte) * 0x100000001b3 % 2**64
+    return '%016x%s' % (total, BESIDE)
 
 
 def left_beside():
@@ -124,6 +138,7 @@ def commands():
         Command('compile over a list made by hand', 'compile new.plan -o kept.image --names kept.names', 0, ['kept.names', 'kept.image'], ['hand.names', 'old.image'], printed),
         Command('compile for the first time', 'compile new.plan -o kept.image --names kept.names', 0, ['kept.names', 'kept.image'], [None, None], first_printed),
         Command('compile without names', 'compile new.plan -o kept.image', 0, ['kept.image'], ['old.image'], alone),
+        Command('compile to the longest names', 'compile new.plan -o %s --names %s' % tuple(LONGEST), 0, LONGEST[::-1], ['old.names', 'old.image'], alone),
         Command('print', 'print new.image --names new.names -o kept.plan', 0, ['kept.plan'], ['old.plan'], alone),
         Command('run', 'run wide.plan --save kept.run --trace kept.trace', 2, ['kept.trace', 'kept.run'], ['old.trace', 'old.run'], from_start),
         Command('resume', 'resume old.run --supply Key=one --save kept.run --trace kept.trace', 0, ['kept.trace', 'kept.run'], ['old.trace', 'wide.run'], alone),
@@ -325,21 +340,21 @@ def left_over(command):
     """What a tool that was killed has left, longer than the file that comes: nothing of it is in the new one."""
     command.reset()
     for path in command.files:
-        write(path + BESIDE, bytes(10 * PAGE))
+        write(beside(path), bytes(10 * PAGE))
     if run(command.words)[0] != command.status or command.state() != len(command.files) or left_beside():
         wrong(command, 'does not use what was left beside as it should')
 
 
 def one_waits():
     """A tool that writes a file waits for another that does, wherever that one is: both end well, and the later one has the file."""
-    for moment in range(3, 7):
-        first = subprocess.Popen([MOMENTS, 'compile', 'old.plan', '-o', 'both.image'], env=dict(os.environ, MOMENT=str(moment), FATE='pause'))
+    for moment, path in itertools.product(range(3, 7), ('both.image', LONGEST[0])):
+        first = subprocess.Popen([MOMENTS, 'compile', 'old.plan', '-o', path], env=dict(os.environ, MOMENT=str(moment), FATE='pause'))
         began = time.time()
         while not left_beside() and first.poll() is None and time.time() - began < PATIENCE:
             time.sleep(0.002)
-        if run('compile new.plan -o both.image'.split()) != (0, '') or first.wait() != 0 or read('both.image') != read('new.image') or left_beside():
+        if run(['compile', 'new.plan', '-o', path]) != (0, '') or first.wait() != 0 or read(path) != read('new.image') or left_beside():
             sys.exit('whole: of two tools that write one file, one does not wait for the other at call %d' % moment)
-        os.remove('both.image')
+        os.remove(path)
 
 
 def waits_for_lock(job):
@@ -358,7 +373,7 @@ def stopped_waiting():
         last = command.files[-1]
         for number in (signal.SIGINT, signal.SIGTERM, signal.SIGHUP):
             command.reset()
-            with open(last + BESIDE, 'wb') as held:
+            with open(beside(last), 'wb') as held:
                 fcntl.lockf(held, fcntl.LOCK_EX)
                 job = subprocess.Popen([PROGRAM] + command.words, stdin=subprocess.DEVNULL, stdout=subprocess.DEVNULL, stderr=subprocess.PIPE, universal_newlines=True)
                 waits_for_lock(job)
@@ -366,7 +381,7 @@ def stopped_waiting():
                 said = job.communicate(timeout=PATIENCE)[1]
             if job.returncode != 10 or said != 'rissobarm: %s: not written: stopped while another tool writes it\n' % last:
                 wrong(command, 'stopped by %s while it waits, it ends with %d and says: %s' % (number.name, job.returncode, said))
-            if command.stand() != command.old or left_beside() != [last + BESIDE]:
+            if command.stand() != command.old or left_beside() != [beside(last)]:
                 wrong(command, 'stopped by %s while it waits, it does not leave all files alone' % number.name)
     command.reset()
 
