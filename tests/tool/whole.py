@@ -20,6 +20,7 @@ import time
 ROOT = os.path.dirname(os.path.dirname(os.path.dirname(os.path.abspath(__file__))))
 PROGRAM, MOMENTS = map(os.path.abspath, sys.argv[1:3])
 BESIDE, PAGE, KILLS, CALLS_MOST, PATIENCE, OTHER_USER = '.rissobarm-new', 4096, 12, 60, 20, 65534
+STOPS = (signal.SIGINT, signal.SIGTERM, signal.SIGHUP)
 # calls that must not fail, for each file: open of its folder and of the file beside, truncate, write, sync; then, file by file, rename and sync of the folder
 CALLS_BEFORE, CALLS_IN_PLACE = 5, 2
 # a name of more bytes than PLAIN_MOST gives way to a number beside it; LONGEST are two of as many bytes as a disk takes, of which only the last ones differ
@@ -367,22 +368,36 @@ def waits_for_lock(job):
         time.sleep(0.005)
 
 
+def waiting(command, number, ignored):
+    """Starts a tool, sends it a stop while it waits for another one's file, and lets that one go when the tool has ended, or, where the stop is ignored, before. Status and what is said."""
+    def begin():
+        for stop in STOPS:
+            signal.signal(stop, signal.SIG_IGN if ignored else signal.SIG_DFL)
+
+    command.reset()
+    with open(beside(command.files[-1]), 'wb') as held:
+        fcntl.lockf(held, fcntl.LOCK_EX)
+        job = subprocess.Popen([PROGRAM] + command.words, stdin=subprocess.DEVNULL, stdout=subprocess.DEVNULL, stderr=subprocess.PIPE, universal_newlines=True, preexec_fn=begin)
+        waits_for_lock(job)
+        job.send_signal(number)
+        if not ignored:
+            job.wait(PATIENCE)
+    said = job.communicate(timeout=PATIENCE)[1]
+    return job.returncode, said
+
+
 def stopped_waiting():
-    """A tool that waits for another is ended by each of three signals: all files are the old ones, and beside is what the other tool has, alone."""
+    """A tool that waits for another is ended by each of three signals, unless it is ignored: all files are the old ones, and beside is what the other tool has, alone."""
     for command in commands():
         last = command.files[-1]
-        for number in (signal.SIGINT, signal.SIGTERM, signal.SIGHUP):
-            command.reset()
-            with open(beside(last), 'wb') as held:
-                fcntl.lockf(held, fcntl.LOCK_EX)
-                job = subprocess.Popen([PROGRAM] + command.words, stdin=subprocess.DEVNULL, stdout=subprocess.DEVNULL, stderr=subprocess.PIPE, universal_newlines=True)
-                waits_for_lock(job)
-                job.send_signal(number)
-                said = job.communicate(timeout=PATIENCE)[1]
-            if job.returncode != 10 or said != 'rissobarm: %s: not written: stopped while another tool writes it\n' % last:
-                wrong(command, 'stopped by %s while it waits, it ends with %d and says: %s' % (number.name, job.returncode, said))
+        for number in STOPS:
+            status, said = waiting(command, number, False)
+            if status != 10 or said != 'rissobarm: %s: not written: stopped while another tool writes it\n' % last:
+                wrong(command, 'stopped by %s while it waits, it ends with %d and says: %s' % (number.name, status, said))
             if command.stand() != command.old or left_beside() != [beside(last)]:
                 wrong(command, 'stopped by %s while it waits, it does not leave all files alone' % number.name)
+            if waiting(command, number, True) != (command.status, '') or command.state() != len(command.files) or left_beside():
+                wrong(command, 'it does not wait on where %s is ignored' % number.name)
     command.reset()
 
 
