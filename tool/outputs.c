@@ -152,30 +152,70 @@ static int lock(int file)
     return done == 0 || errno != EDEADLK;
 }
 
-/* Whether it is a file with one name alone: no tool leaves anything else, and another name would lose its bytes. errno tells. */
-static int is_plain(const struct stat *found)
+static const char second_name[] = "has a second name";
+
+/* Why what stands beside is not used, in words; NULL where it can be what a tool of this user has left or is writing. */
+static const char *fault_of(const struct stat *found)
 {
-    errno = S_ISREG(found->st_mode) ? EMLINK : EEXIST;
-    return S_ISREG(found->st_mode) && found->st_nlink <= 1;
+    if (!S_ISREG(found->st_mode))
+        return "is no plain file";
+    if (found->st_uid != geteuid())
+        return "belongs to another user";
+    return found->st_nlink > 1 ? second_name : NULL;
+}
+
+/* Ends the tool where what stands beside has a fault, and leaves that alone. */
+static void refuse_beside(const struct place *place, const char *fault)
+{
+    if (fault == NULL)
+        return;
+    take_away();
+    quit(NO_FILE, "%s: not written: %s beside it %s", place->path, name_in(place->beside), fault);
+}
+
+/*
+ * Opens what stands beside already. It is looked at before, since an open may wait or do something, and behind, since it may
+ * be another by then; nothing is done to it in between. -1 where it cannot be opened, with EAGAIN where it is gone.
+ */
+static int open_left(const struct place *place)
+{
+    struct stat found;
+    int file;
+
+    if (lstat(place->beside, &found) == 0) {
+        refuse_beside(place, fault_of(&found));
+        file = open(place->beside, O_RDWR | O_NOFOLLOW | O_NONBLOCK);
+        if (file >= 0 && fstat(file, &found) == 0) {
+            refuse_beside(place, fault_of(&found));
+            return file;
+        }
+    }
+    if (errno == ENOENT)
+        errno = EAGAIN;
+    return -1;
 }
 
 /*
  * Opens the file beside and holds it, so that of two tools one waits for the other. What a tool that was killed left there is
  * used again. The one that was held may have been renamed meanwhile: then there is another by that name, or none.
  */
-static int hold(const char *beside, mode_t mode)
+static int hold(const struct place *place)
 {
     struct stat held, named;
     int file, tries;
 
     for (tries = 0; tries < TRIES_MOST; tries++) {
-        file = open(beside, O_RDWR | O_CREAT | O_NOFOLLOW, mode);
-        if (file < 0 || !lock(file))
+        file = open(place->beside, O_RDWR | O_CREAT | O_EXCL | O_NOFOLLOW, place->mode);
+        if (file < 0 && errno == EEXIST)
+            file = open_left(place);
+        if (file < 0 && errno == EAGAIN)
+            continue;
+        if (file < 0 || !lock(file) || fstat(file, &held) != 0)
             return -1;
-        if (fstat(file, &held) != 0)
-            return -1;
-        if (lstat(beside, &named) == 0 && held.st_dev == named.st_dev && held.st_ino == named.st_ino)
-            return is_plain(&held) ? file : -1;
+        if (lstat(place->beside, &named) == 0 && held.st_dev == named.st_dev && held.st_ino == named.st_ino) {
+            refuse_beside(place, held.st_nlink > 1 ? second_name : NULL);
+            return file;
+        }
         close(file);
     }
     errno = EBUSY;
@@ -244,7 +284,7 @@ static void write_beside(const struct output *output)
 
     if (!find_place(place, output->path) || !open_folder(place))
         give_up(output->path);
-    place->file = hold(place->beside, place->mode);
+    place->file = hold(place);
     if (place->file < 0)
         give_up(place->path);
     refuse_twice(place);
@@ -315,18 +355,28 @@ static int folder_takes(const char *path)
 }
 
 /* Whether hold could open a file beside; errno tells. One that another tool renames meanwhile is none. */
-static int could_hold(const char *beside)
+static int could_hold(const struct place *place)
 {
     struct stat found;
 
-    if (!folder_takes(beside))
+    if (!folder_takes(place->beside))
         return 0;
-    if (lstat(beside, &found) != 0)
+    if (lstat(place->beside, &found) != 0)
         return errno == ENOENT;
-    errno = S_ISDIR(found.st_mode) ? EISDIR : ELOOP;
-    if (S_ISDIR(found.st_mode) || S_ISLNK(found.st_mode))
-        return 0;
-    return is_plain(&found) && (access(beside, R_OK | W_OK) == 0 || errno == ENOENT);
+    refuse_beside(place, fault_of(&found));
+    return access(place->beside, R_OK | W_OK) == 0 || errno == ENOENT;
+}
+
+/* Whether what stands in a place can be replaced; errno tells. In a shared folder, as /tmp, only by who owns it or that. */
+static int could_replace(const struct place *place)
+{
+    char *name = folder_of(place->target);
+    struct stat found, folder;
+    int shared = stat(name, &folder) == 0 && (folder.st_mode & S_ISVTX) && geteuid() != 0 && folder.st_uid != geteuid();
+
+    free(name);
+    errno = EPERM;
+    return !shared || lstat(place->target, &found) != 0 || found.st_uid == geteuid();
 }
 
 void output_test(const char *path)
@@ -340,7 +390,7 @@ void output_test(const char *path)
             give_up(path);
         return;
     }
-    if (!find_place(&place, path) || !could_hold(place.beside))
+    if (!find_place(&place, path) || !could_hold(&place) || !could_replace(&place))
         give_up(path);
     free(place.target);
     free(place.beside);

@@ -2,7 +2,8 @@
  * Linked around the calls by which the tool changes files (-Wl,--wrap). The environment has the number of a call, MOMENT, and
  * what happens there, FATE: `kill` ends the tool before the call, of a write when half is written; `fail` makes the call fail,
  * where only those are counted that must not fail, with the number WHY for a reason or for want of room; `stop` sends the tool
- * SIGTERM and goes on; `pause` goes on a little later. By the FATE `tell` each call is told on standard error, and goes on.
+ * SIGTERM and goes on; `pause` goes on a little later, `meanwhile` when the command MEANWHILE is done. By the FATE `tell` each
+ * call is told on standard error, and goes on.
  */
 #define _XOPEN_SOURCE 700
 #include <errno.h>
@@ -45,6 +46,8 @@ static int fails(const char *call, int matters)
         raise(SIGTERM);
     if (strcmp(fate, "pause") == 0)
         nanosleep(&pause, NULL);
+    if (strcmp(fate, "meanwhile") == 0 && system(getenv("MEANWHILE")) != 0)
+        abort();
     errno = why != NULL ? atoi(why) : ENOSPC;
     return strcmp(fate, "fail") == 0;
 }

@@ -1,6 +1,6 @@
 #!/usr/bin/env python3
 """whole.py PROGRAM MOMENTS [SEED]: whatever stops a command that writes files, each file is the old one or the new one, whole; nothing is left beside but by a kill, and that the next writer
-takes; and files that do not belong together are not taken for a pair. MOMENTS is the program with the calls of moments.c around it.
+takes; files that do not belong together are not taken for a pair, and what others have put beside is left alone. MOMENTS is the program with the calls of moments.c around it.
 
 Each command below is stopped at each of its calls: killed, and by a call that fails; told to stop at every second one; killed by chance; past a limit on the size of files; on /dev/full; and, where one can be
 mounted, on a small disk (whole.py PROGRAM MOMENTS --disk FOLDER, in a space of its own)."""
@@ -19,7 +19,7 @@ import time
 
 ROOT = os.path.dirname(os.path.dirname(os.path.dirname(os.path.abspath(__file__))))
 PROGRAM, MOMENTS = map(os.path.abspath, sys.argv[1:3])
-BESIDE, PAGE, KILLS, CALLS_MOST, PATIENCE, OTHER_USER = '.rissobarm-new', 4096, 12, 60, 20, 65534
+BESIDE, PAGE, KILLS, CALLS_MOST, PATIENCE, OTHER_USER, STRANGER = '.rissobarm-new', 4096, 12, 60, 20, 65534, 65533
 STOPS = (signal.SIGINT, signal.SIGTERM, signal.SIGHUP)
 # calls that must not fail, for each file: open of its folder and of the file beside, truncate, write, sync; then, file by file, rename and sync of the folder
 CALLS_BEFORE, CALLS_IN_PLACE = 5, 2
@@ -439,8 +439,6 @@ def as_other_user():
 def unreadable():
     """A folder that may be written to but not read cannot be opened to be synced: every disk is, instead."""
     os.mkdir('dark')
-    shutil.copy(MOMENTS, 'moments')
-    os.chmod('.', 0o755)
     if os.geteuid() == 0:
         os.chown('dark', OTHER_USER, OTHER_USER)
     os.chmod('dark', 0o300)
@@ -449,6 +447,51 @@ def unreadable():
     os.chmod('dark', 0o700)
     if status != 0 or calls != ['fsync', 'fsync'] + ['rename', 'sync'] * 2 or read('dark/x') != read('old.image'):
         sys.exit('whole: in a folder that may not be read it ends with %d and calls: %s' % (status, said))
+
+
+def in_the_way():
+    """What comes to stand beside when the tool has looked already, before it makes the file or opens the one that was left: told, not written to and not taken away."""
+    kinds = {'ln -s mine %s': 'is no plain file', 'mkfifo %s': 'is no plain file', 'mkdir %s': 'is no plain file', 'ln mine %s': 'has a second name'}
+    if os.geteuid() == 0:
+        kinds['echo theirs >%%s; chmod 666 %%s; chown %d %%s' % STRANGER] = 'belongs to another user'
+    write('mine', b'mine\n')
+    shutil.copy('old.image', 'kept.image')
+    name = 'kept.image' + BESIDE
+    for (kind, fault), left in itertools.product(kinds.items(), (False, True)):
+        if left:
+            write(name, b'half')
+        plant = 'rm -f %s; %s' % (name, kind.replace('%s', name))
+        status, said = run('compile new.plan -o kept.image'.split(), MOMENTS, env=dict(os.environ, MOMENT='3' if left else '2', FATE='meanwhile', MEANWHILE=plant))
+        words = [name + ' beside it ' + fault] + ['Too many levels of symbolic links', 'Is a directory'] * left
+        if status != 10 or said not in ['rissobarm: kept.image: not written: %s\n' % why for why in words] or left_beside() != [name]:
+            sys.exit('whole: in the way by `%s`, it ends with %d and says: %s' % (kind, status, said))
+        if read('mine') != b'mine\n' or read('kept.image') != read('old.image') or (os.path.isfile(name) and read(name) not in (b'mine\n', b'theirs\n')):
+            sys.exit('whole: in the way by `%s`, something is written over' % kind)
+        subprocess.run(['rm', '-r', name])
+
+
+def shared():
+    """A folder that all may write to: what others have left beside is told at once, locked or not, and left alone; so is a file in the place that only they may replace. How many ways."""
+    if os.geteuid() != 0:
+        return 0
+    os.mkdir('shared')
+    os.chmod('shared', 0o1777)
+    ways = [(OTHER_USER, 0), (OTHER_USER, STRANGER), (0, OTHER_USER)]
+    for user, owner in ways:
+        for path, words in ((beside('shared/x'), 'x.rissobarm-new beside it belongs to another user'), ('shared/x', 'Operation not permitted')):
+            write(path, b'theirs')
+            os.chmod(path, 0o666)
+            os.chown(path, owner, owner)
+            with open(path, 'rb+') as held:
+                fcntl.lockf(held, fcntl.LOCK_EX)
+                done = run('run old.plan --arrivals shared/none --save shared/x'.split(), './tool', preexec_fn=lambda: os.setuid(user), timeout=PATIENCE)
+            wanted = (10, 'rissobarm: shared/x: not written: %s\n' % words)
+            if user == 0 and path == 'shared/x':
+                wanted = (10, 'rissobarm: shared/none: No such file or directory\n')
+            if done != wanted or read(path) != b'theirs' or os.stat(path).st_uid != owner or len(os.listdir('shared')) != 1:
+                sys.exit('whole: for user %d, where user %d has %s, it ends with %d and says: %s' % (user, owner, path, *done))
+            os.remove(path)
+    return len(ways)
 
 
 def at_once():
@@ -488,11 +531,18 @@ def main():
         crossed()
         shut()
         at_once()
+        # for another user, who may not come to where they were built
+        shutil.copy(PROGRAM, 'tool')
+        shutil.copy(MOMENTS, 'moments')
+        os.chmod('.', 0o755)
         unreadable()
+        in_the_way()
+        ways = shared()
         os.chdir('/')
     full = small_disk()
-    print('whole: %d commands killed at each of %d calls, %d of them between two files, and %d times by chance; %d failing calls, limits and full devices told; %s' % (
-        count, moments, between, count * KILLS, told, 'no small disk here' if full is None else 'full %d times on a small disk' % full))
+    print('whole: %d commands killed at each of %d calls, %d of them between two files, and %d times by chance; %d failing calls, limits and full devices told; %s; %s' % (
+        count, moments, between, count * KILLS, told, 'no small disk here' if full is None else 'full %d times on a small disk' % full,
+        'files of other users left alone in %d ways' % ways if ways else 'no other user here'))
 
 
 main()
