@@ -271,10 +271,22 @@ static int find_place(struct place *place, const char *path)
 static int open_folder(struct place *place)
 {
     char *folder = folder_of(place->target);
+    int why;
 
     place->folder = open(folder, O_RDONLY | O_DIRECTORY);
+    why = errno;
     free(folder);
+    errno = why;
     return place->folder >= 0 || errno == EACCES;
+}
+
+/* The mode of a new file. */
+static mode_t new_mode(void)
+{
+    mode_t mask = umask(0);
+
+    umask(mask);
+    return NEW_MODE & ~mask;
 }
 
 /* All bytes of a file beside its place and on the disk; a file that stood there keeps its mode. */
@@ -288,9 +300,8 @@ static void write_beside(const struct output *output)
     if (place->file < 0)
         give_up(place->path);
     refuse_twice(place);
-    /* before the bytes: what was left beside may be open to more readers than the file that stood there */
-    if (place->stood)
-        fchmod(place->file, place->mode);
+    /* before the bytes: what was left beside may be open to more readers than the file that stood there, or than a new one */
+    fchmod(place->file, place->stood ? place->mode : new_mode());
     if (ftruncate(place->file, 0) != 0 || !write_all(place->file, output->bytes) || fsync(place->file) != 0)
         give_up(place->path);
 }
@@ -311,7 +322,7 @@ static void leave_unsure(const struct place *place)
     const char *why = strerror(errno), *rest = place + 1 < places + place_count ? place[1].path : NULL;
 
     take_away();
-    quit(NO_FILE, "%s: in its place, but a power cut may undo that: %s%s%s", place->path, why,
+    quit(NO_FILE, "%.900s: in its place, but a power cut may undo that: %s%s%.900s", place->path, why,
          rest != NULL ? "; not written: " : "", rest != NULL ? rest : "");
 }
 
@@ -320,8 +331,8 @@ static void into_place(struct place *place)
     if (rename(place->beside, place->target) != 0)
         give_up(place->path);
     /* not before: what a kill leaves beside could not be opened again */
-    if (place->shut)
-        fchmod(place->file, place->mode & ~(mode_t)S_IWUSR);
+    if (place->shut && fchmod(place->file, place->mode & ~(mode_t)S_IWUSR) == 0)
+        fsync(place->file);
     close(place->file);
     place->file = -1;
     if (!sync_folder(place))
