@@ -28,6 +28,17 @@ void bytes_add(struct bytes *bytes, const void *more, size_t count)
     bytes->length += count;
 }
 
+uint64_t bytes_sum(const void *bytes, size_t count)
+{
+    const uint8_t *at = (const uint8_t *)bytes;
+    uint64_t sum = UINT64_C(14695981039346656037);
+    size_t k;
+
+    for (k = 0; k < count; k++)
+        sum = (sum ^ at[k]) * UINT64_C(1099511628211);
+    return sum;
+}
+
 static void read_all(struct bytes *bytes, FILE *file, const char *path)
 {
     size_t got;

@@ -16,6 +16,9 @@ struct bytes {
 /* Puts bytes behind the others. */
 void bytes_add(struct bytes *bytes, const void *more, size_t count);
 
+/* A sum of bytes (FNV-1a, 64 bits): other bytes do not have the same by chance. */
+uint64_t bytes_sum(const void *bytes, size_t count);
+
 /* A file to be read, "-" being standard input, which is one file alone; ends the tool where it cannot be had. */
 FILE *file_open(const char *path);
 

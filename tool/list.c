@@ -28,20 +28,10 @@ static int wrong_at(struct plan *plan, size_t line, const char *words)
 
 /* ---- marks ---- */
 
-/* FNV-1a, 64 bits: two plans of one length do not have the same by chance. */
-static uint64_t sum_of(const struct bytes *image)
-{
-    uint64_t sum = UINT64_C(14695981039346656037);
-    size_t k;
-
-    for (k = 0; k < image->length; k++)
-        sum = (sum ^ image->at[k]) * UINT64_C(1099511628211);
-    return sum;
-}
-
 static size_t mark_of(const struct bytes *image, char *mark)
 {
-    return (size_t)snprintf(mark, MARK_ROOM, "image_%lu_%016" PRIx64, (unsigned long)image->length, sum_of(image));
+    return (size_t)snprintf(mark, MARK_ROOM, "image_%lu_%016" PRIx64, (unsigned long)image->length,
+                            bytes_sum(image->at, image->length));
 }
 
 /* Whether a line has the form of a mark. */

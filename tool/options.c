@@ -1,7 +1,7 @@
 /* The words of a command. */
 #include "options.h"
 
-#include "outputs.h"
+#include "paths.h"
 #include "rissobarm_plan.h"
 #include "say.h"
 

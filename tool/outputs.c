@@ -1,7 +1,8 @@
-/* Files written whole. open, fcntl, fsync, realpath, sigprocmask and sigsetjmp are POSIX, not C99. */
+/* Files written whole. open, fcntl, fsync, sync, realpath, sigprocmask and sigsetjmp are POSIX, not C99. */
 #define _XOPEN_SOURCE 700
 #include "outputs.h"
 
+#include "paths.h"
 #include "say.h"
 #include "stops.h"
 
@@ -15,8 +16,6 @@
 #include <sys/stat.h>
 #include <unistd.h>
 
-static const char suffix[] = ".rissobarm-new";
-
 enum { NEW_MODE = 0666, MODE_BITS = 0777, TRIES_MOST = 1000 };
 
 /* A file on its way: where it goes, links followed, and the file beside that place. */
@@ -25,6 +24,7 @@ struct place {
     char *target;
     char *beside;
     int file; /* the file beside; -1 where there is none to be taken away */
+    int folder; /* its folder; -1 where that may not be read */
     int stood; /* whether there is an old one */
     int shut; /* whether who owns it may not write to it, which it becomes in its place */
     mode_t mode;
@@ -63,76 +63,6 @@ static int write_all(int file, const struct bytes *bytes)
         done += some > 0 ? (size_t)some : 0;
     }
     return 1;
-}
-
-static char *joined(const char *path, const char *end)
-{
-    char *both = (char *)malloc(strlen(path) + strlen(end) + 1);
-
-    if (both == NULL)
-        quit(NO_FILE, "no memory is left");
-    strcpy(both, path);
-    strcat(both, end);
-    return both;
-}
-
-/* ---- paths ---- */
-
-/* The last part of a path. */
-static const char *name_in(const char *path)
-{
-    const char *slash = strrchr(path, '/');
-
-    return slash != NULL ? slash + 1 : path;
-}
-
-/* The folder of a path, by a name that leads to folders alone. */
-static char *folder_of(const char *path)
-{
-    char *folder = joined(path, ".");
-
-    strcpy(folder + (name_in(path) - path), ".");
-    return folder;
-}
-
-/* Where a path leads, links followed, to a file that is there or that would be made; NULL where there is no folder for it. */
-static char *end_of(const char *path)
-{
-    char *whole = realpath(path, NULL), *folder, *slashed;
-
-    if (whole != NULL)
-        return whole;
-    folder = folder_of(path);
-    whole = realpath(folder, NULL);
-    free(folder);
-    if (whole == NULL)
-        return NULL;
-    slashed = joined(whole, "/");
-    free(whole);
-    whole = joined(slashed, name_in(path));
-    free(slashed);
-    return whole;
-}
-
-/* Standard input and output are no files here; what is no file that could be renamed is not lost when it is written to. */
-int is_same_file(const char *left, const char *right)
-{
-    struct stat found;
-    char *one, *other;
-    int same;
-
-    if (strcmp(left, "-") == 0 || strcmp(right, "-") == 0)
-        return 0;
-    if (strcmp(left, right) == 0)
-        return 1;
-    if (stat(left, &found) == 0 && !S_ISREG(found.st_mode))
-        return 0;
-    one = end_of(left);
-    other = end_of(right);
-    same = one != NULL && other != NULL && strcmp(one, other) == 0;
-    free(one);
-    free(other);
-    return same;
 }
 
 /* ---- what cannot be renamed ---- */
@@ -222,30 +152,70 @@ static int lock(int file)
     return done == 0 || errno != EDEADLK;
 }
 
-/* Whether it is a file with one name alone: no tool leaves anything else, and another name would lose its bytes. errno tells. */
-static int is_plain(const struct stat *found)
+static const char second_name[] = "has a second name";
+
+/* Why what stands beside is not used, in words; NULL where it can be what a tool of this user has left or is writing. */
+static const char *fault_of(const struct stat *found)
 {
-    errno = S_ISREG(found->st_mode) ? EMLINK : EEXIST;
-    return S_ISREG(found->st_mode) && found->st_nlink <= 1;
+    if (!S_ISREG(found->st_mode))
+        return "is no plain file";
+    if (found->st_uid != geteuid())
+        return "belongs to another user";
+    return found->st_nlink > 1 ? second_name : NULL;
+}
+
+/* Ends the tool where what stands beside has a fault, and leaves that alone. */
+static void refuse_beside(const struct place *place, const char *fault)
+{
+    if (fault == NULL)
+        return;
+    take_away();
+    quit(NO_FILE, "%s: not written: %s beside it %s", place->path, name_in(place->beside), fault);
+}
+
+/*
+ * Opens what stands beside already. It is looked at before, since an open may wait or do something, and behind, since it may
+ * be another by then; nothing is done to it in between. -1 where it cannot be opened, with EAGAIN where it is gone.
+ */
+static int open_left(const struct place *place)
+{
+    struct stat found;
+    int file;
+
+    if (lstat(place->beside, &found) == 0) {
+        refuse_beside(place, fault_of(&found));
+        file = open(place->beside, O_RDWR | O_NOFOLLOW | O_NONBLOCK);
+        if (file >= 0 && fstat(file, &found) == 0) {
+            refuse_beside(place, fault_of(&found));
+            return file;
+        }
+    }
+    if (errno == ENOENT)
+        errno = EAGAIN;
+    return -1;
 }
 
 /*
  * Opens the file beside and holds it, so that of two tools one waits for the other. What a tool that was killed left there is
  * used again. The one that was held may have been renamed meanwhile: then there is another by that name, or none.
  */
-static int hold(const char *beside, mode_t mode)
+static int hold(const struct place *place)
 {
     struct stat held, named;
     int file, tries;
 
     for (tries = 0; tries < TRIES_MOST; tries++) {
-        file = open(beside, O_RDWR | O_CREAT | O_NOFOLLOW, mode);
-        if (file < 0 || !lock(file))
+        file = open(place->beside, O_RDWR | O_CREAT | O_EXCL | O_NOFOLLOW, place->mode);
+        if (file < 0 && errno == EEXIST)
+            file = open_left(place);
+        if (file < 0 && errno == EAGAIN)
+            continue;
+        if (file < 0 || !lock(file) || fstat(file, &held) != 0)
             return -1;
-        if (fstat(file, &held) != 0)
-            return -1;
-        if (lstat(beside, &named) == 0 && held.st_dev == named.st_dev && held.st_ino == named.st_ino)
-            return is_plain(&held) ? file : -1;
+        if (lstat(place->beside, &named) == 0 && held.st_dev == named.st_dev && held.st_ino == named.st_ino) {
+            refuse_beside(place, held.st_nlink > 1 ? second_name : NULL);
+            return file;
+        }
         close(file);
     }
     errno = EBUSY;
@@ -266,6 +236,18 @@ static void refuse_twice(const struct place *place)
         }
 }
 
+/* Why there can be no file by that path, by a number of errno; 0 where there can. A link that leads nowhere can be replaced. */
+static int hindrance(const char *path)
+{
+    struct stat found;
+
+    if (path[0] == '\0')
+        return ENOENT;
+    if (lstat(path, &found) != 0)
+        return errno == ENAMETOOLONG ? errno : 0;
+    return stat(path, &found) == 0 && S_ISDIR(found.st_mode) ? EISDIR : 0;
+}
+
 /* Fills a place in, all but its file. 0 where there is none for a file; errno tells. */
 static int find_place(struct place *place, const char *path)
 {
@@ -277,12 +259,34 @@ static int find_place(struct place *place, const char *path)
     place->stood = stood;
     place->shut = stood && !(old.st_mode & S_IWUSR);
     place->mode = stood ? (old.st_mode & MODE_BITS) | S_IWUSR : (mode_t)NEW_MODE;
-    place->target = NULL;
-    errno = path[0] == '\0' ? ENOENT : EISDIR;
-    if (path[0] != '\0' && (!stood || !S_ISDIR(old.st_mode)))
-        place->target = stood ? realpath(path, NULL) : joined(path, "");
-    place->beside = place->target != NULL ? joined(place->target, suffix) : NULL;
+    errno = hindrance(path);
+    if (errno != 0)
+        return 0;
+    place->target = stood ? realpath(path, NULL) : joined(path, "");
+    place->beside = place->target != NULL ? beside_of(place->target) : NULL;
     return place->target != NULL;
+}
+
+/* Opens the folder of a place, while every file is still the old one. 0 where it cannot be; errno tells. */
+static int open_folder(struct place *place)
+{
+    char *folder = folder_of(place->target);
+    int why;
+
+    place->folder = open(folder, O_RDONLY | O_DIRECTORY);
+    why = errno;
+    free(folder);
+    errno = why;
+    return place->folder >= 0 || errno == EACCES;
+}
+
+/* The mode of a new file. */
+static mode_t new_mode(void)
+{
+    mode_t mask = umask(0);
+
+    umask(mask);
+    return NEW_MODE & ~mask;
 }
 
 /* All bytes of a file beside its place and on the disk; a file that stood there keeps its mode. */
@@ -290,17 +294,51 @@ static void write_beside(const struct output *output)
 {
     struct place *place = &places[place_count++];
 
-    if (!find_place(place, output->path))
+    if (!find_place(place, output->path) || !open_folder(place))
         give_up(output->path);
-    place->file = hold(place->beside, place->mode);
+    place->file = hold(place);
     if (place->file < 0)
         give_up(place->path);
     refuse_twice(place);
-    /* before the bytes: what was left beside may be open to more readers than the file that stood there */
-    if (place->stood)
-        fchmod(place->file, place->mode);
+    /* before the bytes: what was left beside may be open to more readers than the file that stood there, or than a new one */
+    fchmod(place->file, place->stood ? place->mode : new_mode());
     if (ftruncate(place->file, 0) != 0 || !write_all(place->file, output->bytes) || fsync(place->file) != 0)
         give_up(place->path);
+}
+
+/* Has the new name of a file on the disk. 0 where that is not sure; errno tells. Not every disk syncs folders. */
+static int sync_folder(const struct place *place)
+{
+    if (place->folder < 0) {
+        sync();
+        return 1;
+    }
+    return fsync(place->folder) == 0 || errno == EINVAL || errno == ENOTSUP;
+}
+
+/* Ends the tool where a new name may be lost. What comes behind is not renamed: it might be on the disk without this one. */
+static void leave_unsure(const struct place *place)
+{
+    const char *why = strerror(errno), *rest = place + 1 < places + place_count ? place[1].path : NULL;
+
+    take_away();
+    quit(NO_FILE, "%.900s: in its place, but a power cut may undo that: %s%s%.900s", place->path, why,
+         rest != NULL ? "; not written: " : "", rest != NULL ? rest : "");
+}
+
+static void into_place(struct place *place)
+{
+    if (rename(place->beside, place->target) != 0)
+        give_up(place->path);
+    /* not before: what a kill leaves beside could not be opened again */
+    if (place->shut && fchmod(place->file, place->mode & ~(mode_t)S_IWUSR) == 0)
+        fsync(place->file);
+    close(place->file);
+    place->file = -1;
+    if (!sync_folder(place))
+        leave_unsure(place);
+    if (place->folder >= 0)
+        close(place->folder);
 }
 
 static void rename_all(void)
@@ -308,13 +346,7 @@ static void rename_all(void)
     struct place *place;
 
     for (place = places; place < places + place_count; place++) {
-        if (rename(place->beside, place->target) != 0)
-            give_up(place->path);
-        /* not before: what a kill leaves beside could not be opened again */
-        if (place->shut)
-            fchmod(place->file, place->mode & ~(mode_t)S_IWUSR);
-        close(place->file);
-        place->file = -1;
+        into_place(place);
         free(place->beside);
         free(place->target);
     }
@@ -334,18 +366,28 @@ static int folder_takes(const char *path)
 }
 
 /* Whether hold could open a file beside; errno tells. One that another tool renames meanwhile is none. */
-static int could_hold(const char *beside)
+static int could_hold(const struct place *place)
 {
     struct stat found;
 
-    if (!folder_takes(beside))
+    if (!folder_takes(place->beside))
         return 0;
-    if (lstat(beside, &found) != 0)
+    if (lstat(place->beside, &found) != 0)
         return errno == ENOENT;
-    errno = S_ISDIR(found.st_mode) ? EISDIR : ELOOP;
-    if (S_ISDIR(found.st_mode) || S_ISLNK(found.st_mode))
-        return 0;
-    return is_plain(&found) && (access(beside, R_OK | W_OK) == 0 || errno == ENOENT);
+    refuse_beside(place, fault_of(&found));
+    return access(place->beside, R_OK | W_OK) == 0 || errno == ENOENT;
+}
+
+/* Whether what stands in a place can be replaced; errno tells. In a shared folder, as /tmp, only by who owns it or that. */
+static int could_replace(const struct place *place)
+{
+    char *name = folder_of(place->target);
+    struct stat found, folder;
+    int shared = stat(name, &folder) == 0 && (folder.st_mode & S_ISVTX) && geteuid() != 0 && folder.st_uid != geteuid();
+
+    free(name);
+    errno = EPERM;
+    return !shared || lstat(place->target, &found) != 0 || found.st_uid == geteuid();
 }
 
 void output_test(const char *path)
@@ -359,7 +401,7 @@ void output_test(const char *path)
             give_up(path);
         return;
     }
-    if (!find_place(&place, path) || !could_hold(place.beside))
+    if (!find_place(&place, path) || !could_hold(&place) || !could_replace(&place))
         give_up(path);
     free(place.target);
     free(place.beside);

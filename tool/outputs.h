@@ -12,9 +12,6 @@ struct output {
 
 enum { OUTPUTS_MOST = 2 };
 
-/* Whether two paths lead to one file, links followed; "-" leads to none. */
-int is_same_file(const char *left, const char *right);
-
 /*
  * Ends the tool where a file could not be written now, as far as that can be seen without making one: before anything is read
  * or run that would be lost. NULL is none.
@@ -24,8 +21,9 @@ void output_test(const char *path);
 /*
  * Writes all files of a command. The bytes of each go into a file beside its place, and when all are on the disk each is
  * renamed, in this order: whatever happens, a path leads to the old bytes or to the new ones, whole, and a disk that is full
- * leaves every old file. What is no file that could be renamed, a device or a pipe, is written as it stands, before the
- * others. Ends the tool where something cannot be done.
+ * leaves every old file. Behind each rename the folder is synced, so that a power cut keeps this order, too. What is no file
+ * that could be renamed, a device or a pipe, is written as it stands, before the others. Ends the tool where something cannot
+ * be done.
  */
 void outputs_write(const struct output *outputs, unsigned count);
 

@@ -1,6 +1,7 @@
 /* replay: a trace on its plan, or on the saved run that it began at. */
 #include "commands.h"
 #include "outputs.h"
+#include "paths.h"
 #include "session.h"
 #include "tell.h"
 #include "words.h"

@@ -16,7 +16,7 @@ void stops_hear(void (*call)(int), int flags, struct sigaction *before)
     sigemptyset(&action.sa_mask);
     for (k = 0; k < STOPS; k++) {
         sigaction(stop_signals[k], NULL, &before[k]);
-        if (stop_signals[k] != SIGHUP || before[k].sa_handler != SIG_IGN)
+        if (before[k].sa_handler != SIG_IGN)
             sigaction(stop_signals[k], &action, NULL);
     }
 }

@@ -8,7 +8,7 @@ enum { STOPS = 3 };
 
 extern const int stop_signals[STOPS];
 
-/* Has each stop call a function, by these flags of sigaction; one for a terminal that is ignored, as by nohup, stays so. */
+/* Has each stop call a function, by these flags of sigaction; one that is ignored, as by nohup or behind a shell, stays so. */
 void stops_hear(void (*call)(int), int flags, struct sigaction *before);
 
 /* As it was before, by what stops_hear has told. */

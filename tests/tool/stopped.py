@@ -1,6 +1,7 @@
 #!/usr/bin/env python3
 """stopped.py PROGRAM PLAN: a run that waits for arrivals and is stopped, from the keyboard, by the system or by a terminal that goes away, is saved as it stands, and one that could go on is saved where it is;
-and on a terminal a long run tells how far it is."""
+a stop that was ignored from the start stays so; and on a terminal a long run tells how far it is."""
+import contextlib
 import fcntl
 import os
 import pty
@@ -12,7 +13,8 @@ import termios
 import time
 
 PROGRAM, PLAN = map(os.path.abspath, sys.argv[1:])
-SAVED, PATIENCE, SET_PIPE_SIZE = 'stopped.run', 2, 1031
+SAVED, PATIENCE, MOMENT, SET_PIPE_SIZE = 'stopped.run', 2, 0.2, 1031
+STOPS = (signal.SIGINT, signal.SIGTERM, signal.SIGHUP)
 # it goes round and round until there is no room
 ROUND = 'mode p.\nmode q(?).\np <- q(a).\nq(a) <- p.\n<- p.\n'
 
@@ -21,7 +23,14 @@ def wrong(words):
     sys.exit('tool: %s' % words)
 
 
+def heard(ignored=()):
+    """For a child: stops are heard, whatever is ignored here, but for those."""
+    for number in STOPS:
+        signal.signal(number, signal.SIG_IGN if number in ignored else signal.SIG_DFL)
+
+
 def run(*words, **more):
+    more.setdefault('preexec_fn', heard)
     return subprocess.Popen([PROGRAM, 'run', PLAN, *words], stdout=subprocess.PIPE, **more)
 
 
@@ -54,7 +63,7 @@ def stop_on_its_way(number):
         file.write(ROUND)
     ours, theirs = os.pipe()
     fcntl.fcntl(theirs, SET_PIPE_SIZE, 4096)
-    job = subprocess.Popen([PROGRAM, 'run', 'round.plan', '--slice', '1', '--progress', '--save', SAVED], stdout=subprocess.PIPE, stderr=theirs)
+    job = subprocess.Popen([PROGRAM, 'run', 'round.plan', '--slice', '1', '--progress', '--save', SAVED], stdout=subprocess.PIPE, stderr=theirs, preexec_fn=heard)
     os.close(theirs)
     wait_for(job)
     job.send_signal(number)
@@ -79,8 +88,7 @@ def terminal_gone(wanted, ignored):
 
     def begin():
         take_terminal()
-        if ignored:
-            signal.signal(signal.SIGHUP, signal.SIG_IGN)
+        heard([signal.SIGHUP] if ignored else [])
 
     job = run('--arrivals', '-', '--save', SAVED, stdin=theirs, preexec_fn=begin)
     os.close(theirs)
@@ -92,14 +100,35 @@ def terminal_gone(wanted, ignored):
             wrong('when its terminal goes away it ends with %d, or saves another run' % job.returncode)
 
 
-def hung_up_ignored(wanted):
-    """SIGHUP that is ignored, as by nohup, stays so: the run takes its arrival."""
-    job = run('--arrivals', '-', stdin=subprocess.PIPE, preexec_fn=lambda: signal.signal(signal.SIGHUP, signal.SIG_IGN))
-    wait_for(job)
-    job.send_signal(signal.SIGHUP)
-    job.communicate(b'Key = one\n', timeout=20)
-    if job.returncode != 0:
-        wrong('SIGHUP, where it is ignored, ends it with %d' % job.returncode)
+def stays_ignored(number):
+    """A stop that is ignored, as SIGHUP by nohup, stays so: the run takes its arrival. The others are heard."""
+    for sent in STOPS:
+        job = run('--arrivals', '-', stdin=subprocess.PIPE, preexec_fn=lambda: heard([number]))
+        wait_for(job)
+        job.send_signal(sent)
+        if sent == number:
+            time.sleep(MOMENT)
+            job.communicate(b'Key = one\n', timeout=20)
+        if job.wait(20) != (0 if sent == number else 2):
+            wrong('where %s is ignored, %s ends it with %d' % (number.name, sent.name, job.returncode))
+
+
+def in_background():
+    """A job that a shell has put behind it is not stopped from the keyboard: the shell has had SIGINT ignored."""
+    os.mkfifo('arrivals')
+    words = '"$0" run "$1" --arrivals arrivals & echo $!; wait $!'
+    shell = subprocess.Popen(['sh', '-c', words, PROGRAM, PLAN], stdout=subprocess.PIPE, preexec_fn=heard)
+    job = int(shell.stdout.readline())
+    with contextlib.suppress(BrokenPipeError), open('arrivals', 'wb') as arrivals:
+        began = time.time()
+        while not waits(job) and time.time() - began < PATIENCE:
+            time.sleep(0.01)
+        os.kill(job, signal.SIGINT)
+        time.sleep(MOMENT)
+        arrivals.write(b'Key = one\n')
+    told = shell.communicate(timeout=20)[0].decode()
+    if shell.returncode != 0 or 'success after' not in told:
+        wrong('in the background SIGINT ends it with %d: %s' % (shell.returncode, told))
 
 
 def waits(pid):
@@ -131,15 +160,16 @@ def main():
     with tempfile.TemporaryDirectory() as folder:
         os.chdir(folder)
         wanted = whole()
-        for number in (signal.SIGINT, signal.SIGTERM, signal.SIGHUP):
+        for number in STOPS:
             stop(number, wanted)
             stop_on_its_way(number)
+            stays_ignored(number)
         for ignored in (False, True):
             terminal_gone(wanted, ignored)
-        hung_up_ignored(wanted)
+        in_background()
         on_terminal()
         os.chdir('/')
-    print('tool: stopped by three signals, or by a terminal that goes away, it saves the run; on a terminal it tells how far it is')
+    print('tool: stopped by three signals, or by a terminal that goes away, it saves the run; what is ignored stays so; on a terminal it tells how far it is')
 
 
 main()

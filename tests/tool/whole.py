@@ -1,10 +1,12 @@
 #!/usr/bin/env python3
 """whole.py PROGRAM MOMENTS [SEED]: whatever stops a command that writes files, each file is the old one or the new one, whole; nothing is left beside but by a kill, and that the next writer
-takes; and files that do not belong together are not taken for a pair. MOMENTS is the program with the calls of moments.c around it.
+takes; files that do not belong together are not taken for a pair, and what others have put beside is left alone. MOMENTS is the program with the calls of moments.c around it.
 
 Each command below is stopped at each of its calls: killed, and by a call that fails; told to stop at every second one; killed by chance; past a limit on the size of files; on /dev/full; and, where one can be
 mounted, on a small disk (whole.py PROGRAM MOMENTS --disk FOLDER, in a space of its own)."""
+import errno
 import fcntl
+import itertools
 import os
 import random
 import resource
@@ -17,7 +19,12 @@ import time
 
 ROOT = os.path.dirname(os.path.dirname(os.path.dirname(os.path.abspath(__file__))))
 PROGRAM, MOMENTS = map(os.path.abspath, sys.argv[1:3])
-BESIDE, PAGE, KILLS, CALLS_MOST, CALLS_THAT_MATTER, PATIENCE = '.rissobarm-new', 4096, 12, 60, 5, 20
+BESIDE, PAGE, KILLS, CALLS_MOST, PATIENCE, OTHER_USER, STRANGER = '.rissobarm-new', 4096, 12, 60, 20, 65534, 65533
+STOPS = (signal.SIGINT, signal.SIGTERM, signal.SIGHUP)
+# calls that must not fail, for each file: open of its folder and of the file beside, truncate, write, sync; then, file by file, rename and sync of the folder
+CALLS_BEFORE, CALLS_IN_PLACE = 5, 2
+# a name of more bytes than PLAIN_MOST gives way to a number beside it; LONGEST are two of as many bytes as a disk takes, of which only the last ones differ
+PLAIN_MOST, LONGEST = 100, ['\u00e9' * 127 + end for end in 'ab']
 # two plans with as many names and with images of one length: without a mark, either list goes with either image
 OLD = 'mode page(?,^).\npage(a, b).\npage(a, c).\npage(d, c).\n<- page(Key, Page).\n'
 NEW = 'mode leaf(?,^).\nleaf(k, l).\nleaf(m, l).\nleaf(n, k).\n<- leaf(Key, Page).\n'
@@ -68,6 +75,17 @@ def write(path, bytes_):
             file.write(bytes_)
     elif os.path.exists(path):
         os.remove(path)
+
+
+def beside(path):
+    """The name of the file beside."""
+    name = path.encode()
+    if len(name) <= PLAIN_MOST:
+        return path + BESIDE
+    total = 0xcbf29ce484222325
+    for byte in name:
+        total = (total ^ byte) * 0x100000001b3 % 2**64
+    return '%016x%s' % (total, BESIDE)
 
 
 def left_beside():
@@ -121,6 +139,7 @@ def commands():
         Command('compile over a list made by hand', 'compile new.plan -o kept.image --names kept.names', 0, ['kept.names', 'kept.image'], ['hand.names', 'old.image'], printed),
         Command('compile for the first time', 'compile new.plan -o kept.image --names kept.names', 0, ['kept.names', 'kept.image'], [None, None], first_printed),
         Command('compile without names', 'compile new.plan -o kept.image', 0, ['kept.image'], ['old.image'], alone),
+        Command('compile to the longest names', 'compile new.plan -o %s --names %s' % tuple(LONGEST), 0, LONGEST[::-1], ['old.names', 'old.image'], alone),
         Command('print', 'print new.image --names new.names -o kept.plan', 0, ['kept.plan'], ['old.plan'], alone),
         Command('run', 'run wide.plan --save kept.run --trace kept.trace', 2, ['kept.trace', 'kept.run'], ['old.trace', 'old.run'], from_start),
         Command('resume', 'resume old.run --supply Key=one --save kept.run --trace kept.trace', 0, ['kept.trace', 'kept.run'], ['old.trace', 'wide.run'], alone),
@@ -145,9 +164,9 @@ def prepare():
 
 # ---- stopped at each call
 
-def at_call(command, moment, fate):
+def at_call(command, moment, fate, **more):
     command.reset()
-    return run(command.words, MOMENTS, env=dict(os.environ, MOMENT=str(moment), FATE=fate))
+    return run(command.words, MOMENTS, env=dict(os.environ, MOMENT=str(moment), FATE=fate, **more))
 
 
 def taken(command):
@@ -172,19 +191,40 @@ def killed(command):
     wrong(command, 'never comes to an end')
 
 
+def words_of_failure(command, over):
+    """What is said where the call fails that is so many behind the first rename, or before it: a file that is in its place already is not called unwritten."""
+    at, synced = over // CALLS_IN_PLACE - 1, over > 0 and over % CALLS_IN_PLACE == 0
+    if not synced:
+        return ['rissobarm: %s: not written: No space left on device\n' % path for path in command.files]
+    rest = ''.join('; not written: ' + path for path in command.files[at + 1:])
+    return ['rissobarm: %s: in its place, but a power cut may undo that: No space left on device%s\n' % (command.files[at], rest)]
+
+
 def failed(command):
-    """A call that fails is told, and nothing is left beside; only behind a rename a file may be new. Open, truncate, write, sync and rename of each file must not fail."""
-    told = CALLS_THAT_MATTER * len(command.files)
+    """A call that fails is told, and nothing is left beside; behind a rename a file is new, and none is renamed before that is sure on the disk."""
+    before = CALLS_BEFORE * len(command.files)
+    told = before + CALLS_IN_PLACE * len(command.files)
     for moment in range(1, told + 2):
         status, said = at_call(command, moment, 'fail')
-        state, last = taken(command), moment > told
+        state, last, over = taken(command), moment > told, max(0, moment - before)
         if left_beside():
             wrong(command, 'failing at call %d, it leaves a file beside' % moment)
         if last and (status != command.status or said or state != len(command.files)):
             wrong(command, 'has more calls than it should')
-        if not last and (status != 10 or said not in ['rissobarm: %s: not written: No space left on device\n' % path for path in command.files] or state == len(command.files)):
+        if not last and (status != 10 or said not in words_of_failure(command, over) or state != over // CALLS_IN_PLACE):
             wrong(command, 'failing at call %d, it ends with %d and says: %s' % (moment, status, said))
     return told
+
+
+def synced(command):
+    """Behind each rename the folder is synced, before the next one; a disk that does not sync folders is none that fails."""
+    calls = at_call(command, 0, 'tell')[1].splitlines()
+    if [call for call in calls if call in ('rename', 'fsync folder', 'sync')] != ['rename', 'fsync folder'] * len(command.files):
+        wrong(command, 'does not sync the folder behind each rename: %s' % ', '.join(calls))
+    for why in (errno.EINVAL, errno.ENOTSUP):
+        done = at_call(command, CALLS_BEFORE * len(command.files) + CALLS_IN_PLACE, 'fail', WHY=str(why))
+        if done != (command.status, '') or command.state() != len(command.files):
+            wrong(command, 'on a disk that does not sync folders it ends with %d and says: %s' % done)
 
 
 def stopped(command, moments):
@@ -301,21 +341,21 @@ def left_over(command):
     """What a tool that was killed has left, longer than the file that comes: nothing of it is in the new one."""
     command.reset()
     for path in command.files:
-        write(path + BESIDE, bytes(10 * PAGE))
+        write(beside(path), bytes(10 * PAGE))
     if run(command.words)[0] != command.status or command.state() != len(command.files) or left_beside():
         wrong(command, 'does not use what was left beside as it should')
 
 
 def one_waits():
     """A tool that writes a file waits for another that does, wherever that one is: both end well, and the later one has the file."""
-    for moment in range(2, 6):
-        first = subprocess.Popen([MOMENTS, 'compile', 'old.plan', '-o', 'both.image'], env=dict(os.environ, MOMENT=str(moment), FATE='pause'))
+    for moment, path in itertools.product(range(3, 7), ('both.image', LONGEST[0])):
+        first = subprocess.Popen([MOMENTS, 'compile', 'old.plan', '-o', path], env=dict(os.environ, MOMENT=str(moment), FATE='pause'))
         began = time.time()
         while not left_beside() and first.poll() is None and time.time() - began < PATIENCE:
             time.sleep(0.002)
-        if run('compile new.plan -o both.image'.split()) != (0, '') or first.wait() != 0 or read('both.image') != read('new.image') or left_beside():
+        if run(['compile', 'new.plan', '-o', path]) != (0, '') or first.wait() != 0 or read(path) != read('new.image') or left_beside():
             sys.exit('whole: of two tools that write one file, one does not wait for the other at call %d' % moment)
-        os.remove('both.image')
+        os.remove(path)
 
 
 def waits_for_lock(job):
@@ -328,28 +368,42 @@ def waits_for_lock(job):
         time.sleep(0.005)
 
 
+def waiting(command, number, ignored):
+    """Starts a tool, sends it a stop while it waits for another one's file, and lets that one go when the tool has ended, or, where the stop is ignored, before. Status and what is said."""
+    def begin():
+        for stop in STOPS:
+            signal.signal(stop, signal.SIG_IGN if ignored else signal.SIG_DFL)
+
+    command.reset()
+    with open(beside(command.files[-1]), 'wb') as held:
+        fcntl.lockf(held, fcntl.LOCK_EX)
+        job = subprocess.Popen([PROGRAM] + command.words, stdin=subprocess.DEVNULL, stdout=subprocess.DEVNULL, stderr=subprocess.PIPE, universal_newlines=True, preexec_fn=begin)
+        waits_for_lock(job)
+        job.send_signal(number)
+        if not ignored:
+            job.wait(PATIENCE)
+    said = job.communicate(timeout=PATIENCE)[1]
+    return job.returncode, said
+
+
 def stopped_waiting():
-    """A tool that waits for another is ended by each of three signals: all files are the old ones, and beside is what the other tool has, alone."""
+    """A tool that waits for another is ended by each of three signals, unless it is ignored: all files are the old ones, and beside is what the other tool has, alone."""
     for command in commands():
         last = command.files[-1]
-        for number in (signal.SIGINT, signal.SIGTERM, signal.SIGHUP):
-            command.reset()
-            with open(last + BESIDE, 'wb') as held:
-                fcntl.lockf(held, fcntl.LOCK_EX)
-                job = subprocess.Popen([PROGRAM] + command.words, stdin=subprocess.DEVNULL, stdout=subprocess.DEVNULL, stderr=subprocess.PIPE, universal_newlines=True)
-                waits_for_lock(job)
-                job.send_signal(number)
-                said = job.communicate(timeout=PATIENCE)[1]
-            if job.returncode != 10 or said != 'rissobarm: %s: not written: stopped while another tool writes it\n' % last:
-                wrong(command, 'stopped by %s while it waits, it ends with %d and says: %s' % (number.name, job.returncode, said))
-            if command.stand() != command.old or left_beside() != [last + BESIDE]:
+        for number in STOPS:
+            status, said = waiting(command, number, False)
+            if status != 10 or said != 'rissobarm: %s: not written: stopped while another tool writes it\n' % last:
+                wrong(command, 'stopped by %s while it waits, it ends with %d and says: %s' % (number.name, status, said))
+            if command.stand() != command.old or left_beside() != [beside(last)]:
                 wrong(command, 'stopped by %s while it waits, it does not leave all files alone' % number.name)
+            if waiting(command, number, True) != (command.status, '') or command.state() != len(command.files) or left_beside():
+                wrong(command, 'it does not wait on where %s is ignored' % number.name)
     command.reset()
 
 
 def crossed():
     """Of two tools that each hold what the other wants one gives up, and the files are those of the other; where the second comes too late for that, both end well."""
-    first = subprocess.Popen([MOMENTS] + 'compile old.plan -o two.b --names two.a'.split(), env=dict(os.environ, MOMENT='2', FATE='pause'), stderr=subprocess.PIPE, universal_newlines=True)
+    first = subprocess.Popen([MOMENTS] + 'compile old.plan -o two.b --names two.a'.split(), env=dict(os.environ, MOMENT='3', FATE='pause'), stderr=subprocess.PIPE, universal_newlines=True)
     began = time.time()
     while not left_beside() and first.poll() is None and time.time() - began < PATIENCE:
         time.sleep(0.002)
@@ -374,6 +428,70 @@ def shut():
         if status == 0 and mode == 0o444 and not left_beside():
             return
     sys.exit('whole: a file that may not be written to does not stay so')
+
+
+def as_other_user():
+    """For a child of root: from here on it is another user, for whom the modes of files count."""
+    if os.geteuid() == 0:
+        os.setuid(OTHER_USER)
+
+
+def unreadable():
+    """A folder that may be written to but not read cannot be opened to be synced: every disk is, instead."""
+    os.mkdir('dark')
+    if os.geteuid() == 0:
+        os.chown('dark', OTHER_USER, OTHER_USER)
+    os.chmod('dark', 0o300)
+    status, said = run('compile old.plan -o dark/x --names dark/y'.split(), './moments', env=dict(os.environ, FATE='tell'), preexec_fn=as_other_user)
+    calls = [call for call in said.splitlines() if 'sync' in call or call == 'rename']
+    os.chmod('dark', 0o700)
+    if status != 0 or calls != ['fsync', 'fsync'] + ['rename', 'sync'] * 2 or read('dark/x') != read('old.image'):
+        sys.exit('whole: in a folder that may not be read it ends with %d and calls: %s' % (status, said))
+
+
+def in_the_way():
+    """What comes to stand beside when the tool has looked already, before it makes the file or opens the one that was left: told, not written to and not taken away."""
+    kinds = {'ln -s mine %s': 'is no plain file', 'mkfifo %s': 'is no plain file', 'mkdir %s': 'is no plain file', 'ln mine %s': 'has a second name'}
+    if os.geteuid() == 0:
+        kinds['echo theirs >%%s; chmod 666 %%s; chown %d %%s' % STRANGER] = 'belongs to another user'
+    write('mine', b'mine\n')
+    shutil.copy('old.image', 'kept.image')
+    name = 'kept.image' + BESIDE
+    for (kind, fault), left in itertools.product(kinds.items(), (False, True)):
+        if left:
+            write(name, b'half')
+        plant = 'rm -f %s; %s' % (name, kind.replace('%s', name))
+        status, said = run('compile new.plan -o kept.image'.split(), MOMENTS, env=dict(os.environ, MOMENT='3' if left else '2', FATE='meanwhile', MEANWHILE=plant))
+        words = [name + ' beside it ' + fault] + ['Too many levels of symbolic links', 'Is a directory'] * left
+        if status != 10 or said not in ['rissobarm: kept.image: not written: %s\n' % why for why in words] or left_beside() != [name]:
+            sys.exit('whole: in the way by `%s`, it ends with %d and says: %s' % (kind, status, said))
+        if read('mine') != b'mine\n' or read('kept.image') != read('old.image') or (os.path.isfile(name) and read(name) not in (b'mine\n', b'theirs\n')):
+            sys.exit('whole: in the way by `%s`, something is written over' % kind)
+        subprocess.run(['rm', '-r', name])
+
+
+def shared():
+    """A folder that all may write to: what others have left beside is told at once, locked or not, and left alone; so is a file in the place that only they may replace. How many ways."""
+    if os.geteuid() != 0:
+        return 0
+    os.mkdir('shared')
+    os.chmod('shared', 0o1777)
+    ways = [(OTHER_USER, 0), (OTHER_USER, STRANGER), (0, OTHER_USER)]
+    for user, owner in ways:
+        for path, words in ((beside('shared/x'), 'x.rissobarm-new beside it belongs to another user'), ('shared/x', 'Operation not permitted')):
+            write(path, b'theirs')
+            os.chmod(path, 0o666)
+            os.chown(path, owner, owner)
+            with open(path, 'rb+') as held:
+                fcntl.lockf(held, fcntl.LOCK_EX)
+                done = run('run old.plan --arrivals shared/none --save shared/x'.split(), './tool', preexec_fn=lambda: os.setuid(user), timeout=PATIENCE)
+            wanted = (10, 'rissobarm: shared/x: not written: %s\n' % words)
+            if user == 0 and path == 'shared/x':
+                wanted = (10, 'rissobarm: shared/none: No such file or directory\n')
+            if done != wanted or read(path) != b'theirs' or os.stat(path).st_uid != owner or len(os.listdir('shared')) != 1:
+                sys.exit('whole: for user %d, where user %d has %s, it ends with %d and says: %s' % (user, owner, path, *done))
+            os.remove(path)
+    return len(ways)
 
 
 def at_once():
@@ -401,6 +519,7 @@ def main():
         for command in commands():
             made, some = killed(command)
             moments, between, told, count = moments + made, between + some, told + failed(command), count + 1
+            synced(command)
             stopped(command, made)
             left_over(command)
             by_chance(command)
@@ -412,10 +531,18 @@ def main():
         crossed()
         shut()
         at_once()
+        # for another user, who may not come to where they were built
+        shutil.copy(PROGRAM, 'tool')
+        shutil.copy(MOMENTS, 'moments')
+        os.chmod('.', 0o755)
+        unreadable()
+        in_the_way()
+        ways = shared()
         os.chdir('/')
     full = small_disk()
-    print('whole: %d commands killed at each of %d calls, %d of them between two files, and %d times by chance; %d failing calls, limits and full devices told; %s' % (
-        count, moments, between, count * KILLS, told, 'no small disk here' if full is None else 'full %d times on a small disk' % full))
+    print('whole: %d commands killed at each of %d calls, %d of them between two files, and %d times by chance; %d failing calls, limits and full devices told; %s; %s' % (
+        count, moments, between, count * KILLS, told, 'no small disk here' if full is None else 'full %d times on a small disk' % full,
+        'files of other users left alone in %d ways' % ways if ways else 'no other user here'))
 
 
 main()
