@@ -4,17 +4,17 @@ use mathlib.Core.List.{List}
 use Prim.Native.Nat.{◌<◌, ◌≤◌, ℕ}
 use lib.ListN.{length}
 use borrow.Author.Tests.{le-leb, lt-leb}
-use Rattle.bound.specs.Calls.{RowCall, RowSays, tellIn}
+use Rattle.bound.specs.Calls.{RowCall, RowSays, tell_in}
 use Rattle.lay.specs.Lay.{laid}
 use Rattle.parlog.specs.Tables.{Lent, lent}
 
 module _ {A : Type 0} (refuse done : A) (after l : Lent) (row bytes : List ℕ) where
-  pub tell-short : length row < length bytes → tellIn refuse done after l row bytes ≡ record { answer = refuse; lent = l; row = row }
-  unfolding tellIn
+  pub tell-short : length row < length bytes → tell_in refuse done after l row bytes ≡ record { answer = refuse; lent = l; row = row }
+  unfolding tell_in
   tell-short h = rw (lt-leb (length bytes) (length row) h)
 
-  pub tell-fits : length bytes ≤ length row → tellIn refuse done after l row bytes ≡ record { answer = done; lent = after; row = laid row 0 bytes }
-  unfolding tellIn
+  pub tell-fits : length bytes ≤ length row → tell_in refuse done after l row bytes ≡ record { answer = done; lent = after; row = laid row 0 bytes }
+  unfolding tell_in
   tell-fits h = rw (le-leb (length bytes) (length row) h)
 
 -- a contract, from what the call is

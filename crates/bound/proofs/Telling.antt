@@ -4,84 +4,84 @@ use mathlib.Core.List.{[], ◌∷◌, List}
 use Prim.Native.Nat.{◌<◌, ◌≤◌, ℕ}
 use lib.ListN.{length, take}
 use Rattle.bound_row.proofs.Rows.{bytes-length}
-use Rattle.bound_row.specs.Row.{boundBytes}
+use Rattle.bound_row.specs.Row.{bound_bytes}
 use Rattle.bound.proofs.Rows.{row-says, tell-fits, tell-short}
-use Rattle.bound.specs.Calls.{RowSays, stepBinds, stepBoundIn, supplyBoundCall, tellIn}
+use Rattle.bound.specs.Calls.{RowSays, step_binds, step_bound_in, supply_bound_call, tell_in}
 use Rattle.entry.specs.Entered.{Inside}
 use Rattle.lay.specs.Lay.{laid}
 use Rattle.machine.specs.Supplying.{DecidedSays, SupplySays}
-use Rattle.move_plan.specs.Plans.{changesOf, deltaOf}
+use Rattle.move_plan.specs.Plans.{changes_of, delta_of}
 use Rattle.parlog.specs.Limits.{Limits}
 use Rattle.parlog.specs.Load.{refusal}
 use Rattle.parlog.specs.Program.{program_of}
 use Rattle.parlog.specs.Run.{made, stepped, supplied}
-use Rattle.parlog.specs.Tables.{Lent, putTables, Tables, tablesIn}
+use Rattle.parlog.specs.Tables.{Lent, put_tables, Tables, tables_in}
 use Rattle.parlog.specs.declared.Refusal.{Refusal}
 use Rattle.parlog.specs.declared.Stepped.TheVariants.{Moved, Unmoved}
 use Rattle.parlog.specs.declared.Supplied.{Supplied}
 use Rattle.parlog.specs.declared.Supplied.TheVariants.{Given, Ungiven}
 use Rattle.step.proofs.Stepping.{step-unmade, stepped-moved}
-use Rattle.step.specs.Stepping.{CarriedOut, PlannedSays, stepIn}
+use Rattle.step.specs.Stepping.{CarriedOut, PlannedSays, step_in}
 use Rattle.step.specs.declared.Planning.{Planning}
-use Rattle.unify.specs.Pending.{varsBound}
+use Rattle.unify.specs.Pending.{vars_bound}
 
 -- ---- the step
 
 module _ (lim : Limits) (s : List ℕ) (r c : ℕ) (l : Lent) (i : Inside lim s r c l) (p : ℕ) (row : List ℕ) {d : Planning} (says : PlannedSays lim s r c l p d) where
-  pub bound-refused : (d.number ≡ 0 → ⊥) → {f : Refusal} → f ≡ refusal d.number 0 → RowSays (stepBoundIn lim s r c l row p) (Unmoved f) l.head l.procs l.vars row
+  pub bound-refused : (d.number ≡ 0 → ⊥) → {f : Refusal} → f ≡ refusal d.number 0 → RowSays (step_bound_in lim s r c l row p) (Unmoved f) l.head l.procs l.vars row
   bound-refused h ef =
-      let e = says.step ∙ step-unmade d.number d.plan (tablesIn l) p h in
+      let e = says.step ∙ step-unmade d.number d.plan (tables_in l) p h in
       row-says (rw (e, ef))
 
   module _ (z : d.number ≡ 0) where
     abbrev vars-told : List ℕ
-    vars-told = varsBound (take d.plan.changes.count d.plan.changes.list)
+    vars-told = vars_bound (take d.plan.changes.count d.plan.changes.list)
 
     abbrev tables-made : Tables
-    tables-made = stepped (tablesIn l) p (deltaOf d.plan)
+    tables-made = stepped (tables_in l) p (delta_of d.plan)
 
-    binds-are : stepBinds (program_of s r c) (tablesIn l) p ≡ vars-told
-    unfolding stepBinds deltaOf changesOf
+    binds-are : step_binds (program_of s r c) (tables_in l) p ≡ vars-told
+    unfolding step_binds delta_of changes_of
     binds-are = rw (says.rule z)
 
-    made_so : stepIn lim s r c l p ≡ made d.plan.mv tables-made
+    made_so : step_in lim s r c l p ≡ made d.plan.mv tables-made
     made_so = says.step ∙ rw z
 
-    tells-so : stepBoundIn lim s r c l row p ≡ tellIn (Unmoved (refusal 11 0)) (Moved d.plan.mv) (putTables l tables-made) l row (boundBytes vars-told)
+    tells-so : step_bound_in lim s r c l row p ≡ tell_in (Unmoved (refusal 11 0)) (Moved d.plan.mv) (put_tables l tables-made) l row (bound_bytes vars-told)
     tells-so = rw (made_so, binds-are)
 
     -- 11: the row is too short for what is to be told
-    pub bound-short : {n : ℕ} → n ≡ length (boundBytes vars-told) → length row < n → {f : Refusal} → f ≡ refusal 11 0 → RowSays (stepBoundIn lim s r c l row p) (Unmoved f) l.head l.procs l.vars row
-    bound-short en h ef = row-says (tells-so ∙ tell-short _ _ _ l row (boundBytes vars-told) (rw en at h) ∙ rw ef)
+    pub bound-short : {n : ℕ} → n ≡ length (bound_bytes vars-told) → length row < n → {f : Refusal} → f ≡ refusal 11 0 → RowSays (step_bound_in lim s r c l row p) (Unmoved f) l.head l.procs l.vars row
+    bound-short en h ef = row-says (tells-so ∙ tell-short _ _ _ l row (bound_bytes vars-told) (rw en at h) ∙ rw ef)
 
-    pub bound-told : {n : ℕ} → n ≡ length (boundBytes vars-told) → n ≤ length row → {h ps vs w : List ℕ} → CarriedOut l p d.plan h ps vs → w ≡ laid row 0 (boundBytes vars-told)
-        → RowSays (stepBoundIn lim s r c l row p) (Moved d.plan.mv) h ps vs w
+    pub bound-told : {n : ℕ} → n ≡ length (bound_bytes vars-told) → n ≤ length row → {h ps vs w : List ℕ} → CarriedOut l p d.plan h ps vs → w ≡ laid row 0 (bound_bytes vars-told)
+        → RowSays (step_bound_in lim s r c l row p) (Moved d.plan.mv) h ps vs w
     bound-told en wide out ew =
-        let k = tells-so ∙ tell-fits (Unmoved (refusal 11 0)) (Moved d.plan.mv) (putTables l tables-made) l row (boundBytes vars-told) (rw en at wide) in
+        let k = tells-so ∙ tell-fits (Unmoved (refusal 11 0)) (Moved d.plan.mv) (put_tables l tables-made) l row (bound_bytes vars-told) (rw en at wide) in
         let x = stepped-moved lim s r c l i p says z out in
         record { answer = rw k; head = rw k (rw made_so at x.head); procs = rw k (rw made_so at x.procs); vars = rw k (rw made_so at x.vars); row = rw k ew }
 
 -- ---- the supply
 
 module _ (lim : Limits) (s : List ℕ) (l : Lent) (row : List ℕ) (v c : ℕ) {a : Supplied} (told : DecidedSays lim s l v c a) where
-  pub supply-refused : {f : Refusal} → a ≡ Ungiven f → RowSays (supplyBoundCall lim s l row v c) a l.head l.procs l.vars row
-  unfolding supplyBoundCall
+  pub supply-refused : {f : Refusal} → a ≡ Ungiven f → RowSays (supply_bound_call lim s l row v c) a l.head l.procs l.vars row
+  unfolding supply_bound_call
   supply-refused e = let k = rw e at told.call in row-says (rw (k, e))
 
   module _ {u : ℕ} (e : a ≡ Given u) where
-    call-given : supplyBoundCall lim s l row v c ≡ tellIn (Ungiven (refusal 11 0)) (Given u) (putTables l (supplied (tablesIn l) u c)) l row (boundBytes (u ∷ []))
-    unfolding supplyBoundCall
+    call-given : supply_bound_call lim s l row v c ≡ tell_in (Ungiven (refusal 11 0)) (Given u) (put_tables l (supplied (tables_in l) u c)) l row (bound_bytes (u ∷ []))
+    unfolding supply_bound_call
     call-given = let k = rw e at told.call in rw k
 
-    four : length (boundBytes (u ∷ [])) ≡ 4
+    four : length (bound_bytes (u ∷ [])) ≡ 4
     four = bytes-length (u ∷ [])
 
-    pub supply-short : length row < 4 → {f : Refusal} → f ≡ refusal 11 0 → RowSays (supplyBoundCall lim s l row v c) (Ungiven f) l.head l.procs l.vars row
-    supply-short h ef = row-says (call-given ∙ tell-short _ _ _ l row (boundBytes (u ∷ [])) (rw four h) ∙ rw ef)
+    pub supply-short : length row < 4 → {f : Refusal} → f ≡ refusal 11 0 → RowSays (supply_bound_call lim s l row v c) (Ungiven f) l.head l.procs l.vars row
+    supply-short h ef = row-says (call-given ∙ tell-short _ _ _ l row (bound_bytes (u ∷ [])) (rw four h) ∙ rw ef)
 
-    pub supply-told : 4 ≤ length row → {m w : List ℕ} → SupplySays lim s l v c (Given u) l.head l.procs m → w ≡ laid row 0 (boundBytes (u ∷ []))
-        → RowSays (supplyBoundCall lim s l row v c) (Given u) l.head l.procs m w
+    pub supply-told : 4 ≤ length row → {m w : List ℕ} → SupplySays lim s l v c (Given u) l.head l.procs m → w ≡ laid row 0 (bound_bytes (u ∷ []))
+        → RowSays (supply_bound_call lim s l row v c) (Given u) l.head l.procs m w
     supply-told wide x ew =
         let j = rw e at told.call in
-        let k = call-given ∙ tell-fits (Ungiven (refusal 11 0)) (Given u) (putTables l (supplied (tablesIn l) u c)) l row (boundBytes (u ∷ [])) (rw four wide) in
+        let k = call-given ∙ tell-fits (Ungiven (refusal 11 0)) (Given u) (put_tables l (supplied (tables_in l) u c)) l row (bound_bytes (u ∷ [])) (rw four wide) in
         record { answer = rw k; head = rw k (rw j at x.head); procs = rw k (rw j at x.procs); vars = rw k (rw j at x.vars); row = rw k ew }

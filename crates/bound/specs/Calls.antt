@@ -1,41 +1,41 @@
 -- Step, turn and supply that tell the variables bound: which they are, their bytes, and the calls with one row more.
 use Rattle.std.specs.Prelude.{◌≡◌, Bool, false, true, [], ◌∷◌, List, ℕ, leb, length}
-use Rattle.bound_row.specs.Row.{boundBytes}
+use Rattle.bound_row.specs.Row.{bound_bytes}
 use Rattle.lay.specs.Lay.{laid}
-use Rattle.parlog.specs.Calls.{enter, entered, Entry, stepAnswer, stepCall, supplyCall, turnCall, turned-away}
+use Rattle.parlog.specs.Calls.{enter, entered, Entry, step_answer, step_call, supply_call, turn_call, turned_away}
 use Rattle.parlog.specs.Limits.{Limits}
 use Rattle.parlog.specs.Load.{refusal}
 use Rattle.parlog.specs.Program.{Program, program_of}
-use Rattle.parlog.specs.Rules.{Applied, by-rule, no-rule, ruleOf}
-use Rattle.parlog.specs.Run.{Stepping, stepTables, turnFor, turnTables}
-use Rattle.parlog.specs.Tables.{Lent, Tables, tablesIn}
+use Rattle.parlog.specs.Rules.{Applied, by_rule, no_rule, rule_of}
+use Rattle.parlog.specs.Run.{Stepping, step_tables, turn_for, turn_tables}
+use Rattle.parlog.specs.Tables.{Lent, Tables, tables_in}
 use Rattle.parlog.specs.declared.Found.{Found}
 use Rattle.parlog.specs.declared.Found.TheVariants.{At, Nothing}
 use Rattle.parlog.specs.declared.Stepped.{Stepped}
 use Rattle.parlog.specs.declared.Stepped.TheVariants.{Moved, Unmoved}
 use Rattle.parlog.specs.declared.Supplied.{Supplied}
 use Rattle.parlog.specs.declared.Supplied.TheVariants.{Given, Ungiven}
-use Rattle.unify.specs.Pending.{varsBound}
+use Rattle.unify.specs.Pending.{vars_bound}
 
 -- ---- which variables
 
 -- Bound 2: those of a rule: what it binds, in the unifier's order
-abbrev pub boundBy : Applied → List ℕ
-boundBy no-rule = []
-boundBy (by-rule m d) = varsBound d.changes
+abbrev pub bound_by : Applied → List ℕ
+bound_by no_rule = []
+bound_by (by_rule m d) = vars_bound d.changes
 
 -- Bound 2: those of the step of process p
-unfoldable pub stepBinds : Program → Tables → ℕ → List ℕ
-stepBinds pr t p = boundBy (ruleOf pr t.state p)
+unfoldable pub step_binds : Program → Tables → ℕ → List ℕ
+step_binds pr t p = bound_by (rule_of pr t.state p)
 
 -- Bound 2: those of the step of whose turn it is
-abbrev pub foundBinds : Found → Program → Tables → List ℕ
-foundBinds Nothing pr t = []
-foundBinds (At p) pr t = stepBinds pr t p
+abbrev pub found_binds : Found → Program → Tables → List ℕ
+found_binds Nothing pr t = []
+found_binds (At p) pr t = step_binds pr t p
 
 -- Bound 2: those of a turn
-unfoldable pub turnBinds : Program → Tables → List ℕ
-turnBinds pr t = foundBinds (turnFor pr t) pr t
+unfoldable pub turn_binds : Program → Tables → List ℕ
+turn_binds pr t = found_binds (turn_for pr t) pr t
 
 -- ---- a call that is lent one row more
 
@@ -46,46 +46,46 @@ pub record RowCall (A : Type 0) : Type 0 where
   pub row : List ℕ
 
 -- Bound 4, 5: what is made is told where the row has room for it, else it is refused and nothing is written
-abbrev pub tellBy : {A : Type 0} → Bool → A → A → Lent → Lent → List ℕ → List ℕ → RowCall A
-tellBy false refuse done after l row bytes = record { answer = refuse; lent = l; row = row }
-tellBy true refuse done after l row bytes = record { answer = done; lent = after; row = laid row 0 bytes }
+abbrev pub tell_by : {A : Type 0} → Bool → A → A → Lent → Lent → List ℕ → List ℕ → RowCall A
+tell_by false refuse done after l row bytes = record { answer = refuse; lent = l; row = row }
+tell_by true refuse done after l row bytes = record { answer = done; lent = after; row = laid row 0 bytes }
 
 -- Bound 4, 5: the same, by the lengths of both
-unfoldable pub tellIn : {A : Type 0} → A → A → Lent → Lent → List ℕ → List ℕ → RowCall A
-tellIn refuse done after l row bytes = tellBy (leb (length bytes) (length row)) refuse done after l row bytes
+unfoldable pub tell_in : {A : Type 0} → A → A → Lent → Lent → List ℕ → List ℕ → RowCall A
+tell_in refuse done after l row bytes = tell_by (leb (length bytes) (length row)) refuse done after l row bytes
 
 -- Bound 3, 5: a step by what the plain call answers and leaves
-abbrev pub stepTells : Stepped → Lent → Lent → List ℕ → List ℕ → RowCall Stepped
-stepTells (Unmoved r) after l row vs = record { answer = Unmoved r; lent = after; row = row }
-stepTells (Moved m) after l row vs = tellIn (Unmoved (refusal 11 0)) (Moved m) after l row (boundBytes vs)
+abbrev pub step_tells : Stepped → Lent → Lent → List ℕ → List ℕ → RowCall Stepped
+step_tells (Unmoved r) after l row vs = record { answer = Unmoved r; lent = after; row = row }
+step_tells (Moved m) after l row vs = tell_in (Unmoved (refusal 11 0)) (Moved m) after l row (bound_bytes vs)
 
 -- Bound 3: of one that was let in
-abbrev pub stepBound : Stepping → Lent → List ℕ → List ℕ → RowCall Stepped
-stepBound a l row vs = stepTells (stepAnswer a l).answer (stepAnswer a l).lent l row vs
+abbrev pub step_bound : Stepping → Lent → List ℕ → List ℕ → RowCall Stepped
+step_bound a l row vs = step_tells (step_answer a l).answer (step_answer a l).lent l row vs
 
 -- Bound 2, 5: a supply, by what the plain call answers and leaves: the variable that takes the binding
-abbrev pub supplyTells : Supplied → Lent → Lent → List ℕ → RowCall Supplied
-supplyTells (Ungiven r) after l row = record { answer = Ungiven r; lent = after; row = row }
-supplyTells (Given v) after l row = tellIn (Ungiven (refusal 11 0)) (Given v) after l row (boundBytes (v ∷ []))
+abbrev pub supply_tells : Supplied → Lent → Lent → List ℕ → RowCall Supplied
+supply_tells (Ungiven r) after l row = record { answer = Ungiven r; lent = after; row = row }
+supply_tells (Given v) after l row = tell_in (Ungiven (refusal 11 0)) (Given v) after l row (bound_bytes (v ∷ []))
 
 -- ---- the calls
 
 -- what a call that was let in tells
-abbrev pub bindsOf : Entry → (Program → Tables → List ℕ) → List ℕ
-bindsOf (turned-away r) f = []
-bindsOf (entered pr t) f = f pr t
+abbrev pub binds_of : Entry → (Program → Tables → List ℕ) → List ℕ
+binds_of (turned_away r) f = []
+binds_of (entered pr t) f = f pr t
 
 -- Bound 3: the step by number
-unfoldable pub stepBoundCall : Limits → List ℕ → Lent → List ℕ → ℕ → RowCall Stepped
-stepBoundCall lim s l row p = stepTells (stepCall lim s l p).answer (stepCall lim s l p).lent l row (bindsOf (enter lim s l) (λ pr t. stepBinds pr t p))
+unfoldable pub step_bound_call : Limits → List ℕ → Lent → List ℕ → ℕ → RowCall Stepped
+step_bound_call lim s l row p = step_tells (step_call lim s l p).answer (step_call lim s l p).lent l row (binds_of (enter lim s l) (λ pr t. step_binds pr t p))
 
 -- Bound 3: the turn
-unfoldable pub turnBoundCall : Limits → List ℕ → Lent → List ℕ → RowCall Stepped
-turnBoundCall lim s l row = stepTells (turnCall lim s l).answer (turnCall lim s l).lent l row (bindsOf (enter lim s l) turnBinds)
+unfoldable pub turn_bound_call : Limits → List ℕ → Lent → List ℕ → RowCall Stepped
+turn_bound_call lim s l row = step_tells (turn_call lim s l).answer (turn_call lim s l).lent l row (binds_of (enter lim s l) turn_binds)
 
 -- Bound 3: the supply of c for the goal's variable v
-unfoldable pub supplyBoundCall : Limits → List ℕ → Lent → List ℕ → ℕ → ℕ → RowCall Supplied
-supplyBoundCall lim s l row v c = supplyTells (supplyCall lim s l v c).answer (supplyCall lim s l v c).lent l row
+unfoldable pub supply_bound_call : Limits → List ℕ → Lent → List ℕ → ℕ → ℕ → RowCall Supplied
+supply_bound_call lim s l row v c = supply_tells (supply_call lim s l v c).answer (supply_call lim s l v c).lent l row
 
 -- ---- the contracts
 
@@ -98,8 +98,8 @@ pub record RowSays {A : Type 0} (c : RowCall A) (a : A) (h ps vs w : List ℕ) :
   pub row : w ≡ c.row
 
 -- the step and the turn in tables that keep the rules
-abbrev pub stepBoundIn : Limits → List ℕ → ℕ → ℕ → Lent → List ℕ → ℕ → RowCall Stepped
-stepBoundIn lim s r c l row p = stepBound (stepTables lim (program_of s r c) (tablesIn l) p) l row (stepBinds (program_of s r c) (tablesIn l) p)
+abbrev pub step_bound_in : Limits → List ℕ → ℕ → ℕ → Lent → List ℕ → ℕ → RowCall Stepped
+step_bound_in lim s r c l row p = step_bound (step_tables lim (program_of s r c) (tables_in l) p) l row (step_binds (program_of s r c) (tables_in l) p)
 
-abbrev pub turnBoundIn : Limits → List ℕ → ℕ → ℕ → Lent → List ℕ → RowCall Stepped
-turnBoundIn lim s r c l row = stepBound (turnTables lim (program_of s r c) (tablesIn l)) l row (turnBinds (program_of s r c) (tablesIn l))
+abbrev pub turn_bound_in : Limits → List ℕ → ℕ → ℕ → Lent → List ℕ → RowCall Stepped
+turn_bound_in lim s r c l row = step_bound (turn_tables lim (program_of s r c) (tables_in l)) l row (turn_binds (program_of s r c) (tables_in l))

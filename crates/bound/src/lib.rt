@@ -3,9 +3,9 @@ ghost use Rattle.std.specs.Prelude.{◌≡◌, ◌<◌};
 ghost use Rattle.children.specs.Telling.{Tells};
 ghost use Rattle.entry.specs.Entered.{Inside};
 ghost use Rattle.parlog.specs.Limits.{small};
-ghost use Rattle.parlog.specs.Tables.{at, lent, procCount, procsOf};
+ghost use Rattle.parlog.specs.Tables.{at, lent, proc_count, procs_of};
 ghost use Rattle.program_index.specs.Indexed.{Indexed};
-ghost use Rattle.bound.specs.Calls.{RowSays, stepBoundIn, supplyBoundCall};
+ghost use Rattle.bound.specs.Calls.{RowSays, step_bound_in, supply_bound_call};
 
 use children::Told;
 use parlog::{Stepped, Supplied, Term, codes};
@@ -25,8 +25,8 @@ pub fn step_in(
     p: usize,
     told: Told,
 ) -> Stepped
-    requires { Inside small image.now rels clauses (lent head.old procs.old vars.old) × (p < procCount head.old) × ((at (procsOf procs.old (procCount head.old)) p).mode ≡ 3 → Tells (procsOf procs.old (procCount head.old)) p told) × Indexed image.now rels clauses ix.now }
-    ensures { RowSays (stepBoundIn small image.now rels clauses (lent head.old procs.old vars.old) bound.old p) result head.new procs.new vars.new bound.new }
+    requires { Inside small image.now rels clauses (lent head.old procs.old vars.old) × (p < proc_count head.old) × ((at (procs_of procs.old (proc_count head.old)) p).mode ≡ 3 → Tells (procs_of procs.old (proc_count head.old)) p told) × Indexed image.now rels clauses ix.now }
+    ensures { RowSays (step_bound_in small image.now rels clauses (lent head.old procs.old vars.old) bound.old p) result head.new procs.new vars.new bound.new }
 {
     let d = step::planned(image, rels, clauses, ix, head, procs, vars, p, told);
     let number = d.number;
@@ -58,7 +58,7 @@ pub fn supply_bound(
     variable: u32,
     value: u32,
 ) -> Supplied
-    ensures { RowSays (supplyBoundCall small image.now (lent head.now procs.now vars.old) bound.old variable value) result head.now procs.now vars.new bound.new }
+    ensures { RowSays (supply_bound_call small image.now (lent head.now procs.now vars.old) bound.old variable value) result head.now procs.now vars.new bound.new }
 {
     let a = machine::decided(image, head, procs, vars, variable, value);
     let Supplied::Given(v) = a else {

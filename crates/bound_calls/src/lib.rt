@@ -1,5 +1,5 @@
 // The step by number and the turn, which tell the variables bound: the plain calls with one row more.
-ghost use Rattle.bound.specs.Calls.{RowSays, stepBoundCall, turnBoundCall, turnBoundIn};
+ghost use Rattle.bound.specs.Calls.{RowSays, step_bound_call, turn_bound_call, turn_bound_in};
 ghost use Rattle.entry.specs.Entered.{Inside};
 ghost use Rattle.parlog.specs.Limits.{small};
 ghost use Rattle.parlog.specs.Tables.{lent};
@@ -16,7 +16,7 @@ pub fn step_bound(
     bound: &mut [u8],
     process: u32,
 ) -> Stepped
-    ensures { RowSays (stepBoundCall small image.now (lent head.old procs.old vars.old) bound.old process) result head.new procs.new vars.new bound.new }
+    ensures { RowSays (step_bound_call small image.now (lent head.old procs.old vars.old) bound.old process) result head.new procs.new vars.new bound.new }
 {
     let mut ix = [0u16; program_index::SIZE];
     let e = entry::enter(image, head, procs, vars, &mut ix);
@@ -45,7 +45,7 @@ fn turn_in(
     bound: &mut [u8],
 ) -> Stepped
     requires { Inside small image.now rels clauses (lent head.old procs.old vars.old) × Indexed image.now rels clauses ix.now }
-    ensures { RowSays (turnBoundIn small image.now rels clauses (lent head.old procs.old vars.old) bound.old) result head.new procs.new vars.new bound.new }
+    ensures { RowSays (turn_bound_in small image.now rels clauses (lent head.old procs.old vars.old) bound.old) result head.new procs.new vars.new bound.new }
 {
     let t = run::whose(head, procs, vars);
     let f = t.who;
@@ -65,7 +65,7 @@ pub fn turn_bound(
     vars: &mut [u8],
     bound: &mut [u8],
 ) -> Stepped
-    ensures { RowSays (turnBoundCall small image.now (lent head.old procs.old vars.old) bound.old) result head.new procs.new vars.new bound.new }
+    ensures { RowSays (turn_bound_call small image.now (lent head.old procs.old vars.old) bound.old) result head.new procs.new vars.new bound.new }
 {
     let mut ix = [0u16; program_index::SIZE];
     let e = entry::enter(image, head, procs, vars, &mut ix);

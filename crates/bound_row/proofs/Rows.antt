@@ -5,12 +5,12 @@ use Prim.Native.Nat.{◌*◌, ◌+◌, ◌<◌, ◌≤◌, ℕ}
 use lib.ListN.{drop, get_or, length, length-map, take}
 use lib.Seq.{length-take-le}
 use native.Mathlib.Omega.{arith}
-use Rattle.bound_row.specs.Row.{boundBytes, twos}
+use Rattle.bound_row.specs.Row.{bound_bytes, twos}
 use Rattle.lay.proofs.Laws.{laid-length, laid_none, laid_then, lays-then}
 use Rattle.lay.specs.Lay.{laid, Lays, two}
 use Rattle.parlog.specs.declared.Change.{Change}
 use Rattle.unify.proofs.Laws.{rest_more, rest-none}
-use Rattle.unify.specs.Pending.{noChange, varsBound}
+use Rattle.unify.specs.Pending.{no_change, vars_bound}
 
 -- ---- how many bytes
 
@@ -19,15 +19,15 @@ unfolding twos
 twos-length [] = refl
 twos-length (v ∷ vs) = let e = twos-length vs in omega arith
 
-pub bytes-length : (vs : List ℕ) → length (boundBytes vs) ≡ 2 + 2 * length vs
-unfolding boundBytes
+pub bytes-length : (vs : List ℕ) → length (bound_bytes vs) ≡ 2 + 2 * length vs
+unfolding bound_bytes
 bytes-length vs = let e = twos-length vs in omega arith
 
-pub vars-many : (cs : List Change) → length (varsBound cs) ≡ length cs
+pub vars-many : (cs : List Change) → length (vars_bound cs) ≡ length cs
 vars-many cs = length-map cs (λ c. c.var)
 
-pub size_is : (list : List Change) (count : ℕ) → count ≤ length list → 2 + 2 * count ≡ length (boundBytes (varsBound (take count list)))
-size_is list count h = sym (bytes-length (varsBound (take count list)) ∙ rw (vars-many (take count list), length-take-le count list h))
+pub size_is : (list : List Change) (count : ℕ) → count ≤ length list → 2 + 2 * count ≡ length (bound_bytes (vars_bound (take count list)))
+size_is list count h = sym (bytes-length (vars_bound (take count list)) ∙ rw (vars-many (take count list), length-take-le count list h))
 
 -- ---- writing them
 
@@ -35,29 +35,29 @@ pub lays-length : {o p bs : List ℕ} {at n : ℕ} → Lays o p at bs n → leng
 lays-length {o} {p} {bs} {at} w = rw w.row (laid-length bs o at)
 
 module _ (list : List Change) (count : ℕ) (g : count ≤ length list) where
-  pub tell-start : (o : List ℕ) {out : List ℕ} {at : ℕ} → Lays o out 0 (two count) at → laid out at (twos (varsBound (take count list))) ≡ laid o 0 (boundBytes (varsBound (take count list)))
-  unfolding boundBytes
+  pub tell-start : (o : List ℕ) {out : List ℕ} {at : ℕ} → Lays o out 0 (two count) at → laid out at (twos (vars_bound (take count list))) ≡ laid o 0 (bound_bytes (vars_bound (take count list)))
+  unfolding bound_bytes
   tell-start o {out} {at} w =
-      let e : length (varsBound (take count list)) ≡ count = vars-many (take count list) ∙ length-take-le count list g in
-      rw (e, w.row, w.place) (laid_then (two count) (twos (varsBound (take count list))) o 0)
+      let e : length (vars_bound (take count list)) ≡ count = vars-many (take count list) ∙ length-take-le count list g in
+      rw (e, w.row, w.place) (laid_then (two count) (twos (vars_bound (take count list))) o 0)
 
-  module _ (k : ℕ) (out : List ℕ) (at : ℕ) {whole : List ℕ} (inv : laid out at (twos (varsBound (drop k (take count list)))) ≡ whole) where
-    pub tell-more : k < count → {next : List ℕ} {to : ℕ} → Lays out next at (two (get_or list k noChange).var) to → laid next to (twos (varsBound (drop (k + 1) (take count list)))) ≡ whole
+  module _ (k : ℕ) (out : List ℕ) (at : ℕ) {whole : List ℕ} (inv : laid out at (twos (vars_bound (drop k (take count list)))) ≡ whole) where
+    pub tell-more : k < count → {next : List ℕ} {to : ℕ} → Lays out next at (two (get_or list k no_change).var) to → laid next to (twos (vars_bound (drop (k + 1) (take count list)))) ≡ whole
     tell-more h {next} {to} w = rw (w.row, w.place) (laid_then (two v) (twos rest) out at ∙ sym joins ∙ inv)
       where
         v : ℕ
-        v = (get_or list k noChange).var
+        v = (get_or list k no_change).var
 
         rest : List ℕ
-        rest = varsBound (drop (k + 1) (take count list))
+        rest = vars_bound (drop (k + 1) (take count list))
 
-        joins : laid out at (twos (varsBound (drop k (take count list)))) ≡ laid out at (two (get_or list k noChange).var ++ twos (varsBound (drop (k + 1) (take count list))))
-        joins = unfold twos in rw (rest_more list count k noChange h g)
+        joins : laid out at (twos (vars_bound (drop k (take count list)))) ≡ laid out at (two (get_or list k no_change).var ++ twos (vars_bound (drop (k + 1) (take count list))))
+        joins = unfold twos in rw (rest_more list count k no_change h g)
 
     pub tell-done : count ≤ k → out ≡ whole
     unfolding twos
     tell-done h = sym (laid_none out at) ∙ (rw (rest-none list count k h g) at inv)
 
-pub tell-only : (o : List ℕ) (v : ℕ) {p q : List ℕ} {at to : ℕ} → Lays o p 0 (two 1) at → Lays p q at (two v) to → q ≡ laid o 0 (boundBytes (v ∷ []))
-unfolding boundBytes twos
+pub tell-only : (o : List ℕ) (v : ℕ) {p q : List ℕ} {at to : ℕ} → Lays o p 0 (two 1) at → Lays p q at (two v) to → q ≡ laid o 0 (bound_bytes (v ∷ []))
+unfolding bound_bytes twos
 tell-only o v f g = (lays-then f g).row

@@ -8,5 +8,5 @@ twos [] = []
 twos (v ∷ vs) = two v ++ twos vs
 
 -- Bound 4: the count in front
-unfoldable pub boundBytes : List ℕ → List ℕ
-boundBytes vs = two (length vs) ++ twos vs
+unfoldable pub bound_bytes : List ℕ → List ℕ
+bound_bytes vs = two (length vs) ++ twos vs

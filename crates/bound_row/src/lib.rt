@@ -1,8 +1,8 @@
 // The variables bound, told in a lent row.
 ghost use Rattle.std.specs.Prelude.{◌≡◌, [], ◌∷◌, ◌≤◌, length, take};
 ghost use Rattle.lay.specs.Lay.{laid};
-ghost use Rattle.unify.specs.Pending.{varsBound};
-ghost use Rattle.bound_row.specs.Row.{boundBytes};
+ghost use Rattle.unify.specs.Pending.{vars_bound};
+ghost use Rattle.bound_row.specs.Row.{bound_bytes};
 
 use parlog::{Change, codes};
 
@@ -17,7 +17,7 @@ pub const ONE_SIZE: usize = COUNT_SIZE + VAR_SIZE;
 // How many bytes tell the variables of the first changes.
 pub fn size_of(list: [Change; codes::MOST_ARITY], count: usize) -> usize
     requires { count ≤ 4 }
-    ensures { result ≡ length (boundBytes (varsBound (take count list))) }
+    ensures { result ≡ length (bound_bytes (vars_bound (take count list))) }
 {
     COUNT_SIZE + VAR_SIZE * count
 }
@@ -25,7 +25,7 @@ pub fn size_of(list: [Change; codes::MOST_ARITY], count: usize) -> usize
 // Tells them: their count, then each, in the order of the changes.
 pub fn tell(out: &mut [u8], list: [Change; codes::MOST_ARITY], count: usize)
     requires { count ≤ 4 }
-    ensures { out.new ≡ laid out.old 0 (boundBytes (varsBound (take count list))) }
+    ensures { out.new ≡ laid out.old 0 (bound_bytes (vars_bound (take count list))) }
 {
     let mut at = lay::put2(out, 0, count);
     let mut k = 0;
@@ -39,7 +39,7 @@ pub fn tell(out: &mut [u8], list: [Change; codes::MOST_ARITY], count: usize)
 
 // Tells one.
 pub fn tell_one(out: &mut [u8], v: usize)
-    ensures { out.new ≡ laid out.old 0 (boundBytes (v ∷ [])) }
+    ensures { out.new ≡ laid out.old 0 (bound_bytes (v ∷ [])) }
 {
     let at = lay::put2(out, 0, 1);
     lay::put2(out, at, v);

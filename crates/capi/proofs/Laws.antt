@@ -6,18 +6,18 @@ use Prim.Native.Nat.{◌/◌, ◌≤◌, ℕ}
 use lib.Dec.{leb}
 use lib.ListN.{length}
 use native.Mathlib.Omega.{arith}
-use Rattle.bound.specs.Calls.{RowCall, RowSays, stepBoundCall, stepTells, supplyBoundCall, supplyTells, tellBy, tellIn, turnBoundCall}
-use Rattle.bound_row.specs.Row.{boundBytes}
+use Rattle.bound.specs.Calls.{RowCall, RowSays, step_bound_call, step_tells, supply_bound_call, supply_tells, tell_by, tell_in, turn_bound_call}
+use Rattle.bound_row.specs.Row.{bound_bytes}
 use Rattle.capi.specs.Tells.{ParseTells, PrintTells, ReplayTells, ResumeTells, RowTells, RunTells, SaveTells, StartTells, StepTells, SupplyTells, Tells, TurnTells, ValuesTells, ValueTells, WatchTells}
-use Rattle.load.specs.Fields.{refusalOf}
+use Rattle.load.specs.Fields.{refusal_of}
 use Rattle.machine.specs.Starting.{StartSays}
 use Rattle.machine.specs.Supplying.{SupplySays}
-use Rattle.parlog.specs.Calls.{stepCall, supplyCall, turnCall, valueCall}
+use Rattle.parlog.specs.Calls.{step_call, supply_call, turn_call, value_call}
 use Rattle.parlog.specs.Limits.{Limits, Usable}
 use Rattle.parlog.specs.Load.{load_of, refusal}
-use Rattle.parlog.specs.Numbers.{loadNumbers, Numbers, refusedAs, runNumbers, startNumbers, stepNumbers, supplyNumbers, valueNumbers, watchNumbers, word}
-use Rattle.parlog.specs.Run.{watchOf}
-use Rattle.parlog.specs.Tables.{Lent, procsOf, rowSize}
+use Rattle.parlog.specs.Numbers.{load_numbers, Numbers, refused_as, run_numbers, start_numbers, step_numbers, supply_numbers, value_numbers, watch_numbers, word}
+use Rattle.parlog.specs.Run.{watch_of}
+use Rattle.parlog.specs.Tables.{Lent, procs_of, row_size}
 use Rattle.parlog.specs.declared.Found.{Found}
 use Rattle.parlog.specs.declared.Loaded.{Loaded}
 use Rattle.parlog.specs.declared.Loaded.TheVariants.{Accepted, Refused}
@@ -31,7 +31,7 @@ use Rattle.parlog.specs.declared.Supplied.TheVariants.{Given, Ungiven}
 use Rattle.parlog.specs.declared.Valued.{Valued}
 use Rattle.parse.specs.Says.{ParseSays}
 use Rattle.print.specs.Says.{PrintSays}
-use Rattle.replay.specs.Replay.{replayNumbers, ReplaySays}
+use Rattle.replay.specs.Replay.{replay_numbers, ReplaySays}
 use Rattle.replay.specs.declared.Replayed.{Replayed}
 use Rattle.resume.specs.Says.{ResumeSays, SaveSays}
 use Rattle.resume.specs.declared.Resumed.{Resumed}
@@ -42,19 +42,19 @@ use Rattle.step.specs.Stepping.{StepSays}
 use Rattle.text_program.specs.declared.Parsed.{Parsed}
 use Rattle.text_program.specs.declared.Printed.{Printed}
 use Rattle.text_words.proofs.Laws.{parse-fits}
-use Rattle.text_words.specs.Numbers.{ParseFits, parseNumbers, printNumbers}
-use Rattle.values.specs.Values.{valuesNumbers, ValuesSays}
+use Rattle.text_words.specs.Numbers.{ParseFits, parse_numbers, print_numbers}
+use Rattle.values.specs.Values.{values_numbers, ValuesSays}
 use Rattle.values.specs.declared.Gathered.{Gathered}
 use Rattle.words.proofs.Fitting.{run_fits, start_fits, step_fits, supply-fits, turn-fits, value-fits, values-fits, watch-reached}
 use Rattle.words.proofs.Nights.{save-fits}
 use Rattle.words.specs.Fits.{reached, RunFits, StartFits, StepFits, SupplyFits, ValueFits, ValuesFits}
-use Rattle.words.specs.Nights.{resumeNumbers, SaveFits, saveNumbers}
+use Rattle.words.specs.Nights.{resume_numbers, SaveFits, save_numbers}
 
 module _ (s : List ℕ) {l : Loaded} (is : l ≡ load_of s) where
-  pub load-refused : {f r : Refusal} {w : ℕ} → l ≡ Refused f → r ≡ refusalOf l → w ≡ word (refusedAs r) → w ≡ word (loadNumbers (load_of s))
+  pub load-refused : {f r : Refusal} {w : ℕ} → l ≡ Refused f → r ≡ refusal_of l → w ≡ word (refused_as r) → w ≡ word (load_numbers (load_of s))
   load-refused e h k = rw (k, h, ← is, e)
 
-  pub load-accepted : {r c w : ℕ} → l ≡ Accepted r c → w ≡ word (record { refused = 0; a = r; b = c; c = 0 }) → w ≡ word (loadNumbers (load_of s))
+  pub load-accepted : {r c w : ℕ} → l ≡ Accepted r c → w ≡ word (record { refused = 0; a = r; b = c; c = 0 }) → w ≡ word (load_numbers (load_of s))
   load-accepted e k = rw (k, ← is, e)
 
 -- ---- an answer of a call below fits, and its word and rows are those of the call
@@ -74,91 +74,91 @@ module _ (lim : Limits) (s : List ℕ) (l : Lent) {h p v : List ℕ} where
     pub start-fit : StartFits a
     start-fit = fits-of told.answer StartFits (start_fits lim s l)
 
-    pub start-tells : {w : ℕ} → w ≡ word (startNumbers a) → StartTells lim s l w h p v
-    start-tells k = tells-of told.answer startNumbers told.head told.procs told.vars k
+    pub start-tells : {w : ℕ} → w ≡ word (start_numbers a) → StartTells lim s l w h p v
+    start-tells k = tells-of told.answer start_numbers told.head told.procs told.vars k
 
   module _ (i : ℕ) {a : Stepped} (told : StepSays lim s l i a h p v) where
     pub step-fit : Usable lim → StepFits a
     step-fit ok = fits-of told.answer StepFits (step_fits lim ok s l i)
 
-    pub step-tells : {w : ℕ} → w ≡ word (stepNumbers a) → StepTells lim s l i w h p v
-    step-tells k = tells-of told.answer stepNumbers told.head told.procs told.vars k
+    pub step-tells : {w : ℕ} → w ≡ word (step_numbers a) → StepTells lim s l i w h p v
+    step-tells k = tells-of told.answer step_numbers told.head told.procs told.vars k
 
   module _ {a : Stepped} (told : TurnSays lim s l a h p v) where
     pub turn-fit : Usable lim → StepFits a
     turn-fit ok = fits-of told.answer StepFits (turn-fits lim ok s l)
 
-    pub turn-tells : {w : ℕ} → w ≡ word (stepNumbers a) → TurnTells lim s l w h p v
-    turn-tells k = tells-of told.answer stepNumbers told.head told.procs told.vars k
+    pub turn-tells : {w : ℕ} → w ≡ word (step_numbers a) → TurnTells lim s l w h p v
+    turn-tells k = tells-of told.answer step_numbers told.head told.procs told.vars k
 
   module _ (limit : ℕ) {a : Ran} (told : RunSays lim s l limit a h p v) where
     pub run-fit : limit ≤ 65535 → RunFits a
     run-fit most = fits-of told.answer RunFits (run_fits lim s l limit (omega (arith, most)))
 
-    pub run-tells : {w : ℕ} → w ≡ word (runNumbers a) → RunTells lim s l limit w h p v
-    run-tells k = tells-of told.answer runNumbers told.head told.procs told.vars k
+    pub run-tells : {w : ℕ} → w ≡ word (run_numbers a) → RunTells lim s l limit w h p v
+    run-tells k = tells-of told.answer run_numbers told.head told.procs told.vars k
 
   module _ (x c : ℕ) {a : Supplied} (told : SupplySays lim s l x c a h p v) where
     pub supply-fit : SupplyFits a
     supply-fit = fits-of told.answer SupplyFits (supply-fits lim s l x c)
 
-    pub supply-tells : {w : ℕ} → w ≡ word (supplyNumbers a) → SupplyTells lim s l x c w h p v
-    supply-tells k = tells-of told.answer supplyNumbers told.head told.procs told.vars k
+    pub supply-tells : {w : ℕ} → w ≡ word (supply_numbers a) → SupplyTells lim s l x c w h p v
+    supply-tells k = tells-of told.answer supply_numbers told.head told.procs told.vars k
 
-module _ (lim : Limits) (s : List ℕ) (l : Lent) (x : ℕ) {a : Valued} (told : a ≡ valueCall lim s l x) where
+module _ (lim : Limits) (s : List ℕ) (l : Lent) (x : ℕ) {a : Valued} (told : a ≡ value_call lim s l x) where
   pub value-fit : ValueFits a
   value-fit = fits-of told ValueFits (value-fits lim s l x)
 
-  pub value_tells : {w : ℕ} → w ≡ word (valueNumbers a) → ValueTells lim s l x w
-  value_tells k = word_of told valueNumbers k
+  pub value_tells : {w : ℕ} → w ≡ word (value_numbers a) → ValueTells lim s l x w
+  value_tells k = word_of told value_numbers k
 
 module _ (lim : Limits) (s : List ℕ) (l : Lent) (row : List ℕ) {a : Gathered} {after : List ℕ} (told : ValuesSays lim s l row a after) where
   pub values-fit : Usable lim → ValuesFits a
   values-fit ok = fits-of told.answer ValuesFits (values-fits lim ok s l row)
 
-  pub values-tells : {w : ℕ} → w ≡ word (valuesNumbers a) → ValuesTells lim s l row w after
-  values-tells k = record { answer = word_of told.answer valuesNumbers k; row_is = told.row_is }
+  pub values-tells : {w : ℕ} → w ≡ word (values_numbers a) → ValuesTells lim s l row w after
+  values-tells k = record { answer = word_of told.answer values_numbers k; row_is = told.row_is }
 
-pub watch-tells : (p : List ℕ) {a : Found} {w : ℕ} → a ≡ watchOf (procsOf p (length p / rowSize)) → w ≡ word (watchNumbers (reached a)) → WatchTells p w
-watch-tells p e k = word_of e (λ f. watchNumbers (reached f)) k
+pub watch-tells : (p : List ℕ) {a : Found} {w : ℕ} → a ≡ watch_of (procs_of p (length p / row_size)) → w ≡ word (watch_numbers (reached a)) → WatchTells p w
+watch-tells p e k = word_of e (λ f. watch_numbers (reached f)) k
 
 -- a row of processes that a word can tell throughout: the watch itself
-pub watch-whole : (p : List ℕ) {w : ℕ} → length p / rowSize ≤ 4294967296 → WatchTells p w → w ≡ word (watchNumbers (watchOf (procsOf p (length p / rowSize))))
-watch-whole p h k = rw (k, watch-reached (procsOf p (length p / rowSize)) (rw (procs-length p (length p / rowSize)) h))
+pub watch-whole : (p : List ℕ) {w : ℕ} → length p / row_size ≤ 4294967296 → WatchTells p w → w ≡ word (watch_numbers (watch_of (procs_of p (length p / row_size))))
+watch-whole p h k = rw (k, watch-reached (procs_of p (length p / row_size)) (rw (procs-length p (length p / row_size)) h))
 
 -- ---- the variables bound, told in a row more
 
 pub row-tells : {A : Type 0} {c : RowCall A} {a : A} {h p v w : List ℕ} → RowSays c a h p v w → (f : A → Numbers) {r : ℕ} → r ≡ word (f a) → RowTells (f c.answer) c.lent c.row r h p v w
 row-tells says f k = record { answer = word_of says.answer f k; head = says.head; procs = says.procs; vars = says.vars; row = says.row }
 
-step-says-fits : (a : Stepped) (after l : Lent) (row vs : List ℕ) → StepFits a → StepFits (stepTells a after l row vs).answer
+step-says-fits : (a : Stepped) (after l : Lent) (row vs : List ℕ) → StepFits a → StepFits (step_tells a after l row vs).answer
 step-says-fits (Unmoved r) after l row vs h = h
-step-says-fits (Moved m) after l row vs h = unfold tellIn in by (leb (length (boundBytes vs)) (length row))
+step-says-fits (Moved m) after l row vs h = unfold tell_in in by (leb (length (bound_bytes vs)) (length row))
   where
-    by : (b : Bool) → StepFits (tellBy b (Unmoved (refusal 11 0)) (Moved m) after l row (boundBytes vs)).answer
+    by : (b : Bool) → StepFits (tell_by b (Unmoved (refusal 11 0)) (Moved m) after l row (bound_bytes vs)).answer
     by false = omega arith
     by true = h
 
-supply-says-fits : (a : Supplied) (after l : Lent) (row : List ℕ) → SupplyFits a → SupplyFits (supplyTells a after l row).answer
+supply-says-fits : (a : Supplied) (after l : Lent) (row : List ℕ) → SupplyFits a → SupplyFits (supply_tells a after l row).answer
 supply-says-fits (Ungiven r) after l row h = h
-supply-says-fits (Given u) after l row h = unfold tellIn in by (leb (length (boundBytes (u ∷ []))) (length row))
+supply-says-fits (Given u) after l row h = unfold tell_in in by (leb (length (bound_bytes (u ∷ []))) (length row))
   where
-    by : (b : Bool) → SupplyFits (tellBy b (Ungiven (refusal 11 0)) (Given u) after l row (boundBytes (u ∷ []))).answer
+    by : (b : Bool) → SupplyFits (tell_by b (Ungiven (refusal 11 0)) (Given u) after l row (bound_bytes (u ∷ []))).answer
     by false = omega arith
     by true = tt
 
 module _ (lim : Limits) (s : List ℕ) (l : Lent) (row : List ℕ) {h p v w : List ℕ} where
-  pub step-bound-fit : (i : ℕ) {a : Stepped} → RowSays (stepBoundCall lim s l row i) a h p v w → Usable lim → StepFits a
-  unfolding stepBoundCall
-  step-bound-fit i says ok = fits-of says.answer StepFits (step-says-fits (stepCall lim s l i).answer (stepCall lim s l i).lent l row _ (step_fits lim ok s l i))
+  pub step-bound-fit : (i : ℕ) {a : Stepped} → RowSays (step_bound_call lim s l row i) a h p v w → Usable lim → StepFits a
+  unfolding step_bound_call
+  step-bound-fit i says ok = fits-of says.answer StepFits (step-says-fits (step_call lim s l i).answer (step_call lim s l i).lent l row _ (step_fits lim ok s l i))
 
-  pub turn-bound-fit : {a : Stepped} → RowSays (turnBoundCall lim s l row) a h p v w → Usable lim → StepFits a
-  unfolding turnBoundCall
-  turn-bound-fit says ok = fits-of says.answer StepFits (step-says-fits (turnCall lim s l).answer (turnCall lim s l).lent l row _ (turn-fits lim ok s l))
+  pub turn-bound-fit : {a : Stepped} → RowSays (turn_bound_call lim s l row) a h p v w → Usable lim → StepFits a
+  unfolding turn_bound_call
+  turn-bound-fit says ok = fits-of says.answer StepFits (step-says-fits (turn_call lim s l).answer (turn_call lim s l).lent l row _ (turn-fits lim ok s l))
 
-  pub supply-bound-fit : (x c : ℕ) {a : Supplied} → RowSays (supplyBoundCall lim s l row x c) a h p v w → SupplyFits a
-  unfolding supplyBoundCall
-  supply-bound-fit x c says = fits-of says.answer SupplyFits (supply-says-fits (supplyCall lim s l x c).answer (supplyCall lim s l x c).lent l row (supply-fits lim s l x c))
+  pub supply-bound-fit : (x c : ℕ) {a : Supplied} → RowSays (supply_bound_call lim s l row x c) a h p v w → SupplyFits a
+  unfolding supply_bound_call
+  supply-bound-fit x c says = fits-of says.answer SupplyFits (supply-says-fits (supply_call lim s l x c).answer (supply_call lim s l x c).lent l row (supply-fits lim s l x c))
 
 -- ---- a run saved, and gone on with
 
@@ -166,23 +166,23 @@ module _ (lim : Limits) (s : List ℕ) (l : Lent) (row : List ℕ) {a : Saved} {
   pub save-fit : SaveFits a
   save-fit = save-fits lim s l row a told.answer told.few
 
-  pub save-tells : {w : ℕ} → w ≡ word (saveNumbers a) → SaveTells lim s l row w row'
-  save-tells k = record { answer = word_of told.answer saveNumbers k; row_is = told.row_is }
+  pub save-tells : {w : ℕ} → w ≡ word (save_numbers a) → SaveTells lim s l row w row'
+  save-tells k = record { answer = word_of told.answer save_numbers k; row_is = told.row_is }
 
-pub resume-tells : (lim : Limits) (s : List ℕ) (l : Lent) (x : List ℕ) {a : Resumed} {h p v : List ℕ} → ResumeSays lim s l x a h p v → {w : ℕ} → w ≡ word (resumeNumbers a) → ResumeTells lim s l x w h p v
-resume-tells lim s l x t k = tells-of t.answer resumeNumbers t.head t.procs t.vars k
+pub resume-tells : (lim : Limits) (s : List ℕ) (l : Lent) (x : List ℕ) {a : Resumed} {h p v : List ℕ} → ResumeSays lim s l x a h p v → {w : ℕ} → w ≡ word (resume_numbers a) → ResumeTells lim s l x w h p v
+resume-tells lim s l x t k = tells-of t.answer resume_numbers t.head t.procs t.vars k
 
-pub replay-tells : (lim : Limits) (s : List ℕ) (l : Lent) (trace : List ℕ) {a : Replayed} {h p v : List ℕ} → ReplaySays lim s l trace a h p v → {w : ℕ} → w ≡ word (replayNumbers a) → ReplayTells lim s l trace w h p v
-replay-tells lim s l trace t k = tells-of t.answer replayNumbers t.head t.procs t.vars k
+pub replay-tells : (lim : Limits) (s : List ℕ) (l : Lent) (trace : List ℕ) {a : Replayed} {h p v : List ℕ} → ReplaySays lim s l trace a h p v → {w : ℕ} → w ≡ word (replay_numbers a) → ReplayTells lim s l trace w h p v
+replay-tells lim s l trace t k = tells-of t.answer replay_numbers t.head t.procs t.vars k
 
 -- ---- clause text
 
-pub print-tells : (image names text : List ℕ) {a : Printed} {text' : List ℕ} → PrintSays image names text a text' → {w : ℕ} → w ≡ word (printNumbers a) → PrintTells image names text w text'
-print-tells image names text t k = record { answer = word_of t.answers printNumbers k; text-is = t.leaves }
+pub print-tells : (image names text : List ℕ) {a : Printed} {text' : List ℕ} → PrintSays image names text a text' → {w : ℕ} → w ≡ word (print_numbers a) → PrintTells image names text w text'
+print-tells image names text t k = record { answer = word_of t.answers print_numbers k; text_is = t.leaves }
 
 module _ (image names text : List ℕ) {a : Parsed} {image' names' : List ℕ} (told : ParseSays image names text a image' names') where
   pub parse-fit : ParseFits a
   parse-fit = fits-of told.answers ParseFits (parse-fits image names text)
 
-  pub parse-tells : {w : ℕ} → w ≡ word (parseNumbers a) → ParseTells image names text w image' names'
-  parse-tells k = record { answer = word_of told.answers parseNumbers k; image-is = told.imaged; names-is = told.named }
+  pub parse-tells : {w : ℕ} → w ≡ word (parse_numbers a) → ParseTells image names text w image' names'
+  parse-tells k = record { answer = word_of told.answers parse_numbers k; image_is = told.imaged; names_is = told.named }

@@ -5,7 +5,7 @@ use Prim.Native.Nat.{ℕ}
 use Rattle.capi.specs.Tells.{ParseTells, PrintTells, RowTells, RunTells, StartTells, StepTells, SupplyTells, Tells, TurnTells, ValuesTells, ValueTells, WatchTells}
 use Rattle.parlog.specs.Limits.{Limits}
 use Rattle.parlog.specs.Load.{load_of}
-use Rattle.parlog.specs.Numbers.{loadNumbers, Numbers, word}
+use Rattle.parlog.specs.Numbers.{load_numbers, Numbers, word}
 use Rattle.parlog.specs.Tables.{Lent}
 
 -- the same word, and the same bytes in every row
@@ -15,7 +15,7 @@ Same r q h p v h' p' v' = (r ≡ q) × (h ≡ h') × (p ≡ p') × (v ≡ v')
 tells-once : (n : Numbers) (l : Lent) (r q : ℕ) (h p v h' p' v' : List ℕ) → Tells n l r h p v → Tells n l q h' p' v' → Same r q h p v h' p' v'
 tells-once n l r q h p v h' p' v' a b = (a.answer ∙ sym b.answer, a.head ∙ sym b.head, a.procs ∙ sym b.procs, a.vars ∙ sym b.vars)
 
-pub load-once : (s : List ℕ) (r q : ℕ) → r ≡ word (loadNumbers (load_of s)) → q ≡ word (loadNumbers (load_of s)) → r ≡ q
+pub load-once : (s : List ℕ) (r q : ℕ) → r ≡ word (load_numbers (load_of s)) → q ≡ word (load_numbers (load_of s)) → r ≡ q
 load-once s r q a b = a ∙ sym b
 
 pub start-once : (lim : Limits) (s : List ℕ) (l : Lent) (r q : ℕ) (h p v h' p' v' : List ℕ) → StartTells lim s l r h p v → StartTells lim s l q h' p' v' → Same r q h p v h' p' v'
@@ -51,7 +51,7 @@ rows-once n l row a b = (a.answer ∙ sym b.answer, a.head ∙ sym b.head, a.pro
 -- ---- clause text
 
 pub print-once : (image names text : List ℕ) {r q : ℕ} {a b : List ℕ} → PrintTells image names text r a → PrintTells image names text q b → (r ≡ q) × (a ≡ b)
-print-once image names text x y = (x.answer ∙ sym y.answer, x.text-is ∙ sym y.text-is)
+print-once image names text x y = (x.answer ∙ sym y.answer, x.text_is ∙ sym y.text_is)
 
 pub parse-once : (image names text : List ℕ) {r q : ℕ} {a b c d : List ℕ} → ParseTells image names text r a b → ParseTells image names text q c d → (r ≡ q) × (a ≡ c) × (b ≡ d)
-parse-once image names text x y = (x.answer ∙ sym y.answer, x.image-is ∙ sym y.image-is, x.names-is ∙ sym y.names-is)
+parse-once image names text x y = (x.answer ∙ sym y.answer, x.image_is ∙ sym y.image_is, x.names_is ∙ sym y.names_is)

@@ -8,8 +8,8 @@ use lib.ListN.{length}
 use borrow.Author.Tests.{eqb-true}
 use native.Mathlib.Omega.{arith}
 use Rattle.children.proofs.Small.{hear-bad, hear-done, hear-good, hear-late, hear-lost, hear-small, hear-some, says, says-good, says-told}
-use Rattle.children.specs.Notes.{foundBy, heardBy, heardIn, latestIn, newsIn, noneSilent, Noted, note_of, someBad, someGood, spoke}
-use Rattle.children.specs.Telling.{heardOf, Tells}
+use Rattle.children.specs.Notes.{found_by, heard_by, heard_in, latest_in, news_in, none_silent, Noted, note_of, some_bad, some_good, spoke}
+use Rattle.children.specs.Telling.{heard_of, Tells}
 use Rattle.children.specs.declared.Note.{Note}
 use Rattle.children.specs.declared.Told.{Told}
 use Rattle.parlog.proofs.Bools.{not_so, or-false, or-none, split}
@@ -17,7 +17,7 @@ use Rattle.parlog.proofs.Kin.{not-both, reports-at}
 use Rattle.parlog.specs.Codes.{failure, success}
 use Rattle.parlog.specs.Scan.{every, highest, implies, lowest, or_else, some}
 use Rattle.parlog.specs.Tables.{at, State}
-use Rattle.parlog.specs.Tree.{allChildren, anyChild, childDone, childReports, heard, heardFrom, isChild, latest, lowestChild, reports, silent}
+use Rattle.parlog.specs.Tree.{all_children, any_child, child_done, child_reports, heard, heard_from, is_child, latest, lowest_child, reports, silent}
 use Rattle.parlog.specs.declared.Found.{Found}
 use Rattle.parlog.specs.declared.Found.TheVariants.{At, Nothing}
 use Rattle.parlog.specs.declared.Process.{Process}
@@ -34,7 +34,7 @@ pub or_nothing : (f : Found) → or_else f Nothing ≡ f
 or_nothing (At c) = refl
 or_nothing Nothing = refl
 
-low-move : (f : Found) (a g : Bool) (q v : ℕ) → or_else f (foundBy (g || a) (cond a q v)) ≡ or_else (or_else f (cond a (At q) Nothing)) (foundBy g v)
+low-move : (f : Found) (a g : Bool) (q v : ℕ) → or_else f (found_by (g || a) (cond a q v)) ≡ or_else (or_else f (cond a (At q) Nothing)) (found_by g v)
 low-move (At c) a g q v = refl
 low-move Nothing true true q v = refl
 low-move Nothing true false q v = refl
@@ -54,32 +54,32 @@ exclusive ps c = split (reports success (at ps c))
 
 -- nothing heard yet
 pub noted-start : (ps : List Process) (p n v w : ℕ) → n ≡ length ps → Noted ps p n (record { said = 0; latest = v; lowest = w })
-unfolding anyChild allChildren lowestChild heard latest
+unfolding any_child all_children lowest_child heard latest
 noted-start ps p n v w e = rw e (record {
   small = omega arith;
-  failed = or-none (some (childReports failure ps p) (length ps));
-  succeeded = and_comm (every (childDone success ps p) (length ps)) true;
-  hopeless = and_comm (every (childDone failure ps p) (length ps)) true;
-  lowest = or_nothing (lowest (childReports success ps p) (length ps));
+  failed = or-none (some (child_reports failure ps p) (length ps));
+  succeeded = and_comm (every (child_done success ps p) (length ps)) true;
+  hopeless = and_comm (every (child_done failure ps p) (length ps)) true;
+  lowest = or_nothing (lowest (child_reports success ps p) (length ps));
   latest = refl;
   told = refl;
 })
 
 module _ (ps : List Process) (p q : ℕ) (x : Note) (so : Noted ps p (suc q) x) where
   -- row q is no child of p
-  module _ (e : isChild ps p q ≡ false) where
-    quiet-some : (r : _) → some (childReports r ps p) (suc q) ≡ some (childReports r ps p) q
-    unfolding some childReports
+  module _ (e : is_child ps p q ≡ false) where
+    quiet-some : (r : _) → some (child_reports r ps p) (suc q) ≡ some (child_reports r ps p) q
+    unfolding some child_reports
     quiet-some r = rw e
 
-    quiet-every : (r : _) → every (childDone r ps p) (suc q) ≡ every (childDone r ps p) q
-    unfolding every childDone
+    quiet-every : (r : _) → every (child_done r ps p) (suc q) ≡ every (child_done r ps p) q
+    unfolding every child_done
     quiet-every r = rw e
 
-    quiet-lowest : (r : _) → lowest (childReports r ps p) (suc q) ≡ lowest (childReports r ps p) q
-    quiet-lowest r = unfold lowest childReports in (rw e (or_nothing (lowest (childReports r ps p) q)))
+    quiet-lowest : (r : _) → lowest (child_reports r ps p) (suc q) ≡ lowest (child_reports r ps p) q
+    quiet-lowest r = unfold lowest child_reports in (rw e (or_nothing (lowest (child_reports r ps p) q)))
 
-    quiet-highest : highest (isChild ps p) (suc q) ≡ highest (isChild ps p) q
+    quiet-highest : highest (is_child ps p) (suc q) ≡ highest (is_child ps p) q
     unfolding highest
     quiet-highest = rw e
 
@@ -95,7 +95,7 @@ module _ (ps : List Process) (p q : ℕ) (x : Note) (so : Noted ps p (suc q) x) 
     }
 
   -- row q is one
-  module _ (e : isChild ps p q ≡ true) where
+  module _ (e : is_child ps p q ≡ true) where
     abbrev a : Bool
     a = reports success (at ps q)
 
@@ -108,82 +108,82 @@ module _ (ps : List Process) (p q : ℕ) (x : Note) (so : Noted ps p (suc q) x) 
     o : not (a && b) ≡ true
     o = exclusive ps q
 
-    told-some : some (childReports failure ps p) (suc q) ≡ (b || some (childReports failure ps p) q)
-    unfolding some childReports
+    told-some : some (child_reports failure ps p) (suc q) ≡ (b || some (child_reports failure ps p) q)
+    unfolding some child_reports
     told-some = rw e
 
-    told-all : every (childDone success ps p) (suc q) ≡ (a && every (childDone success ps p) q)
-    unfolding every childDone
+    told-all : every (child_done success ps p) (suc q) ≡ (a && every (child_done success ps p) q)
+    unfolding every child_done
     told-all = rw e
 
-    told_none : every (childDone failure ps p) (suc q) ≡ (b && every (childDone failure ps p) q)
-    unfolding every childDone
+    told_none : every (child_done failure ps p) (suc q) ≡ (b && every (child_done failure ps p) q)
+    unfolding every child_done
     told_none = rw e
 
-    told-lowest : lowest (childReports success ps p) (suc q) ≡ or_else (lowest (childReports success ps p) q) (cond a (At q) Nothing)
-    unfolding lowest childReports
+    told-lowest : lowest (child_reports success ps p) (suc q) ≡ or_else (lowest (child_reports success ps p) q) (cond a (At q) Nothing)
+    unfolding lowest child_reports
     told-lowest = rw e
 
-    told-highest : highest (isChild ps p) (suc q) ≡ At q
+    told-highest : highest (is_child ps p) (suc q) ≡ At q
     unfolding highest
     told-highest = rw e
 
-    late-here : (z : Bool) → eqb s 0 ≡ z → cond (cond z (a || b) (latestIn s)) (heardIn (at ps (cond (z && (a || b)) q x.latest)) (cond (z && (a || b)) q x.latest)) silent ≡ heard ps p
+    late-here : (z : Bool) → eqb s 0 ≡ z → cond (cond z (a || b) (latest_in s)) (heard_in (at ps (cond (z && (a || b)) q x.latest)) (cond (z && (a || b)) q x.latest)) silent ≡ heard ps p
     late-here true w = split (a || b) (λ y. rw y heard-now) (λ y. let (u, v) = or-false a b y in rw y ((rw (u, v) at heard-now)))
       where
-        heard-now : heardIn (at ps q) q ≡ heard ps p
-        heard-now = unfold heardFrom in (rw (w, told-highest) at so.latest)
+        heard-now : heard_in (at ps q) q ≡ heard ps p
+        heard-now = unfold heard_from in (rw (w, told-highest) at so.latest)
     late-here false w = rw w at so.latest
 
-    told_here : (z : Bool) → eqb s 0 ≡ z → implies (cond z (a || b) (latestIn s)) (spoke ps (cond (z && (a || b)) q x.latest)) ≡ true
+    told_here : (z : Bool) → eqb s 0 ≡ z → implies (cond z (a || b) (latest_in s)) (spoke ps (cond (z && (a || b)) q x.latest)) ≡ true
     told_here true w = split (a || b) (λ y. rw y y) (λ y. rw y)
     told_here false w = so.told
 
-    heard-here : Noted ps p q (heardBy x (says a b) q)
+    heard-here : Noted ps p q (heard_by x (says a b) q)
     heard-here = record {
       small = hear-small a b s so.small o;
-      failed = rw (hear-bad a b s so.small o) (or-move b (some (childReports failure ps p) q) (someBad s) ∙ (rw told-some at so.failed));
-      succeeded = rw (hear-done a b s so.small o) (and-move a (every (childDone success ps p) q) (not (someBad s) && noneSilent s) ∙ (rw told-all at so.succeeded));
-      hopeless = rw (hear-lost a b s so.small o) (and-move b (every (childDone failure ps p) q) (not (someGood s) && noneSilent s) ∙ (rw told_none at so.hopeless));
-      lowest = rw (hear-good a b s so.small o, says-good a b) (low-move (lowest (childReports success ps p) q) a (someGood s) q x.lowest ∙ (rw told-lowest at so.lowest));
+      failed = rw (hear-bad a b s so.small o) (or-move b (some (child_reports failure ps p) q) (some_bad s) ∙ (rw told-some at so.failed));
+      succeeded = rw (hear-done a b s so.small o) (and-move a (every (child_done success ps p) q) (not (some_bad s) && none_silent s) ∙ (rw told-all at so.succeeded));
+      hopeless = rw (hear-lost a b s so.small o) (and-move b (every (child_done failure ps p) q) (not (some_good s) && none_silent s) ∙ (rw told_none at so.hopeless));
+      lowest = rw (hear-good a b s so.small o, says-good a b) (low-move (lowest (child_reports success ps p) q) a (some_good s) q x.lowest ∙ (rw told-lowest at so.lowest));
       latest = rw (hear-some a b s so.small o, hear-late a b s so.small o, says-told a b) (late-here (eqb s 0) refl);
       told = rw (hear-late a b s so.small o, says-told a b) (told_here (eqb s 0) refl);
     }
 
-    pub noted-child : Noted ps p q (heardBy x (note_of (at ps q)) q)
+    pub noted-child : Noted ps p q (heard_by x (note_of (at ps q)) q)
     unfolding note_of
     noted-child = heard-here
 
 -- the rows below q have no child of p
-pub noted-quiet : (ps : List Process) (p q : ℕ) (x : Note) → ((i : ℕ) → i < q → isChild ps p i ≡ false) → Noted ps p q x → Noted ps p 0 x
+pub noted-quiet : (ps : List Process) (p q : ℕ) (x : Note) → ((i : ℕ) → i < q → is_child ps p i ≡ false) → Noted ps p q x → Noted ps p 0 x
 noted-quiet ps p zero x h so = so
 noted-quiet ps p (suc q) x h so = noted-quiet ps p q x (λ i l. h i (omega arith)) (noted_other ps p q x so (h q (omega arith)))
 
 -- ---- what it tells
 
 module _ (ps : List Process) (p : ℕ) (x : Note) (so : Noted ps p 0 x) where
-  pub all-failed : someBad x.said ≡ anyChild failure ps p
+  pub all-failed : some_bad x.said ≡ any_child failure ps p
   all-failed = unfold some in so.failed
 
-  pub all-succeeded : (not (someBad x.said) && noneSilent x.said) ≡ allChildren success ps p
+  pub all-succeeded : (not (some_bad x.said) && none_silent x.said) ≡ all_children success ps p
   all-succeeded = unfold every in so.succeeded
 
-  pub all-hopeless : (not (someGood x.said) && noneSilent x.said) ≡ allChildren failure ps p
+  pub all-hopeless : (not (some_good x.said) && none_silent x.said) ≡ all_children failure ps p
   all-hopeless = unfold every in so.hopeless
 
-  pub all-lowest : foundBy (someGood x.said) x.lowest ≡ lowestChild success ps p
+  pub all-lowest : found_by (some_good x.said) x.lowest ≡ lowest_child success ps p
   all-lowest = unfold lowest in so.lowest
 
-  pub all-latest : newsIn ps x ≡ heard ps p
+  pub all-latest : news_in ps x ≡ heard ps p
   all-latest = go (eqb x.said 0) refl
     where
-      go : (z : Bool) → eqb x.said 0 ≡ z → newsIn ps x ≡ heard ps p
-      go true w = let e : x.said ≡ 0 = eqb-true x.said 0 w in rw e (unfold highest heardFrom in (rw w at so.latest))
+      go : (z : Bool) → eqb x.said 0 ≡ z → news_in ps x ≡ heard ps p
+      go true w = let e : x.said ≡ 0 = eqb-true x.said 0 w in rw e (unfold highest heard_from in (rw w at so.latest))
       go false w = rw w at so.latest
 
-  pub tells : {t : Told} → t.failed ≡ someBad x.said → t.succeeded ≡ (not (someBad x.said) && noneSilent x.said)
-      → t.hopeless ≡ (not (someGood x.said) && noneSilent x.said) → t.lowest ≡ foundBy (someGood x.said) x.lowest
-      → heardOf t.latest ≡ newsIn ps x → Tells ps p t
+  pub tells : {t : Told} → t.failed ≡ some_bad x.said → t.succeeded ≡ (not (some_bad x.said) && none_silent x.said)
+      → t.hopeless ≡ (not (some_good x.said) && none_silent x.said) → t.lowest ≡ found_by (some_good x.said) x.lowest
+      → heard_of t.latest ≡ news_in ps x → Tells ps p t
   tells a b c d e = record {
     failed = a ∙ all-failed;
     succeeded = b ∙ all-succeeded;

@@ -4,7 +4,7 @@ use mathlib.Core.Bool.{◌&&◌, ◌||◌, Bool, cond, false, not, true}
 use Prim.Native.Nat.{◌<◌, ℕ}
 use lib.Dec.{eqb, ltb}
 use borrow.Author.Tests.{ltb-true}
-use Rattle.children.specs.Notes.{badNote, goodNote, hear, latestIn, noneSilent, silentBit, someBad, someGood}
+use Rattle.children.specs.Notes.{bad_note, good_note, hear, latest_in, none_silent, silent_bit, some_bad, some_good}
 use Rattle.parlog.proofs.Bools.{and-true, implies_true}
 use Rattle.parlog.proofs.Scans.{every-at}
 use Rattle.parlog.specs.Scan.{every, implies}
@@ -41,14 +41,14 @@ tested t s e h a b o =
 -- ---- after a child that reports success (a), failure (b) or nothing
 
 abbrev pub says : Bool → Bool → ℕ
-says a b = cond a goodNote (cond b badNote silentBit)
+says a b = cond a good_note (cond b bad_note silent_bit)
 
-pub says-good : (a b : Bool) → eqb (says a b) goodNote ≡ a
+pub says-good : (a b : Bool) → eqb (says a b) good_note ≡ a
 says-good true b = refl
 says-good false true = refl
 says-good false false = refl
 
-pub says-told : (a b : Bool) → not (eqb (says a b) silentBit) ≡ (a || b)
+pub says-told : (a b : Bool) → not (eqb (says a b) silent_bit) ≡ (a || b)
 says-told true b = refl
 says-told false true = refl
 says-told false false = refl
@@ -62,25 +62,25 @@ module _ (a b : Bool) (s : ℕ) (h : s < 16) (o : not (a && b) ≡ true) where
   unfolding every hear
   hear-some = agree-is (eqb (hear s (says a b)) 0) false (tested (λ s a b. agree (eqb (hear s (says a b)) 0) false) s refl h a b o)
 
-  pub hear-bad : someBad (hear s (says a b)) ≡ (someBad s || b)
+  pub hear-bad : some_bad (hear s (says a b)) ≡ (some_bad s || b)
   unfolding every hear
-  hear-bad = agree-is (someBad (hear s (says a b))) (someBad s || b) (tested (λ s a b. agree (someBad (hear s (says a b))) (someBad s || b)) s refl h a b o)
+  hear-bad = agree-is (some_bad (hear s (says a b))) (some_bad s || b) (tested (λ s a b. agree (some_bad (hear s (says a b))) (some_bad s || b)) s refl h a b o)
 
-  pub hear-good : someGood (hear s (says a b)) ≡ (someGood s || a)
+  pub hear-good : some_good (hear s (says a b)) ≡ (some_good s || a)
   unfolding every hear
-  hear-good = agree-is (someGood (hear s (says a b))) (someGood s || a) (tested (λ s a b. agree (someGood (hear s (says a b))) (someGood s || a)) s refl h a b o)
+  hear-good = agree-is (some_good (hear s (says a b))) (some_good s || a) (tested (λ s a b. agree (some_good (hear s (says a b))) (some_good s || a)) s refl h a b o)
 
-  pub hear-done : (not (someBad (hear s (says a b))) && noneSilent (hear s (says a b))) ≡ ((not (someBad s) && noneSilent s) && a)
+  pub hear-done : (not (some_bad (hear s (says a b))) && none_silent (hear s (says a b))) ≡ ((not (some_bad s) && none_silent s) && a)
   unfolding every hear
-  hear-done = agree-is (not (someBad (hear s (says a b))) && noneSilent (hear s (says a b))) ((not (someBad s) && noneSilent s) && a)
-      (tested (λ s a b. agree (not (someBad (hear s (says a b))) && noneSilent (hear s (says a b))) ((not (someBad s) && noneSilent s) && a)) s refl h a b o)
+  hear-done = agree-is (not (some_bad (hear s (says a b))) && none_silent (hear s (says a b))) ((not (some_bad s) && none_silent s) && a)
+      (tested (λ s a b. agree (not (some_bad (hear s (says a b))) && none_silent (hear s (says a b))) ((not (some_bad s) && none_silent s) && a)) s refl h a b o)
 
-  pub hear-lost : (not (someGood (hear s (says a b))) && noneSilent (hear s (says a b))) ≡ ((not (someGood s) && noneSilent s) && b)
+  pub hear-lost : (not (some_good (hear s (says a b))) && none_silent (hear s (says a b))) ≡ ((not (some_good s) && none_silent s) && b)
   unfolding every hear
-  hear-lost = agree-is (not (someGood (hear s (says a b))) && noneSilent (hear s (says a b))) ((not (someGood s) && noneSilent s) && b)
-      (tested (λ s a b. agree (not (someGood (hear s (says a b))) && noneSilent (hear s (says a b))) ((not (someGood s) && noneSilent s) && b)) s refl h a b o)
+  hear-lost = agree-is (not (some_good (hear s (says a b))) && none_silent (hear s (says a b))) ((not (some_good s) && none_silent s) && b)
+      (tested (λ s a b. agree (not (some_good (hear s (says a b))) && none_silent (hear s (says a b))) ((not (some_good s) && none_silent s) && b)) s refl h a b o)
 
-  pub hear-late : latestIn (hear s (says a b)) ≡ cond (eqb s 0) (a || b) (latestIn s)
+  pub hear-late : latest_in (hear s (says a b)) ≡ cond (eqb s 0) (a || b) (latest_in s)
   unfolding every hear
-  hear-late = agree-is (latestIn (hear s (says a b))) (cond (eqb s 0) (a || b) (latestIn s))
-      (tested (λ s a b. agree (latestIn (hear s (says a b))) (cond (eqb s 0) (a || b) (latestIn s))) s refl h a b o)
+  hear-late = agree-is (latest_in (hear s (says a b))) (cond (eqb s 0) (a || b) (latest_in s))
+      (tested (λ s a b. agree (latest_in (hear s (says a b))) (cond (eqb s 0) (a || b) (latest_in s))) s refl h a b o)

@@ -7,7 +7,7 @@ use lib.Dec.{eqb}
 use borrow.Author.Tests.{ne_eqb}
 use native.Mathlib.Omega.{arith}
 use Rattle.children.proofs.Small.{says}
-use Rattle.children.specs.Notes.{badNote, goodNote, heardIn, latestBit, newsIn, Noted, note_of, silentBit}
+use Rattle.children.specs.Notes.{bad_note, good_note, heard_in, latest_bit, news_in, Noted, note_of, silent_bit}
 use Rattle.children.specs.declared.Note.{Note}
 use Rattle.parlog.specs.Codes.{failure, success}
 use Rattle.parlog.specs.Tables.{at}
@@ -17,51 +17,51 @@ use Rattle.parlog.specs.declared.Process.{Process}
 -- ---- what a process tells its parent
 
 module _ (x : Process) {m : ℕ} (em : m ≡ x.mode) where
-  pub note-none : (m ≡ 4 → ⊥) → silentBit ≡ note_of x
+  pub note-none : (m ≡ 4 → ⊥) → silent_bit ≡ note_of x
   unfolding note_of reports
   note-none h = rw (← em, ne_eqb m 4 h)
 
   module _ (h : m ≡ 4) {v : ℕ} (ev : v ≡ x.result) where
-    pub note-good : v ≡ 1 → goodNote ≡ note_of x
+    pub note-good : v ≡ 1 → good_note ≡ note_of x
     unfolding note_of reports
     note-good e = rw (← em, ← ev, h, e)
 
-    pub note-bad : v ≡ 2 → badNote ≡ note_of x
+    pub note-bad : v ≡ 2 → bad_note ≡ note_of x
     unfolding note_of reports
     note-bad e = rw (← em, ← ev, h, e)
 
-    pub note-unknown : (v ≡ 1 → ⊥) → (v ≡ 2 → ⊥) → silentBit ≡ note_of x
+    pub note-unknown : (v ≡ 1 → ⊥) → (v ≡ 2 → ⊥) → silent_bit ≡ note_of x
     unfolding note_of reports
     note-unknown a b = rw (← em, ← ev, h, ne_eqb v 1 a, ne_eqb v 2 b)
 
 -- ---- what a note says of one process
 
-heard-as : (a b : Bool) (c : ℕ) → cond a (good c) (cond b (bad c) silent) ≡ cond (eqb (says a b) goodNote) (good c) (cond (eqb (says a b) badNote) (bad c) silent)
+heard-as : (a b : Bool) (c : ℕ) → cond a (good c) (cond b (bad c) silent) ≡ cond (eqb (says a b) good_note) (good c) (cond (eqb (says a b) bad_note) (bad c) silent)
 heard-as true b c = refl
 heard-as false true c = refl
 heard-as false false c = refl
 
 module _ (x : Process) (c : ℕ) {f : ℕ} (ef : f ≡ note_of x) where
-  heard-by : heardIn x c ≡ cond (eqb f goodNote) (good c) (cond (eqb f badNote) (bad c) silent)
+  heard-by : heard_in x c ≡ cond (eqb f good_note) (good c) (cond (eqb f bad_note) (bad c) silent)
   unfolding note_of
   heard-by = rw ef (heard-as (reports success x) (reports failure x) c)
 
-  pub heard-good : f ≡ goodNote → good c ≡ heardIn x c
+  pub heard-good : f ≡ good_note → good c ≡ heard_in x c
   heard-good e = rw (heard-by, e)
 
-  pub heard-bad : (f ≡ goodNote → ⊥) → f ≡ badNote → bad c ≡ heardIn x c
+  pub heard-bad : (f ≡ good_note → ⊥) → f ≡ bad_note → bad c ≡ heard_in x c
   heard-bad a e = rw (heard-by, e)
 
-  pub heard-silent : (f ≡ goodNote → ⊥) → (f ≡ badNote → ⊥) → silent ≡ heardIn x c
-  heard-silent a b = rw (heard-by, ne_eqb f goodNote a, ne_eqb f badNote b)
+  pub heard-silent : (f ≡ good_note → ⊥) → (f ≡ bad_note → ⊥) → silent ≡ heard_in x c
+  heard-silent a b = rw (heard-by, ne_eqb f good_note a, ne_eqb f bad_note b)
 
 -- ---- what the latest has reported
 
 module _ (ps : List Process) (x : Note) where
-  pub news-none : (x.said / latestBit % 2 ≡ 1 → ⊥) → silent ≡ newsIn ps x
-  news-none ne = rw (ne_eqb (x.said / latestBit % 2) 1 ne)
+  pub news-none : (x.said / latest_bit % 2 ≡ 1 → ⊥) → silent ≡ news_in ps x
+  news-none ne = rw (ne_eqb (x.said / latest_bit % 2) 1 ne)
 
-  pub news-some : x.said / latestBit % 2 ≡ 1 → {h : Heard} {c : ℕ} → c ≡ x.latest → h ≡ heardIn (at ps c) c → h ≡ newsIn ps x
+  pub news-some : x.said / latest_bit % 2 ≡ 1 → {h : Heard} {c : ℕ} → c ≡ x.latest → h ≡ heard_in (at ps c) c → h ≡ news_in ps x
   news-some e ec eh = rw (e, ← ec) eh
 
 -- ---- the pass

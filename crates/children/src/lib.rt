@@ -1,11 +1,11 @@
 // What the children of a process report, heard one by one from the last row down.
 ghost use Rattle.std.specs.Prelude.{◌≡◌, cond, false, ◌*◌, ◌≤◌, suc, ℕ, length};
-ghost use Rattle.parlog.specs.Tables.{at, procsOf, rowSize};
-ghost use Rattle.parlog.specs.Tree.{isChild};
+ghost use Rattle.parlog.specs.Tables.{at, procs_of, row_size};
+ghost use Rattle.parlog.specs.Tree.{is_child};
 ghost use Rattle.parlog.specs.declared.Found.TheVariants.{Nothing};
 ghost use Rattle.children.specs.declared.News.TheVariants.{Silent};
-ghost use Rattle.children.specs.Notes.{foundBy, hear, heardBy, heardIn, newsIn, noneSilent, note_of, Noted, someBad, someGood};
-ghost use Rattle.children.specs.Telling.{heardOf, Tells};
+ghost use Rattle.children.specs.Notes.{found_by, hear, heard_by, heard_in, news_in, none_silent, note_of, Noted, some_bad, some_good};
+ghost use Rattle.children.specs.Telling.{heard_of, Tells};
 
 use parlog::{Found, codes};
 
@@ -72,8 +72,8 @@ pub fn nothing() -> Told
 
 // What process i tells its parent.
 pub fn note_of(procs: &[u8], n: usize, i: usize) -> u8
-    requires { n * rowSize ≤ length procs.now }
-    ensures { result ≡ note_of (at (procsOf procs.now n) i) }
+    requires { n * row_size ≤ length procs.now }
+    ensures { result ≡ note_of (at (procs_of procs.now n) i) }
 {
     if rows::mode_at(procs, n, i) == codes::REPORTING {
         let told = rows::result_at(procs, n, i);
@@ -105,7 +105,7 @@ fn choose(b: bool, q: u16, v: u16) -> u16
 
 // Process q, lower than those heard before, tells f.
 fn hear(x: Note, f: u8, q: u16) -> Note
-    ensures { result ≡ heardBy x f q }
+    ensures { result ≡ heard_by x f q }
 {
     let said = with(x.said, f);
     let first = basics::and(x.said == 0, f != SILENT);
@@ -121,25 +121,25 @@ fn hear(x: Note, f: u8, q: u16) -> Note
 // ---- what a note says
 
 pub fn some_bad(s: u8) -> bool
-    ensures { result ≡ someBad s }
+    ensures { result ≡ some_bad s }
 {
     s / BAD % 2 == 1
 }
 
 pub fn some_good(s: u8) -> bool
-    ensures { result ≡ someGood s }
+    ensures { result ≡ some_good s }
 {
     s / GOOD % 2 == 1
 }
 
 pub fn none_silent(s: u8) -> bool
-    ensures { result ≡ noneSilent s }
+    ensures { result ≡ none_silent s }
 {
     s % 2 == 0
 }
 
 fn found(b: bool, c: u16) -> Found
-    ensures { result ≡ foundBy b c }
+    ensures { result ≡ found_by b c }
 {
     if b {
         return Found::At(basics::wide_u16(c));
@@ -149,8 +149,8 @@ fn found(b: bool, c: u16) -> Found
 
 // What process c has reported.
 fn heard_from(procs: &[u8], n: usize, c: usize) -> News
-    requires { n * rowSize ≤ length procs.now }
-    ensures { heardOf result ≡ heardIn (at (procsOf procs.now n) c) c }
+    requires { n * row_size ≤ length procs.now }
+    ensures { heard_of result ≡ heard_in (at (procs_of procs.now n) c) c }
 {
     let f = note_of(procs, n, c);
     if f == SUCCEEDED {
@@ -164,8 +164,8 @@ fn heard_from(procs: &[u8], n: usize, c: usize) -> News
 
 // What the latest has reported.
 fn heard(procs: &[u8], n: usize, x: Note) -> News
-    requires { n * rowSize ≤ length procs.now }
-    ensures { heardOf result ≡ newsIn (procsOf procs.now n) x }
+    requires { n * row_size ≤ length procs.now }
+    ensures { heard_of result ≡ news_in (procs_of procs.now n) x }
 {
     if x.said / LATEST % 2 == 1 {
         return heard_from(procs, n, basics::wide_u16(x.latest));
@@ -175,8 +175,8 @@ fn heard(procs: &[u8], n: usize, x: Note) -> News
 
 // What the note tells once every row was heard.
 pub fn told_by(procs: &[u8], n: usize, x: Note) -> Told
-    requires { n * rowSize ≤ length procs.now }
-    ensures { (p : ℕ) → Noted (procsOf procs.now n) p 0 x → Tells (procsOf procs.now n) p result }
+    requires { n * row_size ≤ length procs.now }
+    ensures { (p : ℕ) → Noted (procs_of procs.now n) p 0 x → Tells (procs_of procs.now n) p result }
 {
     let s = x.said;
     let failed = some_bad(s);
@@ -199,8 +199,8 @@ pub fn told_by(procs: &[u8], n: usize, x: Note) -> Told
 
 // Process i counts as a child of p, also where it is dormant.
 fn is_child(procs: &[u8], n: usize, p: usize, i: usize) -> bool
-    requires { n * rowSize ≤ length procs.now }
-    ensures { result ≡ isChild (procsOf procs.now n) p i }
+    requires { n * row_size ≤ length procs.now }
+    ensures { result ≡ is_child (procs_of procs.now n) p i }
 {
     if i == 0 {
         return false;
@@ -210,8 +210,8 @@ fn is_child(procs: &[u8], n: usize, p: usize, i: usize) -> bool
 
 // Row q is heard if it is a child of p.
 fn listen(procs: &[u8], n: usize, p: usize, q: usize, x: Note) -> Note
-    requires { (n * rowSize ≤ length procs.now) × (q ≤ 65535) × Noted (procsOf procs.now n) p (suc q) x }
-    ensures { Noted (procsOf procs.now n) p q result }
+    requires { (n * row_size ≤ length procs.now) × (q ≤ 65535) × Noted (procs_of procs.now n) p (suc q) x }
+    ensures { Noted (procs_of procs.now n) p q result }
 {
     if !is_child(procs, n, p, q) {
         return x;
@@ -222,8 +222,8 @@ fn listen(procs: &[u8], n: usize, p: usize, q: usize, x: Note) -> Note
 
 // What the children of p report: one pass over the rows.
 pub fn asked(procs: &[u8], n: usize, p: usize) -> Told
-    requires { (n * rowSize ≤ length procs.now) × (n ≤ 65535) }
-    ensures { Tells (procsOf procs.now n) p result }
+    requires { (n * row_size ≤ length procs.now) × (n ≤ 65535) }
+    ensures { Tells (procs_of procs.now n) p result }
 {
     let mut x = Note {
         said: 0,

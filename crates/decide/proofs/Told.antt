@@ -7,13 +7,13 @@ use lib.ListN.{drop, get_or, length}
 use borrow.Author.Tests.{ltb-true}
 use native.Mathlib.Omega.{arith}
 use Rattle.decide.proofs.Laws.{row_back, row_first}
-use Rattle.decide.specs.Decision.{changesOf, decidedBy, decidedOf, Decides, deed_of, notesOf, Shifted, toBind, toNote}
+use Rattle.decide.specs.Decision.{changes_of, decided_by, decided_of, Decides, deed_of, notes_of, Shifted, to_bind, to_note}
 use Rattle.decide.specs.declared.Decision.{Decision}
 use Rattle.decide.specs.declared.Deed.TheVariants.{Binds, Fails, Suspends}
 use Rattle.parlog.proofs.Bindings.{DecidedIn}
 use Rattle.parlog.proofs.Sane.{all-of-at}
-use Rattle.parlog.specs.Delta.{fourOf}
-use Rattle.parlog.specs.Sane.{termIn, termsIn}
+use Rattle.parlog.specs.Delta.{four_of}
+use Rattle.parlog.specs.Sane.{term_in, terms_in}
 use Rattle.parlog.specs.TableRules.{all_below}
 use Rattle.parlog.specs.Unify.{binds, Decided, fails, suspends}
 use Rattle.parlog.specs.declared.Term.{Term}
@@ -25,17 +25,17 @@ use Rattle.unify.specs.Pending.{top, Writable}
 
 module _ {d : Decided} {r : Decision} (is : Decides d r) where
   pub told-fails : r.deed ≡ Fails → d ≡ fails
-  unfolding decidedOf decidedBy
+  unfolding decided_of decided_by
   told-fails e = sym is.told ∙ rw e
 
-  pub told-binds : r.deed ≡ Binds → d ≡ binds (toBind r)
-  unfolding decidedOf decidedBy
+  pub told-binds : r.deed ≡ Binds → d ≡ binds (to_bind r)
+  unfolding decided_of decided_by
   told-binds e = sym is.told ∙ rw e
 
-  pub told-suspends : r.deed ≡ Suspends → d ≡ suspends (get_or r.notes 0 0) (drop 1 (toNote r))
+  pub told-suspends : r.deed ≡ Suspends → d ≡ suspends (get_or r.notes 0 0) (drop 1 (to_note r))
   told-suspends e = go d is.noting is.filled (sym is.deed ∙ e) is.short
     where
-      go : (d : Decided) → r.noted ≡ length (notesOf d) → r.notes ≡ fourOf (notesOf d) → deed_of d ≡ Suspends → r.noted ≤ 4 → d ≡ suspends (get_or r.notes 0 0) (drop 1 (toNote r))
+      go : (d : Decided) → r.noted ≡ length (notes_of d) → r.notes ≡ four_of (notes_of d) → deed_of d ≡ Suspends → r.noted ≤ 4 → d ≡ suspends (get_or r.notes 0 0) (drop 1 (to_note r))
       go fails n f q s = cc
       go (suspends v ns) n f q s = let l : length (v ∷ ns) ≤ 4 = rw n at s in rw (f, n, row_back (v ∷ ns) l, row_first v ns)
       go (binds cs) n f q s = cc
@@ -43,16 +43,16 @@ module _ {d : Decided} {r : Decision} (is : Decides d r) where
 -- ---- bounds, where the table rules hold
 
 -- what keeps the table rules can be written
-pub decided-writable : (n k : ℕ) {d : Decided} {r : Decision} → n ≤ 16777216 → DecidedIn n k d → Decides d r → Writable n (toBind r)
+pub decided-writable : (n k : ℕ) {d : Decided} {r : Decision} → n ≤ 16777216 → DecidedIn n k d → Decides d r → Writable n (to_bind r)
 decided-writable n k {d} g ok is = rw is.same (go d ok)
   where
-    go : (d : Decided) → DecidedIn n k d → Writable n (changesOf d)
+    go : (d : Decided) → DecidedIn n k d → Writable n (changes_of d)
     go fails o = record { rows = λ j h. absurd (omega arith); numbers = λ j h. absurd (omega arith) }
     go (suspends v ns) o = record { rows = λ j h. absurd (omega arith); numbers = λ j h. absurd (omega arith) }
     go (binds cs) o = in-writable n g cs o
 
 -- and what is noted is among the first n
-pub decided-noted : (n k : ℕ) (d : Decided) → DecidedIn n k d → all_below n (notesOf d) ≡ true
+pub decided-noted : (n k : ℕ) (d : Decided) → DecidedIn n k d → all_below n (notes_of d) ≡ true
 unfolding all_below
 decided-noted n k fails o = refl
 decided-noted n k (suspends v ns) o = o.0
@@ -61,10 +61,10 @@ decided-noted n k (binds cs) o = refl
 -- ---- what the calls require
 
 -- terms of a goal or clause with m variables that are numbered from base
-pub shifted_in : (n m base count : ℕ) (ts : List Term) → base + m ≤ n → termsIn m ts ≡ true → Shifted ts base count n
-shifted_in n m base count ts h e k l = go (get_or ts k (Const 0)) (all-of-at (termIn m) (Const 0) refl ts e k)
+pub shifted_in : (n m base count : ℕ) (ts : List Term) → base + m ≤ n → terms_in m ts ≡ true → Shifted ts base count n
+shifted_in n m base count ts h e k l = go (get_or ts k (Const 0)) (all-of-at (term_in m) (Const 0) refl ts e k)
   where
-    go : (t : Term) → termIn m t ≡ true → top t + base ≤ n
+    go : (t : Term) → term_in m t ≡ true → top t + base ≤ n
     go (Const c) e = unfold top in (omega arith)
     go (Var v) e = unfold top in (omega (arith, ltb-true v m e))
 

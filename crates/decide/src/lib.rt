@@ -1,11 +1,11 @@
 // What an input-match and an equate come to: they fail, suspend, or bind. Nothing is written; the answer tells what is to be bound.
 ghost use Rattle.std.specs.Prelude.{◌≡◌, [], ◌∷◌, ℕ, ◌+◌, ◌*◌, ◌≤◌, ◌<◌, length, get_or, take};
 ghost use Rattle.parlog.specs.declared.Term.TheVariants.{Const};
-ghost use Rattle.parlog.specs.Program.{outCount};
-ghost use Rattle.parlog.specs.Tables.{cellSize, varsIn};
-ghost use Rattle.parlog.specs.Unify.{decide, equateOf, headSide, inputValue, isVar, match_of, outAfter, pair_of, pairsOf, shift};
-ghost use Rattle.unify.specs.Pending.{Below, noChange, pending, top};
-ghost use Rattle.decide.specs.Decision.{Decides, gather, heldBy, pushOf, Shifted};
+ghost use Rattle.parlog.specs.Program.{out_count};
+ghost use Rattle.parlog.specs.Tables.{cell_size, vars_in};
+ghost use Rattle.parlog.specs.Unify.{decide, equate_of, head_side, input_value, is_var, match_of, out_after, pair_of, pairs_of, shift};
+ghost use Rattle.unify.specs.Pending.{Below, no_change, pending, top};
+ghost use Rattle.decide.specs.Decision.{Decides, gather, held_by, push_of, Shifted};
 
 use parlog::{Change, Pair, Term};
 use unify::Unified;
@@ -46,7 +46,7 @@ pub struct Held {
 
 // The term is the variable v.
 fn is_var(x: Term, v: u32) -> bool
-    ensures { result ≡ isVar v x }
+    ensures { result ≡ is_var v x }
 {
     let Term::Var(w) = x else {
         return false;
@@ -75,8 +75,8 @@ fn is_input(
     arity: usize,
     v: u32,
 ) -> bool
-    requires { (n * cellSize ≤ length vars.now) × (n ≤ 65535) × (arity ≤ 4) × (length args ≡ 4) × Shifted args base arity n }
-    ensures { result ≡ inputValue (varsIn vars.now n) (take arity modes) (take arity args) base v }
+    requires { (n * cell_size ≤ length vars.now) × (n ≤ 65535) × (arity ≤ 4) × (length args ≡ 4) × Shifted args base arity n }
+    ensures { result ≡ input_value (vars_in vars.now n) (take arity modes) (take arity args) base v }
 {
     let mut i = 0;
     while i < arity {
@@ -96,8 +96,8 @@ fn is_input(
 
 // v is not to be bound.
 fn is_held(vars: &[u8], n: usize, args: [Term; 4], h: Held, v: u32) -> bool
-    requires { (n * cellSize ≤ length vars.now) × (n ≤ 65535) × (h.arity ≤ 4) × (length args ≡ 4) × Shifted args h.base h.arity n }
-    ensures { result ≡ heldBy (varsIn vars.now n) args h v }
+    requires { (n * cell_size ≤ length vars.now) × (n ≤ 65535) × (h.arity ≤ 4) × (length args ≡ 4) × Shifted args h.base h.arity n }
+    ensures { result ≡ held_by (vars_in vars.now n) args h v }
 {
     let modes = h.modes;
     let low = (v as usize) < h.bar;
@@ -108,7 +108,7 @@ fn is_held(vars: &[u8], n: usize, args: [Term; 4], h: Held, v: u32) -> bool
 // One variable more, where it is to be noted.
 fn push(s: Noted, yes: bool, v: u16) -> Noted
     requires { s.count < 4 }
-    ensures { result ≡ pushOf s yes v }
+    ensures { result ≡ push_of s yes v }
 {
     let at = s.count;
     let mut notes = s.notes;
@@ -125,8 +125,8 @@ fn push(s: Noted, yes: bool, v: u16) -> Noted
 
 // The variables bound that are not to be bound, in order.
 fn needed(vars: &[u8], n: usize, args: [Term; 4], h: Held, u: Unified) -> Noted
-    requires { (n * cellSize ≤ length vars.now) × (n ≤ 65535) × (h.arity ≤ 4) × (length args ≡ 4) × Shifted args h.base h.arity n × (u.count ≤ 4) × (length u.binds ≡ 4) × ((k : ℕ) → k < u.count → (get_or u.binds k noChange).var < n) }
-    ensures { result ≡ gather (heldBy (varsIn vars.now n) args h) (record { count = 0; notes = 0 ∷ 0 ∷ 0 ∷ 0 ∷ [] }) (pending u) }
+    requires { (n * cell_size ≤ length vars.now) × (n ≤ 65535) × (h.arity ≤ 4) × (length args ≡ 4) × Shifted args h.base h.arity n × (u.count ≤ 4) × (length u.binds ≡ 4) × ((k : ℕ) → k < u.count → (get_or u.binds k no_change).var < n) }
+    ensures { result ≡ gather (held_by (vars_in vars.now n) args h) (record { count = 0; notes = 0 ∷ 0 ∷ 0 ∷ 0 ∷ [] }) (pending u) }
 {
     let binds = u.binds;
     let count = u.count;
@@ -167,8 +167,8 @@ fn decide(
     args: [Term; 4],
     h: Held,
 ) -> Decision
-    requires { (n * cellSize ≤ length vars.now) × (n ≤ 65535) × (count ≤ 4) × Below n count pairs × (h.arity ≤ 4) × (length args ≡ 4) × Shifted args h.base h.arity n }
-    ensures { Decides (decide (varsIn vars.now n) (take count pairs) (heldBy (varsIn vars.now n) args h)) result }
+    requires { (n * cell_size ≤ length vars.now) × (n ≤ 65535) × (count ≤ 4) × Below n count pairs × (h.arity ≤ 4) × (length args ≡ 4) × Shifted args h.base h.arity n }
+    ensures { Decides (decide (vars_in vars.now n) (take count pairs) (held_by (vars_in vars.now n) args h)) result }
 {
     let u = unify::unify(vars, n, pairs, count);
     let ok = u.ok;
@@ -194,7 +194,7 @@ fn decide(
 // The head's side of a pair: an output argument gives way to its new variable.
 fn head_side(m: u8, t: Term, first: u16, out: u32) -> Term
     requires { (top t + first ≤ 65535) × (out ≤ 65540) }
-    ensures { result ≡ headSide m t first out }
+    ensures { result ≡ head_side m t first out }
 {
     if m == 0 {
         return shift(t, first);
@@ -205,7 +205,7 @@ fn head_side(m: u8, t: Term, first: u16, out: u32) -> Term
 // The number of the next output argument.
 fn out_after(m: u8, out: u32) -> u32
     requires { out ≤ 65540 }
-    ensures { (result ≡ outAfter m out) × (result ≤ out + 1) }
+    ensures { (result ≡ out_after m out) × (result ≤ out + 1) }
 {
     if m == 0 { out } else { out + 1 }
 }
@@ -241,7 +241,7 @@ fn pairs_of(
     own: u32,
 ) -> [Pair; 4]
     requires { Shifted args base 4 65535 × Shifted head first 4 65535 × (own ≤ 65535) × (length modes ≡ 4) × (length args ≡ 4) × (length head ≡ 4) }
-    ensures { result ≡ pairsOf modes args base head first own }
+    ensures { result ≡ pairs_of modes args base head first own }
 {
     let m0 = modes[0];
     let m1 = modes[1];
@@ -268,8 +268,8 @@ pub fn match_of(
     own: usize,
     arity: usize,
 ) -> Decision
-    requires { (n * cellSize ≤ length vars.now) × (n ≤ 65535) × (arity ≤ 4) × Shifted args base 4 n × Shifted head first 4 n × (first + own + outCount (take arity modes) ≤ n) }
-    ensures { Decides (match_of (varsIn vars.now n) (take arity modes) (take arity args) base (take arity head) first own) result }
+    requires { (n * cell_size ≤ length vars.now) × (n ≤ 65535) × (arity ≤ 4) × Shifted args base 4 n × Shifted head first 4 n × (first + own + out_count (take arity modes) ≤ n) }
+    ensures { Decides (match_of (vars_in vars.now n) (take arity modes) (take arity args) base (take arity head) first own) result }
 {
     let pairs = pairs_of(modes, args, base, head, first, own as u32);
     let h = Held {
@@ -283,8 +283,8 @@ pub fn match_of(
 
 // Equate: two terms, numbered from base; no variable below the bar is to be bound.
 pub fn equate_of(vars: &[u8], n: usize, t: Term, u: Term, base: u16, bar: usize) -> Decision
-    requires { (n * cellSize ≤ length vars.now) × (n ≤ 65535) × (top t + base ≤ n) × (top u + base ≤ n) }
-    ensures { Decides (equateOf (varsIn vars.now n) t u base bar) result }
+    requires { (n * cell_size ≤ length vars.now) × (n ≤ 65535) × (top t + base ≤ n) × (top u + base ≤ n) }
+    ensures { Decides (equate_of (vars_in vars.now n) t u base bar) result }
 {
     let x = shift(t, base);
     let y = shift(u, base);

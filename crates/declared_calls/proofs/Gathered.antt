@@ -10,16 +10,16 @@ use borrow.Author.Tests.{leb-false, leb-true, ltb-false, not-false}
 use native.Mathlib.Omega.{arith}
 use Rattle.declared_calls.specs.Declares.{Names}
 use Rattle.declared_calls.specs.declared.Named.{Named}
-use Rattle.missing_call.specs.Least.{inClass, ofClass}
-use Rattle.name_index.specs.Index.{AddsOne, chainOf, Indexed}
+use Rattle.missing_call.specs.Least.{in_class, of_class}
+use Rattle.name_index.specs.Index.{AddsOne, chain_of, Indexed}
 use Rattle.name_index.specs.declared.Added.{Added}
 use Rattle.parlog.proofs.Bools.{never, not_so, split}
 use Rattle.read_names.proofs.Short.{lines_more}
-use Rattle.read_names.proofs.Tabled.{names-fit}
-use Rattle.read_names.specs.Tables.{modeNames, modesFrom, names_at}
+use Rattle.read_names.proofs.Tabled.{names_fit}
+use Rattle.read_names.specs.Tables.{mode_names, modes_from, names_at}
 use Rattle.text_names.proofs.Looked.{known-again, known-cons, known-last, look-most, same-is}
-use Rattle.text_names.specs.Names.{add, adds, known, look, Name, sameName}
-use Rattle.text_program.specs.Source.{Got, isModeLine, lines, ModeLine, readModeLine}
+use Rattle.text_names.specs.Names.{add, adds, known, look, Name, same_name}
+use Rattle.text_program.specs.Source.{Got, is_mode_line, lines, ModeLine, read_mode_line}
 
 -- ---- a name more, as long as there is room for c names
 
@@ -54,10 +54,10 @@ module _ (ts us : List Name) (x : Name) (room k c : ℕ) (fit : length ts ≤ ro
           absurd (omega arith)
 
   -- there was some, or it was not wanted
-  added-one : (k ≡ c → ⊥) → (z : Name) → known us z ≡ (known ts z || sameName x z)
+  added-one : (k ≡ c → ⊥) → (z : Name) → known us z ≡ (known ts z || same_name x z)
   added-one h z = split (known ts x) (λ e. rw (was-known e) (known-again ts x z e)) (λ e. go e (leb room (length ts)) refl)
     where
-      go : known ts x ≡ false → (b : Bool) → leb room (length ts) ≡ b → known us z ≡ (known ts z || sameName x z)
+      go : known ts x ≡ false → (b : Bool) → leb room (length ts) ≡ b → known us z ≡ (known ts z || same_name x z)
       go e true f =
           let a = ap length (no_room (leb-true room (length ts) f) e) in
           let n = new-number e in
@@ -75,17 +75,17 @@ unfolding names_at look
 gather-start s t l m k h i = record { declares = record { index = i; names = λ x c. refl; inside = h }; from = refl; class = refl; behind = refl; size = refl }
 
 -- a line at p, of the name x, which ends at e
-module _ (s : List ℕ) (p : ℕ) (x : Name) (b : Bool) (e : ℕ) (is : b ≡ isModeLine (drop p s)) (line : not b ≡ false) (name : x ≡ (readModeLine (drop p s)).value.name) (end : drop e s ≡ (readModeLine (drop p s)).rest) where
-  line_known : (z : Name) → known (modeNames (modesFrom s p)) z ≡ (sameName x z || known (modeNames (modesFrom s e)) z)
+module _ (s : List ℕ) (p : ℕ) (x : Name) (b : Bool) (e : ℕ) (is : b ≡ is_mode_line (drop p s)) (line : not b ≡ false) (name : x ≡ (read_mode_line (drop p s)).value.name) (end : drop e s ≡ (read_mode_line (drop p s)).rest) where
+  line_known : (z : Name) → known (mode_names (modes_from s p)) z ≡ (same_name x z || known (mode_names (modes_from s e)) z)
   line_known z =
-      ap (λ (g : Got (List ModeLine)). known (modeNames g.value) z) (lines_more s p b is e (not-false b line) end)
-      ∙ known-cons (readModeLine (drop p s)).value.name (modeNames (modesFrom s e)) z ∙ ap (λ (y : Name). sameName y z || known (modeNames (modesFrom s e)) z) (sym name)
+      ap (λ (g : Got (List ModeLine)). known (mode_names g.value) z) (lines_more s p b is e (not-false b line) end)
+      ∙ known-cons (read_mode_line (drop p s)).value.name (mode_names (modes_from s e)) z ∙ ap (λ (y : Name). same_name y z || known (mode_names (modes_from s e)) z) (sym name)
 
-  line-rest : (lines isModeLine readModeLine (drop e s)).rest ≡ (lines isModeLine readModeLine (drop p s)).rest
+  line-rest : (lines is_mode_line read_mode_line (drop e s)).rest ≡ (lines is_mode_line read_mode_line (drop p s)).rest
   line-rest = sym (ap (λ (g : Got (List ModeLine)). g.rest) (lines_more s p b is e (not-false b line) end))
 
   -- a name of another class is passed over
-  pub gather-skip : {t u l : List ℕ} {m k n : ℕ} → Gathered s t m k u l n p → (c : Bool) (h : ℕ) → h ≡ chainOf x → c ≡ inClass k h → c ≡ false → e ≤ length s → Gathered s t m k u l n e
+  pub gather-skip : {t u l : List ℕ} {m k n : ℕ} → Gathered s t m k u l n p → (c : Bool) (h : ℕ) → h ≡ chain_of x → c ≡ in_class k h → c ≡ false → e ≤ length s → Gathered s t m k u l n e
   gather-skip {u = u} {m = m} {k = k} {n = n} here c h chain class out inside = record {
     declares = record { index = here.declares.index; names = now; inside = inside };
     from = refl;
@@ -94,20 +94,20 @@ module _ (s : List ℕ) (p : ℕ) (x : Name) (b : Bool) (e : ℕ) (is : b ≡ is
     size = here.size;
   }
     where
-      other : (z : Name) → ofClass k z ≡ true → sameName x z ≡ false
-      other z c = not_so (sameName x z) (λ h. never (sym out ∙ class ∙ ap (inClass k) chain ∙ ap (ofClass k) (same-is x z h) ∙ c))
+      other : (z : Name) → of_class k z ≡ true → same_name x z ≡ false
+      other z c = not_so (same_name x z) (λ h. never (sym out ∙ class ∙ ap (in_class k) chain ∙ ap (of_class k) (same-is x z h) ∙ c))
 
-      now : (z : Name) → ofClass k z ≡ true → known (modeNames (modesFrom s m)) z ≡ (known (names_at s (take n u)) z || known (modeNames (modesFrom s e)) z)
+      now : (z : Name) → of_class k z ≡ true → known (mode_names (modes_from s m)) z ≡ (known (names_at s (take n u)) z || known (mode_names (modes_from s e)) z)
       now z c =
           here.declares.names z c ∙ ap (λ (d : Bool). known (names_at s (take n u)) z || d) (line_known z)
-          ∙ ap (λ (d : Bool). known (names_at s (take n u)) z || (d || known (modeNames (modesFrom s e)) z)) (other z c)
+          ∙ ap (λ (d : Bool). known (names_at s (take n u)) z || (d || known (mode_names (modes_from s e)) z)) (other z c)
 
 module _ {s t u l v h : List ℕ} {m k n p : ℕ} (here : Gathered s t m k u l n p) (x : Name) {r : Added} (one : AddsOne s u l n x v h r) where
   fit-before : length (names_at s (take n u)) ≡ n
-  fit-before = names-fit s u n here.declares.index.inside
+  fit-before = names_fit s u n here.declares.index.inside
 
   fit-after : length (names_at s (take r.count v)) ≡ r.count
-  fit-after = names-fit s v r.count one.adds.inside
+  fit-after = names_fit s v r.count one.adds.inside
 
   fits : length (names_at s (take n u)) ≤ length u
   fits = let a = fit-before in let b = here.declares.index.inside in omega arith
@@ -117,7 +117,7 @@ module _ {s t u l v h : List ℕ} {m k n p : ℕ} (here : Gathered s t m k u l n
   gather-full e =
       let same = added_full (names_at s (take n u)) (names_at s (take r.count v)) x (length u) r.number r.count fits one.adds.names one.number fit-after e in
       record {
-        declares = record { index = one.index; names = λ z c. here.declares.names z c ∙ ap (λ (ys : List Name). known ys z || known (modeNames (modesFrom s p)) z) (sym same); inside = here.declares.inside };
+        declares = record { index = one.index; names = λ z c. here.declares.names z c ∙ ap (λ (ys : List Name). known ys z || known (mode_names (modes_from s p)) z) (sym same); inside = here.declares.inside };
         from = refl;
         class = refl;
         behind = here.behind;
@@ -125,7 +125,7 @@ module _ {s t u l v h : List ℕ} {m k n p : ℕ} (here : Gathered s t m k u l n
       }
 
   -- a line more
-  pub gather-on : (b : Bool) (e : ℕ) → b ≡ isModeLine (drop p s) → not b ≡ false → x ≡ (readModeLine (drop p s)).value.name → (r.number ≡ r.count → ⊥) → drop e s ≡ (readModeLine (drop p s)).rest → e ≤ length s →
+  pub gather-on : (b : Bool) (e : ℕ) → b ≡ is_mode_line (drop p s) → not b ≡ false → x ≡ (read_mode_line (drop p s)).value.name → (r.number ≡ r.count → ⊥) → drop e s ≡ (read_mode_line (drop p s)).rest → e ≤ length s →
       Gathered s t m k v h r.count e
   gather-on b e is line name some end inside = record {
     declares = record { index = one.index; names = now; inside = inside };
@@ -135,11 +135,11 @@ module _ {s t u l v h : List ℕ} {m k n p : ℕ} (here : Gathered s t m k u l n
     size = one.adds.size ∙ here.size;
   }
     where
-      now : (z : Name) → ofClass k z ≡ true → known (modeNames (modesFrom s m)) z ≡ (known (names_at s (take r.count v)) z || known (modeNames (modesFrom s e)) z)
+      now : (z : Name) → of_class k z ≡ true → known (mode_names (modes_from s m)) z ≡ (known (names_at s (take r.count v)) z || known (mode_names (modes_from s e)) z)
       now z c =
           here.declares.names z c ∙ ap (λ (d : Bool). known (names_at s (take n u)) z || d) (line_known s p x b e is line name end z)
-          ∙ sym (or_assoc (known (names_at s (take n u)) z) (sameName x z) (known (modeNames (modesFrom s e)) z))
-          ∙ ap (λ (d : Bool). d || known (modeNames (modesFrom s e)) z)
+          ∙ sym (or_assoc (known (names_at s (take n u)) z) (same_name x z) (known (mode_names (modes_from s e)) z))
+          ∙ ap (λ (d : Bool). d || known (mode_names (modes_from s e)) z)
           (sym (added-one (names_at s (take n u)) (names_at s (take r.count v)) x (length u) r.number r.count fits one.adds.names one.number fit-after some z))
 
 -- where two ways meet

@@ -6,9 +6,9 @@ use Prim.Native.Nat.{◌<◌, ◌≤◌, suc, ℕ}
 use lib.Dec.{leb}
 use borrow.Author.Tests.{leb-false, leb-true, not-true}
 use native.Mathlib.Omega.{arith}
-use Rattle.missing_call.proofs.Minimum.{least-all, least-some, Lowest, notBefore}
+use Rattle.missing_call.proofs.Minimum.{least-all, least-some, Lowest, not_before}
 use Rattle.missing_call.proofs.Order.{before_self, before-then, before-total}
-use Rattle.missing_call.specs.Least.{above, before, least, missing, ofClass}
+use Rattle.missing_call.specs.Least.{above, before, least, missing, of_class}
 use Rattle.parlog.proofs.Bools.{and-true, never, not_so, or_left, or_right, split, true-and}
 use Rattle.text_names.specs.Names.{known, Name}
 use Rattle.text_program.specs.Parsing.{all_of}
@@ -71,25 +71,25 @@ module _ (p q : Name → Bool) (h : (x : Name) → q x ≡ true → p x ≡ true
 
 -- a name of class k is known
 abbrev classed : ℕ → List Name → Name → Bool
-classed k ks x = not (ofClass k x) || known ks x
+classed k ks x = not (of_class k x) || known ks x
 
 -- it is behind the bound, or it is known
 abbrev pub settled : ℕ → List Name → List Name → Name → Bool
-settled k ks bs x = not (ofClass k x) || (above bs x || known ks x)
+settled k ks bs x = not (of_class k x) || (above bs x || known ks x)
 
 -- known are the names ks: those of class k that a table ts has, and others rs
-module _ (k : ℕ) (ks ts rs xs : List Name) (both : (x : Name) → ofClass k x ≡ true → known ks x ≡ (known ts x || known rs x)) where
-  in_table : (x : Name) → ofClass k x ≡ true → known ts x ≡ true → known ks x ≡ true
+module _ (k : ℕ) (ks ts rs xs : List Name) (both : (x : Name) → of_class k x ≡ true → known ks x ≡ (known ts x || known rs x)) where
+  in_table : (x : Name) → of_class k x ≡ true → known ts x ≡ true → known ks x ≡ true
   in_table x c e = both x c ∙ rw e refl
 
   pub pass-start : all_of (settled k ks []) xs ≡ true
-  pass-start = all-always (settled k ks []) (settled k ks []) (settled k ks []) (λ x. or_right (not (ofClass k x)) true refl) xs
+  pass-start = all-always (settled k ks []) (settled k ks []) (settled k ks []) (λ x. or_right (not (of_class k x)) true refl) xs
 
   module _ (bs : List Name) (here : all_of (settled k ks bs) xs ≡ true) where
     -- a name that is not looked for
     not_left : (x : Name) → missing k ts bs x ≡ false → settled k ks bs x ≡ true → classed k ks x ≡ true
     unfolding missing
-    not_left x e f = go (ofClass k x) (above bs x) (known ts x) (in_table x) e f
+    not_left x e f = go (of_class k x) (above bs x) (known ts x) (in_table x) e f
       where
         go : (c a b : Bool) → (c ≡ true → b ≡ true → known ks x ≡ true) → (c && (a && not b)) ≡ false → (not c || (a || known ks x)) ≡ true → (not c || known ks x) ≡ true
         go true true true d e f = d refl refl
@@ -106,10 +106,10 @@ module _ (k : ℕ) (ks ts rs xs : List Name) (both : (x : Name) → ofClass k x 
       here-low : Lowest (missing k ts bs) xs y []
       here-low = least-some (missing k ts bs) y [] xs found
 
-      above-here : (ofClass k y ≡ true) × (above bs y ≡ true) × (known ts y ≡ false)
+      above-here : (of_class k y ≡ true) × (above bs y ≡ true) × (known ts y ≡ false)
       unfolding missing
       above-here =
-          let w = and-true (ofClass k y) (above bs y && not (known ts y)) here-low.wanted in
+          let w = and-true (of_class k y) (above bs y && not (known ts y)) here-low.wanted in
           let v = and-true (above bs y) (not (known ts y)) w.1 in
           (w.0, v.0, not-true (known ts y) v.1)
 
@@ -122,7 +122,7 @@ module _ (k : ℕ) (ks ts rs xs : List Name) (both : (x : Name) → ofClass k x 
 
       -- one is left, and it is known
       pub pass_on : known rs y ≡ true → all_of (settled k ks (y ∷ [])) xs ≡ true
-      pass_on e = all_both (notBefore (missing k ts bs) y) (settled k ks bs) (settled k ks (y ∷ [])) one xs here-low.lowest here
+      pass_on e = all_both (not_before (missing k ts bs) y) (settled k ks bs) (settled k ks (y ∷ [])) one xs here-low.lowest here
         where
           known-here : known ks y ≡ true
           known-here = both y above-here.0 ∙ or_right (known ts y) (known rs y) e
@@ -137,12 +137,12 @@ module _ (k : ℕ) (ks ts rs xs : List Name) (both : (x : Name) → ofClass k x 
           known-settled true a b h = refl
           known-settled false a b h = or_right a b h
 
-          one : (x : Name) → notBefore (missing k ts bs) y x ≡ true → settled k ks bs x ≡ true → settled k ks (y ∷ []) x ≡ true
+          one : (x : Name) → not_before (missing k ts bs) y x ≡ true → settled k ks bs x ≡ true → settled k ks (y ∷ []) x ≡ true
           one x h j =
-              split (before y x) (λ a. or_right (not (ofClass k x)) (before y x || known ks x) (or_left (before y x) (known ks x) a))
-              (λ a. known-settled (not (ofClass k x)) (before y x) (known ks x)
+              split (before y x) (λ a. or_right (not (of_class k x)) (before y x || known ks x) (or_left (before y x) (known ks x) a))
+              (λ a. known-settled (not (of_class k x)) (before y x) (known ks x)
               (split (before x y) (λ b. not_left x (asked-not (missing k ts bs x) (before x y) h b) j)
-              (λ b. or_right (not (ofClass k x)) (known ks x) (rw (before-total x y b a) known-here))))
+              (λ b. or_right (not (of_class k x)) (known ks x) (rw (before-total x y b a) known-here))))
 
       -- fewer are left
       pub pass-less : count (above (y ∷ [])) xs < count (above bs) xs

@@ -1,6 +1,6 @@
 // Whether each call of a text has a mode line, for any number of these: a table of their names, class by class where it is too short for all, and in the order of names where it is too short for a class.
 ghost use Rattle.std.specs.Prelude.{◌≡◌, ◌+◌, ◌≤◌, length};
-ghost use Rattle.declared_calls.specs.Declares.{allNamed, Answers, classDeclared, Cleared, declaredFor, Declares, Names};
+ghost use Rattle.declared_calls.specs.Declares.{all_named, Answers, class_declared, Cleared, declared_for, Declares, Names};
 ghost use Rattle.name_index.specs.Index.{Indexed};
 
 use missing_call::Asked;
@@ -83,7 +83,7 @@ fn class_declared(
     left: usize,
 ) -> bool
     requires { (from ≤ length s.now) × Declares s.now places.now links.now named }
-    ensures { result ≡ classDeclared s.now named.from named.class from left }
+    ensures { result ≡ class_declared s.now named.from named.class from left }
 {
     let mut bounded = false;
     let mut bound = 0;
@@ -117,8 +117,8 @@ pub fn declared(
     from: usize,
     left: usize,
 ) -> bool
-    requires { (from ≤ length s.now) × Declares s.now places.now links.now (allNamed s.now m n) }
-    ensures { result ≡ declaredFor s.now m from left }
+    requires { (from ≤ length s.now) × Declares s.now places.now links.now (all_named s.now m n) }
+    ensures { result ≡ declared_for s.now m from left }
 {
     class_declared(s, places, links, told(m, ALL, n, s.len()), from, left)
 }
@@ -133,7 +133,7 @@ fn each_class(
     left: usize,
 ) -> bool
     requires { (m ≤ length s.now) × (from ≤ length s.now) × (length links.old ≡ 512 + length places.old) × (length places.old ≤ 65535) }
-    ensures { (result ≡ declaredFor s.now m from left) × (length places.new ≡ length places.old) × (length links.new ≡ length links.old) }
+    ensures { (result ≡ declared_for s.now m from left) × (length places.new ≡ length places.old) × (length links.new ≡ length links.old) }
 {
     let mut k = 0;
     while k < missing_call::CLASSES {

@@ -16,8 +16,8 @@ use Rattle.parlog.specs.Limits.{Limits}
 use Rattle.parlog.specs.Load.{load_of, refusal}
 use Rattle.parlog.specs.Program.{program_of}
 use Rattle.parlog.specs.Scan.{every}
-use Rattle.parlog.specs.TableRules.{cellKnown, fullSize, lentOk, stateOk, tablesOk}
-use Rattle.parlog.specs.Tables.{Lent, markerLast, procCount, tablesIn, varCount}
+use Rattle.parlog.specs.TableRules.{cell_known, full_size, lent_ok, state_ok, tables_ok}
+use Rattle.parlog.specs.Tables.{Lent, marker_last, proc_count, tables_in, var_count}
 use Rattle.parlog.specs.declared.Loaded.{Loaded}
 use Rattle.parlog.specs.declared.Loaded.TheVariants.{Accepted, Refused}
 use Rattle.parlog.specs.declared.Refusal.{Refusal}
@@ -26,33 +26,33 @@ use Rattle.rows.proofs.Tables.{procs-length}
 use Rattle.vars.proofs.Tables.{vars-length}
 
 -- THE LAW: what an accepted image and good tables give
-pub lent-inside : (lim : Limits) (s : List ℕ) (r c : ℕ) (l : Lent) → load_of s ≡ Accepted r c → r ≤ 32 → c ≤ 64 → lentOk lim (program_of s r c) l ≡ true → Inside lim s r c l
-unfolding lentOk tablesOk tablesIn
+pub lent-inside : (lim : Limits) (s : List ℕ) (r c : ℕ) (l : Lent) → load_of s ≡ Accepted r c → r ≤ 32 → c ≤ 64 → lent_ok lim (program_of s r c) l ≡ true → Inside lim s r c l
+unfolding lent_ok tables_ok tables_in
 lent-inside lim s r c l el hr hc e =
-    let a = and-true (fullSize lim l) (every (cellKnown l.vars) (varCount l.head) && tablesOk lim (program_of s r c) (tablesIn l)) e in
-    let b = and-true (every (cellKnown l.vars) (varCount l.head)) (tablesOk lim (program_of s r c) (tablesIn l)) a.1 in
-    let t = and-true (stateOk lim (program_of s r c) (tablesIn l).state) (ltb (markerLast l.head) (length (tablesIn l).state.procs)) b.1 in
-    let k = assume-counts lim (program_of s r c) (tablesIn l).state t.0 in
-    let m = ltb-true (markerLast l.head) (length (tablesIn l).state.procs) t.1 in
+    let a = and-true (full_size lim l) (every (cell_known l.vars) (var_count l.head) && tables_ok lim (program_of s r c) (tables_in l)) e in
+    let b = and-true (every (cell_known l.vars) (var_count l.head)) (tables_ok lim (program_of s r c) (tables_in l)) a.1 in
+    let t = and-true (state_ok lim (program_of s r c) (tables_in l).state) (ltb (marker_last l.head) (length (tables_in l).state.procs)) b.1 in
+    let k = assume-counts lim (program_of s r c) (tables_in l).state t.0 in
+    let m = ltb-true (marker_last l.head) (length (tables_in l).state.procs) t.1 in
     let (h, p, v) = full-sizes lim l a.0 in
-    let np = procs-length l.procs (procCount l.head) in
-    let nv = vars-length l.vars (varCount l.head) in
+    let np = procs-length l.procs (proc_count l.head) in
+    let nv = vars-length l.vars (var_count l.head) in
     record {
       loaded = el;
       good = e;
       relations = hr;
       clauses = hc;
       head = h;
-      procs-size = omega (arith, p);
-      vars-size = omega (arith, v);
+      procs_size = omega (arith, p);
+      vars_size = omega (arith, v);
       some = omega (arith, np, k.0);
-      procs-most = omega (arith, np, k.1);
-      vars-most = omega (arith, nv, k.3);
+      procs_most = omega (arith, np, k.1);
+      vars_most = omega (arith, nv, k.3);
       last = omega (arith, np, m);
       rows = omega (arith, p, np, k.1);
       cells = omega (arith, v, nv, k.3);
       goal = omega (arith, nv, k.2);
-      cells-known = b.0;
+      cells_known = b.0;
     }
 
 module _ (lim : Limits) (s : List ℕ) (l : Lent) {a : Loaded} (is : a ≡ load_of s) where
@@ -60,7 +60,7 @@ module _ (lim : Limits) (s : List ℕ) (l : Lent) {a : Loaded} (is : a ≡ load_
   unfolding enter
   enter-refused e = rw e (record { entry = rw (sym is ∙ e); inside = tt })
 
-  module _ {r c : ℕ} (e : a ≡ Accepted r c) {ok : Bool} (test : ok ≡ lentOk lim (program_of s r c) l) where
+  module _ {r c : ℕ} (e : a ≡ Accepted r c) {ok : Bool} (test : ok ≡ lent_ok lim (program_of s r c) l) where
     pub enter-turned : ok ≡ false → {f : Refusal} → f ≡ refusal 8 0 → EnterSays lim s l (Refused f)
     unfolding enter
     enter-turned h ef = record { entry = rw (sym is ∙ e, sym test ∙ h, ef); inside = tt }

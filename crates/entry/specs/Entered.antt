@@ -1,37 +1,37 @@
 -- What the first tests of a call come to, and what holds of the bytes once they are passed.
 use Rattle.std.specs.Prelude.{◌≡◌, true, List, ◌*◌, ◌<◌, ◌≤◌, ℕ, length}
-use Rattle.parlog.specs.Calls.{enter, entered, Entry, turned-away}
+use Rattle.parlog.specs.Calls.{enter, entered, Entry, turned_away}
 use Rattle.parlog.specs.Limits.{Limits}
 use Rattle.parlog.specs.Load.{load_of}
 use Rattle.parlog.specs.Program.{program_of}
 use Rattle.parlog.specs.Scan.{every}
-use Rattle.parlog.specs.TableRules.{cellKnown, lentOk}
-use Rattle.parlog.specs.Tables.{cellSize, headSize, Lent, markerLast, procCount, rowSize, tablesIn, varCount}
+use Rattle.parlog.specs.TableRules.{cell_known, lent_ok}
+use Rattle.parlog.specs.Tables.{cell_size, head_size, Lent, marker_last, proc_count, row_size, tables_in, var_count}
 use Rattle.parlog.specs.declared.Loaded.{Loaded}
 use Rattle.parlog.specs.declared.Loaded.TheVariants.{Accepted, Refused}
 
 -- what a call that was let in may count on
 pub record Inside (lim : Limits) (s : List ℕ) (r c : ℕ) (l : Lent) : Type 0 where
   pub loaded : load_of s ≡ Accepted r c
-  pub good : lentOk lim (program_of s r c) l ≡ true
+  pub good : lent_ok lim (program_of s r c) l ≡ true
   pub relations : r ≤ 32
   pub clauses : c ≤ 64
-  pub head : length l.head ≡ headSize
-  pub procs-size : length l.procs ≡ lim.procs * rowSize
-  pub vars-size : length l.vars ≡ lim.vars * cellSize
-  pub some : 1 ≤ procCount l.head
-  pub procs-most : procCount l.head ≤ lim.procs
-  pub vars-most : varCount l.head ≤ lim.vars
-  pub last : markerLast l.head < procCount l.head
-  pub rows : procCount l.head * rowSize ≤ length l.procs
-  pub cells : varCount l.head * cellSize ≤ length l.vars
-  pub goal : (program_of s r c).goalVars ≤ varCount l.head
-  pub cells-known : every (cellKnown l.vars) (varCount l.head) ≡ true
+  pub head : length l.head ≡ head_size
+  pub procs_size : length l.procs ≡ lim.procs * row_size
+  pub vars_size : length l.vars ≡ lim.vars * cell_size
+  pub some : 1 ≤ proc_count l.head
+  pub procs_most : proc_count l.head ≤ lim.procs
+  pub vars_most : var_count l.head ≤ lim.vars
+  pub last : marker_last l.head < proc_count l.head
+  pub rows : proc_count l.head * row_size ≤ length l.procs
+  pub cells : var_count l.head * cell_size ≤ length l.vars
+  pub goal : (program_of s r c).goal_vars ≤ var_count l.head
+  pub cells_known : every (cell_known l.vars) (var_count l.head) ≡ true
 
 -- an answer of a load read as an entry
 abbrev pub entry_of : Loaded → List ℕ → Lent → Entry
-entry_of (Refused r) s l = turned-away r
-entry_of (Accepted r c) s l = entered (program_of s r c) (tablesIn l)
+entry_of (Refused r) s l = turned_away r
+entry_of (Accepted r c) s l = entered (program_of s r c) (tables_in l)
 
 -- these facts, where it was let in
 abbrev pub InsideOf : Loaded → Limits → List ℕ → Lent → Type 0

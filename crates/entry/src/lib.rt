@@ -3,7 +3,7 @@ ghost use Rattle.std.specs.Prelude.{◌≡◌, length};
 ghost use Rattle.parlog.specs.Limits.{small};
 ghost use Rattle.parlog.specs.Load.{refusal};
 ghost use Rattle.parlog.specs.Tables.{lent};
-ghost use Rattle.program_index.specs.Indexed.{indexSize, IndexedOf};
+ghost use Rattle.program_index.specs.Indexed.{index_size, IndexedOf};
 ghost use Rattle.entry.specs.Entered.{EnterSays};
 
 use parlog::{Loaded, Refusal, codes};
@@ -31,7 +31,7 @@ pub fn enter(
     vars: &[u8],
     ix: &mut [u16; program_index::SIZE],
 ) -> Loaded
-    requires { length ix.old ≡ indexSize }
+    requires { length ix.old ≡ index_size }
     ensures enter_says { EnterSays small image.now (lent head.now procs.now vars.now) result }
     ensures indexed_of { IndexedOf result image.now ix.new }
 {

@@ -10,43 +10,43 @@ use borrow.Author.Tests.{eq-eqb, eqb-false, eqb-true, ne_eqb}
 use native.Mathlib.Omega.{arith}
 use native.Mathlib.Nat.{div-mul-le_self, le_trans, mul_assoc, mul-le-mul_right, mul_left_comm, suc-mul}
 use native.Mathlib.Numerals.{add-one}
-use Rattle.entry_table.specs.Entered.{Entered, tableSize}
+use Rattle.entry_table.specs.Entered.{Entered, table_size}
 use Rattle.text_names.proofs.Rest.{empty-entry, first-at}
-use Rattle.text_names.specs.Bytes.{back, isSmall}
-use Rattle.text_names.specs.Entries.{behindEntry, entryFrom, isEntry}
+use Rattle.text_names.specs.Bytes.{back, is_small}
+use Rattle.text_names.specs.Entries.{behind_entry, entry_from, is_entry}
 
 -- ---- walks
 
 module _ (s : List ℕ) (i : ℕ) where
-  pub entry-stop : i < length s → get_or s i 0 ≡ 10 → drop (i + 1) s ≡ behindEntry (drop i s)
-  unfolding behindEntry
+  pub entry-stop : i < length s → get_or s i 0 ≡ 10 → drop (i + 1) s ≡ behind_entry (drop i s)
+  unfolding behind_entry
   entry-stop h e = rw (add-one, drop-cons s i 0, eq-eqb _ _ e)
 
-  pub entry-go : i < length s → (get_or s i 0 ≡ 10 → ⊥) → behindEntry (drop i s) ≡ behindEntry (drop (i + 1) s)
-  unfolding behindEntry
+  pub entry-go : i < length s → (get_or s i 0 ≡ 10 → ⊥) → behind_entry (drop i s) ≡ behind_entry (drop (i + 1) s)
+  unfolding behind_entry
   entry-go h e = rw (add-one, drop-cons s i 0, ne_eqb _ _ e)
 
-  pub entry-none : length s ≤ i → drop i s ≡ behindEntry (drop i s)
-  unfolding behindEntry
+  pub entry-none : length s ≤ i → drop i s ≡ behind_entry (drop i s)
+  unfolding behind_entry
   entry-none h = rw (drop_of_length-le s h)
 
 -- one entry of those that are left
-pub entry_next : (s : List ℕ) (left : ℕ) → (left ≡ 0 → ⊥) → entryFrom s left ≡ entryFrom (behindEntry s) (left - 1)
-unfolding entryFrom
+pub entry_next : (s : List ℕ) (left : ℕ) → (left ≡ 0 → ⊥) → entry_from s left ≡ entry_from (behind_entry s) (left - 1)
+unfolding entry_from
 entry_next s zero h = absurd (h refl)
 entry_next s (suc k) h = let e : suc k - 1 ≡ k = omega arith in rw e
 
-pub entry-last : (s : List ℕ) (left : ℕ) → left ≡ 0 → entryFrom s left ≡ s
-unfolding entryFrom
+pub entry-last : (s : List ℕ) (left : ℕ) → left ≡ 0 → entry_from s left ≡ s
+unfolding entry_from
 entry-last s left h = rw h
 
-pub walked-out : (s : List ℕ) (at left : ℕ) → length s ≤ at → drop at s ≡ entryFrom (drop at s) left
+pub walked-out : (s : List ℕ) (at left : ℕ) → length s ≤ at → drop at s ≡ entry_from (drop at s) left
 walked-out s at left h = rw (drop_of_length-le s h) (sym (empty-entry left))
 
-pub entries-on : (s : List ℕ) (a b : ℕ) → entryFrom (entryFrom s a) b ≡ entryFrom s (a + b)
-unfolding entryFrom
+pub entries-on : (s : List ℕ) (a b : ℕ) → entry_from (entry_from s a) b ≡ entry_from s (a + b)
+unfolding entry_from
 entries-on s zero b = let e : 0 + b ≡ b = omega arith in rw e
-entries-on s (suc a) b = let e : suc a + b ≡ suc (a + b) = omega arith in rw e (entries-on (behindEntry s) a b)
+entries-on s (suc a) b = let e : suc a + b ≡ suc (a + b) = omega arith in rw e (entries-on (behind_entry s) a b)
 
 -- ---- each other place
 
@@ -73,7 +73,7 @@ thin-turn o t k v h e i = record { done = done_at; kept = λ j g. get_or-set_oth
 
 module _ (s t : List ℕ) where
   pub first-entered : (t0 : List ℕ) → 0 < length t0 → t ≡ set t0 0 0 → Entered s t 1 1
-  unfolding entryFrom
+  unfolding entry_from
   first-entered t0 h e = record {
     some = omega arith;
     fits = rw (e, length-set t0 0 0) h;
@@ -85,35 +85,35 @@ module _ (s t : List ℕ) where
       at_first : (k : ℕ) → k < 1 → get_or t k 0 ≡ 0
       at_first k g = let z : k ≡ 0 = omega arith in rw (z, e) (get_or-set_same t0 0 0 0 h)
 
-      begin-at : (k : ℕ) → k < 1 → drop (get_or t k 0) s ≡ entryFrom s (k * 1)
+      begin-at : (k : ℕ) → k < 1 → drop (get_or t k 0) s ≡ entry_from s (k * 1)
       begin-at k g = let z : k ≡ 0 = omega arith in rw (at_first k g, z)
 
   -- each other place, and twice as many entries between them
-  pub thin-entered : (u : List ℕ) (every n : ℕ) → n ≡ tableSize → Entered s t every n → ((k : ℕ) → k < 2561 → get_or u k 0 ≡ get_or t (2 * k) 0) → length u ≡ length t → Entered s u (2 * every) 2561
+  pub thin-entered : (u : List ℕ) (every n : ℕ) → n ≡ table_size → Entered s t every n → ((k : ℕ) → k < 2561 → get_or u k 0 ≡ get_or t (2 * k) 0) → length u ≡ length t → Entered s u (2 * every) 2561
   thin-entered u every n c e f g = let h = e.apart in let l = e.fits in record {
     some = omega arith;
     fits = rw g (omega arith);
     apart = omega arith;
     inside = λ k i. rw (f k i) (e.inside (2 * k) (omega arith));
-    begins = λ k i. rw (f k i) (e.begins (2 * k) (omega arith) ∙ ap (entryFrom s) (mul_assoc 2 k every ∙ mul_left_comm 2 k every));
+    begins = λ k i. rw (f k i) (e.begins (2 * k) (omega arith) ∙ ap (entry_from s) (mul_assoc 2 k every ∙ mul_left_comm 2 k every));
   }
 
   -- one place more
-  pub next-entered : (every n at r : ℕ) → Entered s t every n → n < length t → get_or t (n - 1) 0 ≡ at → drop r s ≡ entryFrom (drop at s) every → r ≤ length s → Entered s (set t n r) every (n + 1)
+  pub next-entered : (every n at r : ℕ) → Entered s t every n → n < length t → get_or t (n - 1) 0 ≡ at → drop r s ≡ entry_from (drop at s) every → r ≤ length s → Entered s (set t n r) every (n + 1)
   next-entered every n at r e l a w h = record {
     some = omega arith;
     fits = rw (length-set t n r) (omega arith);
     apart = e.apart;
     inside = λ k g. on (λ v. v ≤ length s) k g (e.inside k) (λ z. h);
-    begins = λ k g. on (λ v. drop v s ≡ entryFrom s (k * every)) k g (e.begins k) (λ z. rw z last);
+    begins = λ k g. on (λ v. drop v s ≡ entry_from s (k * every)) k g (e.begins k) (λ z. rw z last);
   }
     where
-      last : drop r s ≡ entryFrom s (n * every)
+      last : drop r s ≡ entry_from s (n * every)
       last =
           let p = e.some in
           let z : n ≡ suc (n - 1) = omega arith in
-          w ∙ ap (λ (v : ℕ). entryFrom (drop v s) every) (sym a) ∙ ap (λ (v : List ℕ). entryFrom v every) (e.begins (n - 1) (omega arith)) ∙ entries-on s ((n - 1) * every) every
-          ∙ ap (entryFrom s) (sym (suc-mul (n - 1) every) ∙ ap (λ (v : ℕ). v * every) (sym z))
+          w ∙ ap (λ (v : ℕ). entry_from (drop v s) every) (sym a) ∙ ap (λ (v : List ℕ). entry_from v every) (e.begins (n - 1) (omega arith)) ∙ entries-on s ((n - 1) * every) every
+          ∙ ap (entry_from s) (sym (suc-mul (n - 1) every) ∙ ap (λ (v : ℕ). v * every) (sym z))
 
       on : (P : ℕ → Type 0) (k : ℕ) → k < n + 1 → (k < n → P (get_or t k 0)) → (k ≡ n → P r) → P (get_or (set t n r) k 0)
       on P k g f q = go (eqb k n) refl
@@ -124,14 +124,14 @@ module _ (s t : List ℕ) where
 
 -- ---- a byte of an entry
 
-entry-behind : (s : List ℕ) (k : ℕ) → behindEntry (entryFrom s k) ≡ entryFrom s (k + 1)
-unfolding entryFrom
+entry-behind : (s : List ℕ) (k : ℕ) → behind_entry (entry_from s k) ≡ entry_from s (k + 1)
+unfolding entry_from
 entry-behind s k = entries-on s k 1
 
 -- byte i belongs to the last of the n entries that are noted
 pub record Among (s t : List ℕ) (n i : ℕ) : Type 0 where
   pub entered : Entered s t 1 n
-  pub behind : behindEntry (drop i s) ≡ entryFrom s n
+  pub behind : behind_entry (drop i s) ≡ entry_from s n
   pub inside : i ≤ length s
 
 module _ (s t : List ℕ) (n i : ℕ) where
@@ -144,8 +144,8 @@ module _ (s t : List ℕ) (n i : ℕ) where
     begins = λ k g. rw (get_or-set_other t n k r 0 (λ z. absurd (omega (arith, z)))) (e.begins k g);
   }
 
-  more-entered : (r : ℕ) → Entered s t 1 n → n < length t → drop r s ≡ entryFrom s n → r ≤ length s → Entered s (set t n r) 1 (n + 1)
-  more-entered r e h w g = let p = e.some in next-entered s t 1 n (get_or t (n - 1) 0) r e h refl (w ∙ ap (entryFrom s) (let z : n ≡ n - 1 + 1 = omega arith in z) ∙ sym (entries-on s (n - 1) 1) ∙ ap (λ (v : List ℕ). entryFrom v 1) (let z : (n - 1) * 1 ≡ n - 1 = omega arith in ap (entryFrom s) (sym z) ∙ sym (e.begins (n - 1) (omega arith)))) g
+  more-entered : (r : ℕ) → Entered s t 1 n → n < length t → drop r s ≡ entry_from s n → r ≤ length s → Entered s (set t n r) 1 (n + 1)
+  more-entered r e h w g = let p = e.some in next-entered s t 1 n (get_or t (n - 1) 0) r e h refl (w ∙ ap (entry_from s) (let z : n ≡ n - 1 + 1 = omega arith in z) ∙ sym (entries-on s (n - 1) 1) ∙ ap (λ (v : List ℕ). entry_from v 1) (let z : (n - 1) * 1 ≡ n - 1 = omega arith in ap (entry_from s) (sym z) ∙ sym (e.begins (n - 1) (omega arith)))) g
 
   pub among-turn : (b v : ℕ) (x : Bool) → i < length s → n < length t → b ≡ get_or s i 0 → x ≡ eqb b 10 → v ≡ cond x 1 0 → Among s t n i → Among s (set t n (i + 1)) (n + v) (i + 1)
   among-turn b v x h g e f y a = go (eqb b 10) refl
@@ -163,7 +163,7 @@ module _ (s t : List ℕ) (n i : ℕ) where
           rw (u, m) (record { entered = kept-entered (i + 1) a.entered g; behind = sym (entry-go s i h (λ o. q (e ∙ o))) ∙ a.behind; inside = omega arith })
 
 pub among-start : (s t t0 : List ℕ) → 0 < length t0 → t ≡ set t0 0 0 → Among s t 1 0
-unfolding entryFrom
+unfolding entry_from
 among-start s t t0 h e = record { entered = first-entered s t t0 h e; behind = refl; inside = omega arith }
 
 -- ---- finding
@@ -174,16 +174,16 @@ near-in k every = div-mul-le_self k every
 pub near_last : (k every count : ℕ) → 0 < count → count ≤ k / every → (count - 1) * every ≤ k
 near_last k every count p h = le_trans (mul-le-mul_right every (let z : count - 1 ≤ k / every = omega arith in z)) (div-mul-le_self k every)
 
-pub found : (s t : List ℕ) (every n q k r : ℕ) → Entered s t every n → q < n → q * every ≤ k → drop r s ≡ entryFrom (drop (get_or t q 0) s) (k - q * every) → drop r s ≡ entryFrom s k
+pub found : (s t : List ℕ) (every n q k r : ℕ) → Entered s t every n → q < n → q * every ≤ k → drop r s ≡ entry_from (drop (get_or t q 0) s) (k - q * every) → drop r s ≡ entry_from s k
 found s t every n q k r e h g w =
     let z : q * every + (k - q * every) ≡ k = omega arith in
-    w ∙ ap (λ (v : List ℕ). entryFrom v (k - q * every)) (e.begins q h) ∙ entries-on s (q * every) (k - q * every) ∙ ap (entryFrom s) z
+    w ∙ ap (λ (v : List ℕ). entry_from v (k - q * every)) (e.begins q h) ∙ entries-on s (q * every) (k - q * every) ∙ ap (entry_from s) z
 
 -- the place that was noted last
 pub next_last : (t : List ℕ) (n r : ℕ) → n < length t → get_or (set t n r) (n + 1 - 1) 0 ≡ r
 next_last t n r h = let z : n + 1 - 1 ≡ n = omega arith in rw z (get_or-set_same t n r 0 h)
 
 -- an entry by its bytes in the row
-pub entry-is : (s : List ℕ) (k at end : ℕ) → drop at s ≡ entryFrom s k → drop end s ≡ back (drop at s) → isEntry s k ≡ (isSmall (get_or s at 0) && eqb (get_or s end 0) 10)
-unfolding isEntry
+pub entry-is : (s : List ℕ) (k at end : ℕ) → drop at s ≡ entry_from s k → drop end s ≡ back (drop at s) → is_entry s k ≡ (is_small (get_or s at 0) && eqb (get_or s end 0) 10)
+unfolding is_entry
 entry-is s k at end e f = rw (← e, ← f, first-at s at, first-at s end)

@@ -1,8 +1,8 @@
 // Where the entries of a names row begin, noted in a lent table: each entry, or each second, fourth or eighth of a long row.
 ghost use Rattle.std.specs.Prelude.{◌&&◌, cond, ◌≡◌, ◌*◌, ◌<◌, ◌≤◌, ℕ, eqb, drop, get_or, length};
-ghost use Rattle.entry_table.specs.Entered.{Entered, tableSize};
-ghost use Rattle.text_names.specs.Bytes.{isSmall};
-ghost use Rattle.text_names.specs.Entries.{behindEntry, entryFrom};
+ghost use Rattle.entry_table.specs.Entered.{Entered, table_size};
+ghost use Rattle.text_names.specs.Bytes.{is_small};
+ghost use Rattle.text_names.specs.Entries.{behind_entry, entry_from};
 
 // What ends an entry.
 const LINE_END: usize = 10;
@@ -28,7 +28,7 @@ pub struct Noted {
 // The place behind the entry at a place.
 fn entry_end(s: &[u8], from: usize) -> usize
     requires { from < length s.now }
-    ensures { (drop result s.now ≡ behindEntry (drop from s.now)) × (result ≤ length s.now) × (from < result) }
+    ensures { (drop result s.now ≡ behind_entry (drop from s.now)) × (result ≤ length s.now) × (from < result) }
 {
     let mut i = from;
     while i < s.len() {
@@ -43,7 +43,7 @@ fn entry_end(s: &[u8], from: usize) -> usize
 // The place behind k entries, or the end.
 fn walk(s: &[u8], from: usize, k: usize) -> usize
     requires { from ≤ length s.now }
-    ensures { (drop result s.now ≡ entryFrom (drop from s.now) k) × (result ≤ length s.now) × (0 < k → from < length s.now → from < result) }
+    ensures { (drop result s.now ≡ entry_from (drop from s.now) k) × (result ≤ length s.now) × (0 < k → from < length s.now → from < result) }
 {
     let mut at = from;
     let mut left = k;
@@ -61,7 +61,7 @@ fn walk(s: &[u8], from: usize, k: usize) -> usize
 
 // Each other place of a full table.
 fn thin(table: &mut [usize])
-    requires { length table.old ≡ tableSize }
+    requires { length table.old ≡ table_size }
     ensures { ((k : ℕ) → k < 2561 → get_or table.new k 0 ≡ get_or table.old (2 * k) 0) × (length table.new ≡ length table.old) }
 {
     let mut k = 0;
@@ -80,8 +80,8 @@ fn one(holds: bool) -> usize
 
 // The places of all entries, until the table is full. Each byte might end an entry, so the place behind it is noted, and counts if it does: no branch.
 fn fill_each(table: &mut [usize], names: &[u8]) -> usize
-    requires { length table.old ≡ tableSize }
-    ensures { Entered names.now table.new 1 result × (length table.new ≡ tableSize) }
+    requires { length table.old ≡ table_size }
+    ensures { Entered names.now table.new 1 result × (length table.new ≡ table_size) }
 {
     table[0] = 0;
     let mut n = 1;
@@ -99,8 +99,8 @@ fn fill_each(table: &mut [usize], names: &[u8]) -> usize
 
 // More places behind the n that are noted, until the table is full.
 fn fill_on(table: &mut [usize], names: &[u8], every: usize, n: usize) -> usize
-    requires { Entered names.now table.old every n × (length table.old ≡ tableSize) }
-    ensures { Entered names.now table.new every result × (length table.new ≡ tableSize) }
+    requires { Entered names.now table.old every n × (length table.old ≡ table_size) }
+    ensures { Entered names.now table.new every result × (length table.new ≡ table_size) }
 {
     let mut count = n;
     let mut at = table[n - 1];
@@ -117,7 +117,7 @@ fn fill_on(table: &mut [usize], names: &[u8], every: usize, n: usize) -> usize
 
 // The places of a row's entries.
 pub fn fill(table: &mut [usize], names: &[u8]) -> Noted
-    requires { length table.old ≡ tableSize }
+    requires { length table.old ≡ table_size }
     ensures { Entered names.now table.new result.every result.count }
 {
     let mut every = 1;
@@ -153,7 +153,7 @@ fn nearest(every: usize, count: usize, k: usize) -> usize
 // The place of entry k.
 pub fn find(names: &[u8], table: &[usize], e: Noted, k: usize) -> usize
     requires { Entered names.now table.now e.every e.count }
-    ensures { (drop result names.now ≡ entryFrom names.now k) × (result ≤ length names.now) }
+    ensures { (drop result names.now ≡ entry_from names.now k) × (result ≤ length names.now) }
 {
     let q = nearest(e.every, e.count, k);
     walk(names, table[q], k - q * e.every)
@@ -161,7 +161,7 @@ pub fn find(names: &[u8], table: &[usize], e: Noted, k: usize) -> usize
 
 // The entry at a place is a lower-case name, which ends at another.
 pub fn is_name(names: &[u8], at: usize, end: usize) -> bool
-    ensures { result ≡ (isSmall (get_or names.now at 0) && eqb (get_or names.now end 0) 10) }
+    ensures { result ≡ (is_small (get_or names.now at 0) && eqb (get_or names.now end 0) 10) }
 {
     let small = text_names::is_small(place::byte_at(names, at));
     basics::and(small, place::byte_at(names, end) == LINE_END)

@@ -9,7 +9,7 @@ use native.Mathlib.Nat.{zero-add}
 use native.Mathlib.Numerals.{add-one}
 use Rattle.parlog.proofs.Rows.{build-is, halves, high_half, low_half}
 use Rattle.parlog.specs.Scan.{build}
-use Rattle.parlog.specs.Tables.{headBytes, headSize, markerLast, markerSteps, procCount, varCount}
+use Rattle.parlog.specs.Tables.{head_bytes, head_size, marker_last, marker_steps, proc_count, var_count}
 use Rattle.rows.specs.Rows.{Bytes}
 
 -- the four bytes of a number of turns give it
@@ -17,24 +17,24 @@ pub steps_back : (m : ℕ) → m % 256 + m / 256 % 256 * 256 + (m / 65536 % 256 
 steps_back m = omega arith
 
 module _ (n m last steps : ℕ) where
-  pub head-procs : procCount (headBytes n m last steps) ≡ n
-  unfolding headBytes
+  pub head-procs : proc_count (head_bytes n m last steps) ≡ n
+  unfolding head_bytes
   head-procs = halves n
 
-  pub head-vars : varCount (headBytes n m last steps) ≡ m
-  unfolding headBytes
+  pub head-vars : var_count (head_bytes n m last steps) ≡ m
+  unfolding head_bytes
   head-vars = halves m
 
-  pub head-last : markerLast (headBytes n m last steps) ≡ last
-  unfolding headBytes
+  pub head-last : marker_last (head_bytes n m last steps) ≡ last
+  unfolding head_bytes
   head-last = halves last
 
-  pub head-steps : markerSteps (headBytes n m last steps) ≡ steps
-  unfolding headBytes
+  pub head-steps : marker_steps (head_bytes n m last steps) ≡ steps
+  unfolding head_bytes
   head-steps = steps_back steps
 
-  pub head-length : length (headBytes n m last steps) ≡ headSize
-  unfolding headBytes
+  pub head-length : length (head_bytes n m last steps) ≡ head_size
+  unfolding head_bytes
   head-length = refl
 
 module _ (a b c d : ℕ) (ha : a < 256) (hb : b < 256) (hc : c < 256) (hd : d < 256) where
@@ -50,13 +50,13 @@ module _ (a b c d : ℕ) (ha : a < 256) (hb : b < 256) (hc : c < 256) (hd : d < 
   word-3 : (a + b * 256 + (c + d * 256) * 65536) / 16777216 ≡ d
   word-3 = omega arith
 
-ten : (h : List ℕ) → length h ≡ headSize → h ≡ build (λ (k : ℕ). get_or h k 0) headSize
+ten : (h : List ℕ) → length h ≡ head_size → h ≡ build (λ (k : ℕ). get_or h k 0) head_size
 ten h e = sym (rw e at (build-is (λ (k : ℕ). get_or h k 0) 0 h (λ i u. refl)))
 
 -- ten bytes are the head of their four numbers
-pub head-is : (h : List ℕ) → length h ≡ headSize → Bytes h → h ≡ headBytes (procCount h) (varCount h) (markerLast h) (markerSteps h)
-unfolding headBytes build
-head-is h len are =
+pub head_is : (h : List ℕ) → length h ≡ head_size → Bytes h → h ≡ head_bytes (proc_count h) (var_count h) (marker_last h) (marker_steps h)
+unfolding head_bytes build
+head_is h len are =
     let b : ℕ → ℕ = λ k. get_or h k 0 in
     ten h len
     ∙ rw (

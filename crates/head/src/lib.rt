@@ -1,6 +1,6 @@
 // The head of a run's tables: the counts of processes and variables, then the turn marker.
 ghost use Rattle.std.specs.Prelude.{◌≡◌, ◌+◌, ◌*◌, ◌/◌, ◌%◌, ◌≤◌, ◌<◌, length};
-ghost use Rattle.parlog.specs.Tables.{headBytes, headSize, markerLast, markerSteps, procCount, varCount};
+ghost use Rattle.parlog.specs.Tables.{head_bytes, head_size, marker_last, marker_steps, proc_count, var_count};
 
 use parlog::codes;
 
@@ -9,30 +9,30 @@ const STEPS_HIGH: usize = codes::HEAD_STEPS + 2;
 
 // The counts of used rows.
 pub fn proc_count(head: &[u8]) -> usize
-    requires { headSize ≤ length head.now }
-    ensures { (result ≡ procCount head.now) × (result ≤ 65535) }
+    requires { head_size ≤ length head.now }
+    ensures { (result ≡ proc_count head.now) × (result ≤ 65535) }
 {
     rows::get_u16(head, codes::HEAD_PROCS) as usize
 }
 
 pub fn var_count(head: &[u8]) -> usize
-    requires { headSize ≤ length head.now }
-    ensures { (result ≡ varCount head.now) × (result ≤ 65535) }
+    requires { head_size ≤ length head.now }
+    ensures { (result ≡ var_count head.now) × (result ≤ 65535) }
 {
     rows::get_u16(head, codes::HEAD_VARS) as usize
 }
 
 // The last process stepped, and the steps taken so far.
 pub fn marker_last(head: &[u8]) -> usize
-    requires { headSize ≤ length head.now }
-    ensures { (result ≡ markerLast head.now) × (result ≤ 65535) }
+    requires { head_size ≤ length head.now }
+    ensures { (result ≡ marker_last head.now) × (result ≤ 65535) }
 {
     rows::get_u16(head, codes::HEAD_LAST) as usize
 }
 
 pub fn marker_steps(head: &[u8]) -> u32
-    requires { headSize ≤ length head.now }
-    ensures { result ≡ markerSteps head.now }
+    requires { head_size ≤ length head.now }
+    ensures { result ≡ marker_steps head.now }
 {
     let a = rows::get_u16(head, codes::HEAD_STEPS);
     let b = rows::get_u16(head, STEPS_HIGH);
@@ -41,7 +41,7 @@ pub fn marker_steps(head: &[u8]) -> u32
 
 fn encode(n: usize, m: usize, last: usize, steps: u32) -> [u8; codes::HEAD_SIZE]
     requires { (n ≤ 65535) × (m ≤ 65535) × (last ≤ 65535) }
-    ensures { result ≡ headBytes n m last steps }
+    ensures { result ≡ head_bytes n m last steps }
 {
     let procs = n as u16;
     let vars = m as u16;
@@ -62,8 +62,8 @@ fn encode(n: usize, m: usize, last: usize, steps: u32) -> [u8; codes::HEAD_SIZE]
 
 // The head becomes these counts and this marker.
 pub fn put_head(head: &mut [u8], n: usize, m: usize, last: usize, steps: u32)
-    requires { (length head.old ≡ headSize) × (n ≤ 65535) × (m ≤ 65535) × (last ≤ 65535) }
-    ensures { head.new ≡ headBytes n m last steps }
+    requires { (length head.old ≡ head_size) × (n ≤ 65535) × (m ≤ 65535) × (last ≤ 65535) }
+    ensures { head.new ≡ head_bytes n m last steps }
 {
     let row = encode(n, m, last, steps);
     let mut k = 0;

@@ -7,10 +7,10 @@ use lib.ListN.{get_or, length, length-set, set}
 use lib.Seq.{get_or-set_other, get_or-set_same}
 use borrow.Author.Tests.{eqb-false, eqb-true}
 use native.Mathlib.Omega.{arith}
-use Rattle.index_fill.specs.Filling.{Kept, Placed, putClause}
+use Rattle.index_fill.specs.Filling.{Kept, Placed, put_clause}
 use Rattle.parlog.proofs.Bools.{split}
-use Rattle.parlog.specs.Records.{recordAt}
-use Rattle.program_index.specs.Indexed.{behindFrom, blocks_from, bodiesFrom, firstFrom, varsFrom}
+use Rattle.parlog.specs.Records.{record_at}
+use Rattle.program_index.specs.Indexed.{behind_from, blocks_from, bodies_from, first_from, vars_from}
 
 -- ---- what stays
 
@@ -44,17 +44,17 @@ one-changes P Q base r q ys v h f own other j l = split (eqb q j)
 
 -- ---- the places of the records
 
-pub places-more : (s : List ℕ) (k : ℕ) (ys : List ℕ) (v : ℕ) → k < length ys → v ≡ recordAt s k → v ≤ 32768 → Placed s k ys → Placed s (k + 1) (set ys k v)
+pub places-more : (s : List ℕ) (k : ℕ) (ys : List ℕ) (v : ℕ) → k < length ys → v ≡ record_at s k → v ≤ 32768 → Placed s k ys → Placed s (k + 1) (set ys k v)
 places-more s k ys v h e few f j l = split (eqb j k)
     (λ b. rw (eqb-true j k b, get_or-set_same ys k v 0 h) (e, few))
     (λ b. let ne = eqb-false j k b in rw (get_or-set_other ys k j v 0 ne) (f j (omega (arith, ne))))
 
 -- the words of a clause stand behind them
-pub places-beside : (s : List ℕ) (n : ℕ) (ix : List ℕ) (k q a b x f : ℕ) → n ≤ varsFrom → Placed s n ix → Placed s n (putClause ix k q a b x f)
+pub places-beside : (s : List ℕ) (n : ℕ) (ix : List ℕ) (k q a b x f : ℕ) → n ≤ vars_from → Placed s n ix → Placed s n (put_clause ix k q a b x f)
 places-beside s n ix k q a b x f h p j l =
-    let e = get_or-set_other (set (set (set (set ix (varsFrom + k) a) (bodiesFrom + k) b) (blocks_from + q) x) (firstFrom + q) f) (behindFrom + q) j (k + 1) 0 (λ z. omega arith)
-    ∙ get_or-set_other (set (set (set ix (varsFrom + k) a) (bodiesFrom + k) b) (blocks_from + q) x) (firstFrom + q) j f 0 (λ z. omega arith)
-    ∙ get_or-set_other (set (set ix (varsFrom + k) a) (bodiesFrom + k) b) (blocks_from + q) j x 0 (λ z. omega arith)
-    ∙ get_or-set_other (set ix (varsFrom + k) a) (bodiesFrom + k) j b 0 (λ z. omega arith)
-    ∙ get_or-set_other ix (varsFrom + k) j a 0 (λ z. omega arith) in
+    let e = get_or-set_other (set (set (set (set ix (vars_from + k) a) (bodies_from + k) b) (blocks_from + q) x) (first_from + q) f) (behind_from + q) j (k + 1) 0 (λ z. omega arith)
+    ∙ get_or-set_other (set (set (set ix (vars_from + k) a) (bodies_from + k) b) (blocks_from + q) x) (first_from + q) j f 0 (λ z. omega arith)
+    ∙ get_or-set_other (set (set ix (vars_from + k) a) (bodies_from + k) b) (blocks_from + q) j x 0 (λ z. omega arith)
+    ∙ get_or-set_other (set ix (vars_from + k) a) (bodies_from + k) j b 0 (λ z. omega arith)
+    ∙ get_or-set_other ix (vars_from + k) j a 0 (λ z. omega arith) in
     (e ∙ (p j l).0, rw e (p j l).1)

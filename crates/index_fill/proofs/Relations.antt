@@ -6,12 +6,12 @@ use Prim.Native.Nat.{◌+◌, ◌<◌, ◌≤◌, ℕ}
 use lib.Dec.{eqb}
 use borrow.Author.Tests.{eqb-false, eqb-true, ne_eqb}
 use native.Mathlib.Omega.{arith}
-use Rattle.index_fill.specs.Filling.{Blocks, First, Last, Vars, varsWord}
+use Rattle.index_fill.specs.Filling.{Blocks, First, Last, Vars, vars_word}
 use Rattle.parlog.proofs.Bools.{split}
-use Rattle.parlog.specs.Program.{clauseAt, opens, Program, program_of}
-use Rattle.parlog.specs.Records.{byte_at, recordAt}
+use Rattle.parlog.specs.Program.{clause_at, opens, Program, program_of}
+use Rattle.parlog.specs.Records.{byte_at, record_at}
 use Rattle.program_block.proofs.BlockTurns.{opens-other, opens-turn, tally-rest, tally-turn}
-use Rattle.program_block.specs.Parts.{opensBy, ownBefore}
+use Rattle.program_block.specs.Parts.{opens_by, own_before}
 use Rattle.program_clause.proofs.Fields.{all-vars, relation-some}
 use Rattle.program_clause.proofs.Modes.{modes-some}
 
@@ -20,20 +20,20 @@ one-most true n k h = omega arith
 one-most false n k h = omega arith
 
 -- clause k is of relation q
-module _ (s : List ℕ) (r c k : ℕ) (h : k < c) {at q : ℕ} (ea : at ≡ recordAt s (r + k)) (eq : q ≡ byte_at s (at + 4)) where
+module _ (s : List ℕ) (r c k : ℕ) (h : k < c) {at q : ℕ} (ea : at ≡ record_at s (r + k)) (eq : q ≡ byte_at s (at + 4)) where
   abbrev pr : Program
   pr = program_of s r c
 
-  own : q ≡ (clauseAt pr k).rel
+  own : q ≡ (clause_at pr k).rel
   own = relation-some s r c k h ea eq
 
-  other : (j : ℕ) → (q ≡ j → ⊥) → eqb (clauseAt pr k).rel j ≡ false
+  other : (j : ℕ) → (q ≡ j → ⊥) → eqb (clause_at pr k).rel j ≡ false
   other j ne = ap (λ (z : ℕ). eqb z j) (sym own) ∙ ne_eqb q j ne
 
-  pub vars-own : q < r → {rec : ℕ} → rec ≡ recordAt s q → varsWord s at rec ≤ 510 → Vars pr k (varsWord s at rec)
+  pub vars-own : q < r → {rec : ℕ} → rec ≡ record_at s q → vars_word s at rec ≤ 510 → Vars pr k (vars_word s at rec)
   vars-own hq {rec} er few = (all-vars s r c k h ea eq (byte_at s (rec + 4)) (rec + 5) (modes-some s r q hq er refl) refl refl, few)
 
-  pub blocks-own : {mark x : ℕ} {mine new : Bool} → mine ≡ ownBefore pr q k → mark ≡ byte_at s (at + 6) → new ≡ opensBy q mine mark q → Blocks pr k q x → Blocks pr (k + 1) q (cond new (x + 1) x)
+  pub blocks-own : {mark x : ℕ} {mine new : Bool} → mine ≡ own_before pr q k → mark ≡ byte_at s (at + 6) → new ≡ opens_by q mine mark q → Blocks pr k q x → Blocks pr (k + 1) q (cond new (x + 1) x)
   blocks-own {x = x} {new = new} em ek en old =
       let o = opens-turn s r c k h ea eq q ek em en in
       (tally-turn (opens pr q) k o old.0 refl, one-most new x k old.1)

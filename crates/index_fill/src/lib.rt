@@ -1,8 +1,8 @@
 // The filling of the index, record by record, as the load passes them.
 ghost use Rattle.std.specs.Prelude.{◌≡◌, cond, ◌+◌, ◌≤◌, ◌<◌, ℕ, eqb, get_or, length};
 ghost use Rattle.parlog.specs.Records.{byte_at};
-ghost use Rattle.program_index.specs.Indexed.{blocks_from, indexSize};
-ghost use Rattle.index_fill.specs.Filling.{Fits, Kept, noteClause, noted, putClause, varsWord};
+ghost use Rattle.program_index.specs.Indexed.{blocks_from, index_size};
+ghost use Rattle.index_fill.specs.Filling.{Fits, Kept, note_clause, noted, put_clause, vars_word};
 
 use parlog::{Progress, codes};
 
@@ -11,8 +11,8 @@ const RELATION_WORDS: usize = 96;
 
 // Nothing is known of the relations yet.
 pub fn clear(ix: &mut [u16; program_index::SIZE])
-    requires { length ix.old ≡ indexSize }
-    ensures { ((k : ℕ) → k < 96 → get_or ix.new (blocks_from + k) 0 ≡ 0) × Kept blocks_from indexSize ix.old ix.new }
+    requires { length ix.old ≡ index_size }
+    ensures { ((k : ℕ) → k < 96 → get_or ix.new (blocks_from + k) 0 ≡ 0) × Kept blocks_from index_size ix.old ix.new }
 {
     let mut k = 0;
     while k < RELATION_WORDS {
@@ -26,7 +26,7 @@ pub fn clear(ix: &mut [u16; program_index::SIZE])
 // Its new variables: its own, and one for each output argument of its relation, whose record is given too.
 fn vars_of(s: &[u8], at: usize, rec: usize) -> usize
     requires { (at ≤ 32768) × (rec ≤ 65535) }
-    ensures { (result ≡ varsWord s.now at rec) × (result ≤ 510) }
+    ensures { (result ≡ vars_word s.now at rec) × (result ≤ 510) }
 {
     let n = place::byte_at(s, rec + codes::RELATION_ARITY);
     let outs = program_clause::outs_of(s, n, rec + codes::RELATION_MODES, 0);
@@ -52,8 +52,8 @@ fn put_clause(
     blocks: usize,
     first: usize,
 )
-    requires { (length ix.old ≡ indexSize) × (k < 64) × (q < 32) × (vars ≤ 65535) × (body ≤ 65535) × (blocks ≤ 65535) × (first ≤ 65535) }
-    ensures { ix.new ≡ putClause ix.old k q vars body blocks first }
+    requires { (length ix.old ≡ index_size) × (k < 64) × (q < 32) × (vars ≤ 65535) × (body ≤ 65535) × (blocks ≤ 65535) × (first ≤ 65535) }
+    ensures { ix.new ≡ put_clause ix.old k q vars body blocks first }
 {
     ix[program_index::VARS + k] = vars as u16;
     ix[program_index::BODIES + k] = body as u16;
@@ -65,7 +65,7 @@ fn put_clause(
 // The clause at a place, with what was known before it and where its body begins.
 fn note_clause(s: &[u8], g: Progress, at: usize, body: usize, ix: &mut [u16; program_index::SIZE])
     requires { Fits s.now g at body ix.old }
-    ensures { (ix.new ≡ noteClause s.now g at body ix.old) × (varsWord s.now at (get_or ix.old (byte_at s.now (at + 4)) 0) ≤ 510) }
+    ensures { (ix.new ≡ note_clause s.now g at body ix.old) × (vars_word s.now at (get_or ix.old (byte_at s.now (at + 4)) 0) ≤ 510) }
 {
     let q = place::byte_at(s, at + codes::CLAUSE_RELATION);
     let mark = place::byte_at(s, at + codes::CLAUSE_MARK);
@@ -93,7 +93,7 @@ pub fn note(
     ix: &mut [u16; program_index::SIZE],
 )
     requires { kind ≡ 2 → Fits s.now g at body ix.old }
-    ensures { (ix.new ≡ noted kind s.now g at body ix.old) × (kind ≡ 2 → varsWord s.now at (get_or ix.old (byte_at s.now (at + 4)) 0) ≤ 510) }
+    ensures { (ix.new ≡ noted kind s.now g at body ix.old) × (kind ≡ 2 → vars_word s.now at (get_or ix.old (byte_at s.now (at + 4)) 0) ≤ 510) }
 {
     if kind == codes::CLAUSE_KIND {
         note_clause(s, g, at, body, ix);

@@ -9,11 +9,11 @@ use borrow.Author.Tests.{le-ltb}
 use native.Mathlib.Omega.{arith}
 use Rattle.judge_image.proofs.Counts.{more-clauses, more-relations}
 use Rattle.judge_image.proofs.Whole.{ask-here, ask-known, ask-sized, clause-here, clause-known, clause-mark, clause-rel, clause-sized, relation-sized, verdict-told}
-use Rattle.judge_image.specs.Judged.{askJudged, askSized, clauseJudged, clauseKnown, clauseSized, clausesJudged, goalKnown, judged, progressOf, relationJudged, relationSized, relationsJudged, taken}
-use Rattle.parlog.specs.Body.{bodyRight}
+use Rattle.judge_image.specs.Judged.{ask_judged, ask_sized, clause_judged, clause_known, clause_sized, clauses_judged, goal_known, judged, progress_of, relation_judged, relation_sized, relations_judged, taken}
+use Rattle.parlog.specs.Body.{body_right}
 use Rattle.parlog.specs.Image.{byte_at}
-use Rattle.parlog.specs.Load.{after, blockWith, broken, kindFault, loadEnd, nothingRead, refuseIf, tooMany}
-use Rattle.parlog.specs.Names.{namesRight}
+use Rattle.parlog.specs.Load.{after, block_with, broken, kind_fault, load_end, nothing_read, refuse_if, too_many}
+use Rattle.parlog.specs.Names.{names_right}
 use Rattle.parlog.specs.Program.{Clause, Goal, Program}
 use Rattle.parlog.specs.Records.{walk}
 use Rattle.parlog.specs.declared.Loaded.{Loaded}
@@ -23,200 +23,200 @@ use Rattle.parlog.specs.declared.Verdict.TheVariants.{Goes, Refuses}
 use Rattle.text_names.specs.Names.{Name}
 use Rattle.text_program.proofs.Fields.{record-end, record-inside, record-kind, record-length, record-whole}
 use Rattle.text_program.proofs.Here.{skip_by}
-use Rattle.text_program.specs.Encoded.{askBytes, clauseBytes, goalBytes, programBytes, recordBytes, relationBytes, termBytes}
+use Rattle.text_program.specs.Encoded.{ask_bytes, clause_bytes, goal_bytes, program_bytes, record_bytes, relation_bytes, term_bytes}
 use Rattle.text_program.specs.Numbered.{joined}
-use Rattle.text_program.specs.Parsing.{onceBy, recordsIn, repeated, textVerdict}
+use Rattle.text_program.specs.Parsing.{once_by, records_in, repeated, text_verdict}
 
 -- ---- what follows a record
 
 module _ (f h : Progress → Loaded) (at : ℕ) where
-  refuse-ext : (b : Bool) (n : ℕ) (v : Verdict) → after f at v ≡ after h at v → after f at (refuseIf b n v) ≡ after h at (refuseIf b n v)
+  refuse-ext : (b : Bool) (n : ℕ) (v : Verdict) → after f at v ≡ after h at v → after f at (refuse_if b n v) ≡ after h at (refuse_if b n v)
   refuse-ext true n v e = refl
   refuse-ext false n v e = e
 
-  once-ext : (b : Bool) (v : Verdict) → after f at v ≡ after h at v → after f at (onceBy b v) ≡ after h at (onceBy b v)
+  once-ext : (b : Bool) (v : Verdict) → after f at v ≡ after h at v → after f at (once_by b v) ≡ after h at (once_by b v)
   once-ext b (Refuses n) e = refl
   once-ext true (Goes g) e = refl
   once-ext false (Goes g) e = e
 
-  judged-ext : (g : Progress) (kind : ℕ) (sized known : Bool) (r mark : ℕ) → f (progressOf g kind r mark) ≡ h (progressOf g kind r mark) → after f at (judged g kind sized known r mark) ≡ after h at (judged g kind sized known r mark)
+  judged-ext : (g : Progress) (kind : ℕ) (sized known : Bool) (r mark : ℕ) → f (progress_of g kind r mark) ≡ h (progress_of g kind r mark) → after f at (judged g kind sized known r mark) ≡ after h at (judged g kind sized known r mark)
   unfolding judged
   judged-ext g kind sized known r mark e =
-      refuse-ext (kindFault g kind) 3 _ (refuse-ext (tooMany g kind) 6 _ (refuse-ext (not sized) 4 _ (refuse-ext (not known) 5 _ (refuse-ext (eqb kind 2 && ltb 8 (blockWith g r mark)) 6 _ e))))
+      refuse-ext (kind_fault g kind) 3 _ (refuse-ext (too_many g kind) 6 _ (refuse-ext (not sized) 4 _ (refuse-ext (not known) 5 _ (refuse-ext (eqb kind 2 && ltb 8 (block_with g r mark)) 6 _ e))))
 
 -- the tests of a record that is no clause do not read a relation or a mark
 judged-relation : (g : Progress) (sized known : Bool) (r mark k l : ℕ) → judged g 1 sized known r mark ≡ judged g 1 sized known k l
-unfolding judged progressOf
+unfolding judged progress_of
 judged-relation g sized known r mark k l = refl
 
 judged-ask : (g : Progress) (sized known : Bool) (r mark k l : ℕ) → judged g 3 sized known r mark ≡ judged g 3 sized known k l
-unfolding judged progressOf
+unfolding judged progress_of
 judged-ask g sized known r mark k l = refl
 
 -- what stands in a clause's record
 abbrev inside : Clause → List ℕ
-inside c = c.rel ∷ length c.head ∷ c.mark ∷ c.vars ∷ (joined termBytes c.head ++ (goalBytes c.guard ++ goalBytes c.body))
+inside c = c.rel ∷ length c.head ∷ c.mark ∷ c.vars ∷ (joined term_bytes c.head ++ (goal_bytes c.guard ++ goal_bytes c.body))
 
 -- no second mode line
-once-same : (v : Verdict) → onceBy false v ≡ v
+once-same : (v : Verdict) → once_by false v ≡ v
 once-same (Refuses n) = refl
 once-same (Goes g) = refl
 
 module _ (names : List Name) (s : List ℕ) where
   -- one record and those behind it
   abbrev one : (Progress → Loaded) → ℕ → Progress → Loaded
-  one rest at g = after rest at (textVerdict names s g at)
+  one rest at g = after rest at (text_verdict names s g at)
 
   abbrev go : ℕ → ℕ → Progress → Loaded
-  go n at g = walk s broken one (loadEnd s) n at g
+  go n at g = walk s broken one (load_end s) n at g
 
-  walk-one : (kind : ℕ) (body : List ℕ) (n at : ℕ) (r : List ℕ) (g : Progress) → drop at s ≡ recordBytes kind body ++ r → go (suc n) at g ≡ one (go n (at + length (recordBytes kind body))) at g
+  walk-one : (kind : ℕ) (body : List ℕ) (n at : ℕ) (r : List ℕ) (g : Progress) → drop at s ≡ record_bytes kind body ++ r → go (suc n) at g ≡ one (go n (at + length (record_bytes kind body))) at g
   unfolding walk
   walk-one kind body n at r g e = rw (record-inside s kind body at r e, record-whole s kind body at r e, record-end s kind body at r e)
 
-  fuel-some : (kind : ℕ) (body : List ℕ) (n at : ℕ) (r : List ℕ) → drop at s ≡ recordBytes kind body ++ r → length (drop at s) ≤ n → 0 < n
-  fuel-some kind body n at r e h = let a = ap (λ (l : List ℕ). length l) e in let b = length-append (recordBytes kind body) r in let c = record-length kind body in omega arith
+  fuel-some : (kind : ℕ) (body : List ℕ) (n at : ℕ) (r : List ℕ) → drop at s ≡ record_bytes kind body ++ r → length (drop at s) ≤ n → 0 < n
+  fuel-some kind body n at r e h = let a = ap (λ (l : List ℕ). length l) e in let b = length-append (record_bytes kind body) r in let c = record-length kind body in omega arith
 
-  fuel-left : (kind : ℕ) (body : List ℕ) (n at : ℕ) (r : List ℕ) → drop at s ≡ recordBytes kind body ++ r → length (drop at s) ≤ suc n → length (drop (at + length (recordBytes kind body)) s) ≤ n
+  fuel-left : (kind : ℕ) (body : List ℕ) (n at : ℕ) (r : List ℕ) → drop at s ≡ record_bytes kind body ++ r → length (drop at s) ≤ suc n → length (drop (at + length (record_bytes kind body)) s) ≤ n
   fuel-left kind body n at r e h =
       let a = ap (λ (l : List ℕ). length l) e in
-      let b = length-append (recordBytes kind body) r in
+      let b = length-append (record_bytes kind body) r in
       let c = record-length kind body in
-      let d = ap (λ (l : List ℕ). length l) (skip_by s at (recordBytes kind body) r e) in
+      let d = ap (λ (l : List ℕ). length l) (skip_by s at (record_bytes kind body) r e) in
       omega arith
 
   -- ---- relations
 
-  relation-told : (g : Progress) (at : ℕ) (ms r : List ℕ) → drop at s ≡ relationBytes ms ++ r → textVerdict names s g at ≡ relationJudged names g ms
-  unfolding textVerdict relationJudged relationBytes bodyRight namesRight
+  relation-told : (g : Progress) (at : ℕ) (ms r : List ℕ) → drop at s ≡ relation_bytes ms ++ r → text_verdict names s g at ≡ relation_judged names g ms
+  unfolding text_verdict relation_judged relation_bytes body_right names_right
   relation-told g at ms r e =
       let k = record-kind s 1 (length ms ∷ ms) at r e in
-      let v = verdict-told s g at 1 (relationSized ms) true k (relation-sized s ms at r e) refl in
-      rw (k, v) (ap (onceBy (repeated names g.relations)) (judged-relation g (relationSized ms) true (byte_at s (at + 4)) (byte_at s (at + 6)) 0 0))
+      let v = verdict-told s g at 1 (relation_sized ms) true k (relation-sized s ms at r e) refl in
+      rw (k, v) (ap (once_by (repeated names g.relations)) (judged-relation g (relation_sized ms) true (byte_at s (at + 4)) (byte_at s (at + 6)) 0 0))
 
-  walk-relation : (m : List ℕ) (n at : ℕ) (r : List ℕ) (g : Progress) → drop at s ≡ relationBytes m ++ r → go (suc n) at g ≡ after (go n (at + length (relationBytes m))) at (relationJudged names g m)
-  unfolding relationBytes
-  walk-relation m n at r g e = walk-one 1 (length m ∷ m) n at r g e ∙ ap (after (go n (at + length (recordBytes 1 (length m ∷ m)))) at) (relation-told g at m r e)
+  walk-relation : (m : List ℕ) (n at : ℕ) (r : List ℕ) (g : Progress) → drop at s ≡ relation_bytes m ++ r → go (suc n) at g ≡ after (go n (at + length (relation_bytes m))) at (relation_judged names g m)
+  unfolding relation_bytes
+  walk-relation m n at r g e = walk-one 1 (length m ∷ m) n at r g e ∙ ap (after (go n (at + length (record_bytes 1 (length m ∷ m)))) at) (relation-told g at m r e)
 
-  relation-fuel : (m : List ℕ) (n at : ℕ) (r : List ℕ) → drop at s ≡ relationBytes m ++ r → length (drop at s) ≤ n → 0 < n
-  unfolding relationBytes
+  relation-fuel : (m : List ℕ) (n at : ℕ) (r : List ℕ) → drop at s ≡ relation_bytes m ++ r → length (drop at s) ≤ n → 0 < n
+  unfolding relation_bytes
   relation-fuel m n at r e h = fuel-some 1 (length m ∷ m) n at r e h
 
-  relation-left : (m : List ℕ) (n at : ℕ) (r : List ℕ) → drop at s ≡ relationBytes m ++ r → length (drop at s) ≤ suc n → length (drop (at + length (relationBytes m)) s) ≤ n
-  unfolding relationBytes
+  relation-left : (m : List ℕ) (n at : ℕ) (r : List ℕ) → drop at s ≡ relation_bytes m ++ r → length (drop at s) ≤ suc n → length (drop (at + length (relation_bytes m)) s) ≤ n
+  unfolding relation_bytes
   relation-left m n at r e h = fuel-left 1 (length m ∷ m) n at r e h
 
-  relation-ext : (f h : Progress → Loaded) (at : ℕ) (g : Progress) (m : List ℕ) → f (progressOf g 1 0 0) ≡ h (progressOf g 1 0 0) → after f at (relationJudged names g m) ≡ after h at (relationJudged names g m)
-  unfolding relationJudged
-  relation-ext f h at g m e = once-ext f h at (repeated names g.relations) (judged g 1 (relationSized m) true 0 0) (judged-ext f h at g 1 (relationSized m) true 0 0 e)
+  relation-ext : (f h : Progress → Loaded) (at : ℕ) (g : Progress) (m : List ℕ) → f (progress_of g 1 0 0) ≡ h (progress_of g 1 0 0) → after f at (relation_judged names g m) ≡ after h at (relation_judged names g m)
+  unfolding relation_judged
+  relation-ext f h at g m e = once-ext f h at (repeated names g.relations) (judged g 1 (relation_sized m) true 0 0) (judged-ext f h at g 1 (relation_sized m) true 0 0 e)
 
   relations-walked : (then : ℕ → Progress → Loaded) (all : ℕ) (tail : List ℕ) → ((n at : ℕ) (g : Progress) → drop at s ≡ tail → length (drop at s) ≤ n → g.relations ≡ all → go n at g ≡ then at g) →
-      (ms : List (List ℕ)) (n at : ℕ) (g : Progress) → drop at s ≡ joined relationBytes ms ++ tail → length (drop at s) ≤ n → g.relations + length ms ≡ all → go n at g ≡ relationsJudged names then ms at g
-  unfolding relationsJudged joined
+      (ms : List (List ℕ)) (n at : ℕ) (g : Progress) → drop at s ≡ joined relation_bytes ms ++ tail → length (drop at s) ≤ n → g.relations + length ms ≡ all → go n at g ≡ relations_judged names then ms at g
+  unfolding relations_judged joined
   relations-walked then all tail k [] n at g e h c = k n at g e h (omega arith)
   relations-walked then all tail k (m ∷ ms) zero at g e h c =
-      absurd (let z = relation-fuel m zero at (joined relationBytes ms ++ tail) (e ∙ append_assoc (relationBytes m) (joined relationBytes ms) tail) h in omega arith)
+      absurd (let z = relation-fuel m zero at (joined relation_bytes ms ++ tail) (e ∙ append_assoc (relation_bytes m) (joined relation_bytes ms) tail) h in omega arith)
   relations-walked then all tail k (m ∷ ms) (suc n) at g e h c =
-      let d = e ∙ append_assoc (relationBytes m) (joined relationBytes ms) tail in
+      let d = e ∙ append_assoc (relation_bytes m) (joined relation_bytes ms) tail in
       let w = (more-relations g).0 in
-      walk-relation m n at (joined relationBytes ms ++ tail) g d
-      ∙ relation-ext (go n (at + length (relationBytes m))) (relationsJudged names then ms (at + length (relationBytes m))) at g m
-      (relations-walked then all tail k ms n (at + length (relationBytes m)) (progressOf g 1 0 0) (skip_by s at (relationBytes m) (joined relationBytes ms ++ tail) d)
-      (relation-left m n at (joined relationBytes ms ++ tail) d h) (omega arith))
+      walk-relation m n at (joined relation_bytes ms ++ tail) g d
+      ∙ relation-ext (go n (at + length (relation_bytes m))) (relations_judged names then ms (at + length (relation_bytes m))) at g m
+      (relations-walked then all tail k ms n (at + length (relation_bytes m)) (progress_of g 1 0 0) (skip_by s at (relation_bytes m) (joined relation_bytes ms ++ tail) d)
+      (relation-left m n at (joined relation_bytes ms ++ tail) d h) (omega arith))
 
   -- ---- clauses
 
-  module _ (rels : List (List ℕ)) (back : List ℕ) (image : s ≡ joined relationBytes rels ++ back) where
-    clause-told : (g : Progress) (at : ℕ) (c : Clause) (r : List ℕ) → g.relations ≡ length rels → drop at s ≡ clauseBytes c ++ r → textVerdict names s g at ≡ clauseJudged rels g c
-    unfolding textVerdict clauseJudged bodyRight namesRight
+  module _ (rels : List (List ℕ)) (back : List ℕ) (image : s ≡ joined relation_bytes rels ++ back) where
+    clause-told : (g : Progress) (at : ℕ) (c : Clause) (r : List ℕ) → g.relations ≡ length rels → drop at s ≡ clause_bytes c ++ r → text_verdict names s g at ≡ clause_judged rels g c
+    unfolding text_verdict clause_judged body_right names_right
     clause-told g at c r count e =
         let k = record-kind s 2 _ at r (clause-here s c at r e) in
-        let v = verdict-told s g at 2 (clauseSized c) (clauseKnown rels g c) k (clause-sized s c at r e) (clause-known s c at r e rels back image g count) in
-        rw (k, v, clause-rel s c at r e, clause-mark s c at r e) (once-same (judged g 2 (clauseSized c) (clauseKnown rels g c) c.rel c.mark))
+        let v = verdict-told s g at 2 (clause_sized c) (clause_known rels g c) k (clause-sized s c at r e) (clause-known s c at r e rels back image g count) in
+        rw (k, v, clause-rel s c at r e, clause-mark s c at r e) (once-same (judged g 2 (clause_sized c) (clause_known rels g c) c.rel c.mark))
 
-    walk-clause : (c : Clause) (n at : ℕ) (r : List ℕ) (g : Progress) → g.relations ≡ length rels → drop at s ≡ clauseBytes c ++ r → go (suc n) at g ≡ after (go n (at + length (clauseBytes c))) at (clauseJudged rels g c)
-    unfolding clauseBytes
-    walk-clause c n at r g count e = walk-one 2 (inside c) n at r g e ∙ ap (after (go n (at + length (recordBytes 2 (inside c)))) at) (clause-told g at c r count e)
+    walk-clause : (c : Clause) (n at : ℕ) (r : List ℕ) (g : Progress) → g.relations ≡ length rels → drop at s ≡ clause_bytes c ++ r → go (suc n) at g ≡ after (go n (at + length (clause_bytes c))) at (clause_judged rels g c)
+    unfolding clause_bytes
+    walk-clause c n at r g count e = walk-one 2 (inside c) n at r g e ∙ ap (after (go n (at + length (record_bytes 2 (inside c)))) at) (clause-told g at c r count e)
 
-    clause-fuel : (c : Clause) (n at : ℕ) (r : List ℕ) → drop at s ≡ clauseBytes c ++ r → length (drop at s) ≤ n → 0 < n
-    unfolding clauseBytes
+    clause-fuel : (c : Clause) (n at : ℕ) (r : List ℕ) → drop at s ≡ clause_bytes c ++ r → length (drop at s) ≤ n → 0 < n
+    unfolding clause_bytes
     clause-fuel c n at r e h = fuel-some 2 (inside c) n at r e h
 
-    clause-left : (c : Clause) (n at : ℕ) (r : List ℕ) → drop at s ≡ clauseBytes c ++ r → length (drop at s) ≤ suc n → length (drop (at + length (clauseBytes c)) s) ≤ n
-    unfolding clauseBytes
+    clause-left : (c : Clause) (n at : ℕ) (r : List ℕ) → drop at s ≡ clause_bytes c ++ r → length (drop at s) ≤ suc n → length (drop (at + length (clause_bytes c)) s) ≤ n
+    unfolding clause_bytes
     clause-left c n at r e h = fuel-left 2 (inside c) n at r e h
 
-    clause-ext : (f h : Progress → Loaded) (at : ℕ) (g : Progress) (c : Clause) → f (progressOf g 2 c.rel c.mark) ≡ h (progressOf g 2 c.rel c.mark) → after f at (clauseJudged rels g c) ≡ after h at (clauseJudged rels g c)
-    unfolding clauseJudged
-    clause-ext f h at g c e = judged-ext f h at g 2 (clauseSized c) (clauseKnown rels g c) c.rel c.mark e
+    clause-ext : (f h : Progress → Loaded) (at : ℕ) (g : Progress) (c : Clause) → f (progress_of g 2 c.rel c.mark) ≡ h (progress_of g 2 c.rel c.mark) → after f at (clause_judged rels g c) ≡ after h at (clause_judged rels g c)
+    unfolding clause_judged
+    clause-ext f h at g c e = judged-ext f h at g 2 (clause_sized c) (clause_known rels g c) c.rel c.mark e
 
     clauses-walked : (then : ℕ → Progress → Loaded) (tail : List ℕ) → ((n at : ℕ) (g : Progress) → drop at s ≡ tail → length (drop at s) ≤ n → g.relations ≡ length rels → go n at g ≡ then at g) →
-        (cs : List Clause) (n at : ℕ) (g : Progress) → drop at s ≡ joined clauseBytes cs ++ tail → length (drop at s) ≤ n → g.relations ≡ length rels → go n at g ≡ clausesJudged rels then cs at g
-    unfolding clausesJudged joined
+        (cs : List Clause) (n at : ℕ) (g : Progress) → drop at s ≡ joined clause_bytes cs ++ tail → length (drop at s) ≤ n → g.relations ≡ length rels → go n at g ≡ clauses_judged rels then cs at g
+    unfolding clauses_judged joined
     clauses-walked then tail k [] n at g e h c = k n at g e h c
     clauses-walked then tail k (x ∷ cs) zero at g e h c =
-        absurd (let z = clause-fuel x zero at (joined clauseBytes cs ++ tail) (e ∙ append_assoc (clauseBytes x) (joined clauseBytes cs) tail) h in omega arith)
+        absurd (let z = clause-fuel x zero at (joined clause_bytes cs ++ tail) (e ∙ append_assoc (clause_bytes x) (joined clause_bytes cs) tail) h in omega arith)
     clauses-walked then tail k (x ∷ cs) (suc n) at g e h c =
-        let d = e ∙ append_assoc (clauseBytes x) (joined clauseBytes cs) tail in
-        walk-clause x n at (joined clauseBytes cs ++ tail) g c d
-        ∙ clause-ext (go n (at + length (clauseBytes x))) (clausesJudged rels then cs (at + length (clauseBytes x))) at g x
-        (clauses-walked then tail k cs n (at + length (clauseBytes x)) (progressOf g 2 x.rel x.mark) (skip_by s at (clauseBytes x) (joined clauseBytes cs ++ tail) d)
-        (clause-left x n at (joined clauseBytes cs ++ tail) d h) ((more-clauses g x.rel x.mark).2 ∙ c))
+        let d = e ∙ append_assoc (clause_bytes x) (joined clause_bytes cs) tail in
+        walk-clause x n at (joined clause_bytes cs ++ tail) g c d
+        ∙ clause-ext (go n (at + length (clause_bytes x))) (clauses_judged rels then cs (at + length (clause_bytes x))) at g x
+        (clauses-walked then tail k cs n (at + length (clause_bytes x)) (progress_of g 2 x.rel x.mark) (skip_by s at (clause_bytes x) (joined clause_bytes cs ++ tail) d)
+        (clause-left x n at (joined clause_bytes cs ++ tail) d h) ((more-clauses g x.rel x.mark).2 ∙ c))
 
-    ask-told : (g : Progress) (at n : ℕ) (q : Goal) (r : List ℕ) → g.relations ≡ length rels → drop at s ≡ askBytes n q ++ r → textVerdict names s g at ≡ askJudged rels g n q
-    unfolding textVerdict askJudged bodyRight namesRight
+    ask-told : (g : Progress) (at n : ℕ) (q : Goal) (r : List ℕ) → g.relations ≡ length rels → drop at s ≡ ask_bytes n q ++ r → text_verdict names s g at ≡ ask_judged rels g n q
+    unfolding text_verdict ask_judged body_right names_right
     ask-told g at n q r count e =
         let k = record-kind s 3 _ at r (ask-here s n q at r e) in
-        let v = verdict-told s g at 3 (askSized n q) (goalKnown rels n q) k (ask-sized s n q at r e) (ask-known s n q at r e rels back image g.relations count) in
-        rw (k, v) (once-same (judged g 3 (askSized n q) (goalKnown rels n q) (byte_at s (at + 4)) (byte_at s (at + 6))) ∙ judged-ask g (askSized n q) (goalKnown rels n q) (byte_at s (at + 4)) (byte_at s (at + 6)) 0 0)
+        let v = verdict-told s g at 3 (ask_sized n q) (goal_known rels n q) k (ask-sized s n q at r e) (ask-known s n q at r e rels back image g.relations count) in
+        rw (k, v) (once-same (judged g 3 (ask_sized n q) (goal_known rels n q) (byte_at s (at + 4)) (byte_at s (at + 6))) ∙ judged-ask g (ask_sized n q) (goal_known rels n q) (byte_at s (at + 4)) (byte_at s (at + 6)) 0 0)
 
     -- ---- the goal
 
-    walk-ask : (v : ℕ) (q : Goal) (n at : ℕ) (g : Progress) → drop at s ≡ askBytes v q ++ [] → go (suc n) at g ≡ one (go n (at + length (askBytes v q))) at g
-    unfolding askBytes
-    walk-ask v q n at g e = walk-one 3 (v ∷ goalBytes q) n at [] g e
+    walk-ask : (v : ℕ) (q : Goal) (n at : ℕ) (g : Progress) → drop at s ≡ ask_bytes v q ++ [] → go (suc n) at g ≡ one (go n (at + length (ask_bytes v q))) at g
+    unfolding ask_bytes
+    walk-ask v q n at g e = walk-one 3 (v ∷ goal_bytes q) n at [] g e
 
-    ask-past : (v : ℕ) (q : Goal) (at : ℕ) → drop at s ≡ askBytes v q ++ [] → length s ≤ at + length (askBytes v q)
+    ask-past : (v : ℕ) (q : Goal) (at : ℕ) → drop at s ≡ ask_bytes v q ++ [] → length s ≤ at + length (ask_bytes v q)
     ask-past v q at e =
         let a = ap (λ (l : List ℕ). length l) e in
-        let b = length-append (askBytes v q) [] in
+        let b = length-append (ask_bytes v q) [] in
         let d = length-drop at s in
         omega arith
 
-    at-end : (n at : ℕ) (g : Progress) → length s ≤ at → go n at g ≡ loadEnd s g
+    at-end : (n at : ℕ) (g : Progress) → length s ≤ at → go n at g ≡ load_end s g
     unfolding walk
     at-end zero at g h = refl
     at-end (suc n) at g h = rw (le-ltb at (length s) h)
 
-    ask-end : (g : Progress) → loadEnd s (progressOf g 3 0 0) ≡ taken (progressOf g 3 0 0)
-    unfolding progressOf
+    ask-end : (g : Progress) → load_end s (progress_of g 3 0 0) ≡ taken (progress_of g 3 0 0)
+    unfolding progress_of
     ask-end g = refl
 
-    ask-ext : (f h : Progress → Loaded) (at : ℕ) (g : Progress) (n : ℕ) (q : Goal) → f (progressOf g 3 0 0) ≡ h (progressOf g 3 0 0) → after f at (askJudged rels g n q) ≡ after h at (askJudged rels g n q)
-    unfolding askJudged
-    ask-ext f h at g n q e = judged-ext f h at g 3 (askSized n q) (goalKnown rels n q) 0 0 e
+    ask-ext : (f h : Progress → Loaded) (at : ℕ) (g : Progress) (n : ℕ) (q : Goal) → f (progress_of g 3 0 0) ≡ h (progress_of g 3 0 0) → after f at (ask_judged rels g n q) ≡ after h at (ask_judged rels g n q)
+    unfolding ask_judged
+    ask-ext f h at g n q e = judged-ext f h at g 3 (ask_sized n q) (goal_known rels n q) 0 0 e
 
-    ask-fuel : (v : ℕ) (q : Goal) (n at : ℕ) → drop at s ≡ askBytes v q ++ [] → length (drop at s) ≤ n → 0 < n
-    unfolding askBytes
-    ask-fuel v q n at e h = fuel-some 3 (v ∷ goalBytes q) n at [] e h
+    ask-fuel : (v : ℕ) (q : Goal) (n at : ℕ) → drop at s ≡ ask_bytes v q ++ [] → length (drop at s) ≤ n → 0 < n
+    unfolding ask_bytes
+    ask-fuel v q n at e h = fuel-some 3 (v ∷ goal_bytes q) n at [] e h
 
-    ask-walked : (v : ℕ) (q : Goal) (n at : ℕ) (g : Progress) → drop at s ≡ askBytes v q → length (drop at s) ≤ n → g.relations ≡ length rels → go n at g ≡ after taken at (askJudged rels g v q)
-    ask-walked v q zero at g e h c = absurd (let z = ask-fuel v q zero at (e ∙ sym (append-nil (askBytes v q))) h in omega arith)
-    ask-walked v q (suc n) at g e h c = ask-last v q n at g (e ∙ sym (append-nil (askBytes v q))) c
+    ask-walked : (v : ℕ) (q : Goal) (n at : ℕ) (g : Progress) → drop at s ≡ ask_bytes v q → length (drop at s) ≤ n → g.relations ≡ length rels → go n at g ≡ after taken at (ask_judged rels g v q)
+    ask-walked v q zero at g e h c = absurd (let z = ask-fuel v q zero at (e ∙ sym (append-nil (ask_bytes v q))) h in omega arith)
+    ask-walked v q (suc n) at g e h c = ask-last v q n at g (e ∙ sym (append-nil (ask_bytes v q))) c
       where
-        ask-last : (v : ℕ) (q : Goal) (n at : ℕ) (g : Progress) → drop at s ≡ askBytes v q ++ [] → g.relations ≡ length rels → go (suc n) at g ≡ after taken at (askJudged rels g v q)
+        ask-last : (v : ℕ) (q : Goal) (n at : ℕ) (g : Progress) → drop at s ≡ ask_bytes v q ++ [] → g.relations ≡ length rels → go (suc n) at g ≡ after taken at (ask_judged rels g v q)
         ask-last v q n at g e c =
-            walk-ask v q n at g e ∙ ap (after (go n (at + length (askBytes v q))) at) (ask-told g at v q [] c e)
-            ∙ ask-ext (go n (at + length (askBytes v q))) taken at g v q (at-end n (at + length (askBytes v q)) (progressOf g 3 0 0) (ask-past v q at e) ∙ ask-end g)
+            walk-ask v q n at g e ∙ ap (after (go n (at + length (ask_bytes v q))) at) (ask-told g at v q [] c e)
+            ∙ ask-ext (go n (at + length (ask_bytes v q))) taken at g v q (at-end n (at + length (ask_bytes v q)) (progress_of g 3 0 0) (ask-past v q at e) ∙ ask-end g)
 
 -- THE LAW
 pub records-judged : (names : List Name) (pr : Program) →
-    recordsIn names (programBytes pr) ≡ relationsJudged names (clausesJudged pr.relations (λ at g. after taken at (askJudged pr.relations g pr.goalVars pr.goal)) pr.clauses) pr.relations 0 nothingRead
-unfolding recordsIn programBytes
+    records_in names (program_bytes pr) ≡ relations_judged names (clauses_judged pr.relations (λ at g. after taken at (ask_judged pr.relations g pr.goal_vars pr.goal)) pr.clauses) pr.relations 0 nothing_read
+unfolding records_in program_bytes
 records-judged names pr =
-    let back = joined clauseBytes pr.clauses ++ askBytes pr.goalVars pr.goal in
-    let s = joined relationBytes pr.relations ++ back in
-    relations-walked names s (clausesJudged pr.relations (λ at g. after taken at (askJudged pr.relations g pr.goalVars pr.goal)) pr.clauses) (length pr.relations) back
-    (λ n at g e h c. clauses-walked names s pr.relations back refl (λ at g. after taken at (askJudged pr.relations g pr.goalVars pr.goal)) (askBytes pr.goalVars pr.goal)
-    (λ n at g e h c. ask-walked names s pr.relations back refl pr.goalVars pr.goal n at g e h c) pr.clauses n at g e h c)
-    pr.relations (length s) 0 nothingRead refl (omega arith) (omega arith)
+    let back = joined clause_bytes pr.clauses ++ ask_bytes pr.goal_vars pr.goal in
+    let s = joined relation_bytes pr.relations ++ back in
+    relations-walked names s (clauses_judged pr.relations (λ at g. after taken at (ask_judged pr.relations g pr.goal_vars pr.goal)) pr.clauses) (length pr.relations) back
+    (λ n at g e h c. clauses-walked names s pr.relations back refl (λ at g. after taken at (ask_judged pr.relations g pr.goal_vars pr.goal)) (ask_bytes pr.goal_vars pr.goal)
+    (λ n at g e h c. ask-walked names s pr.relations back refl pr.goal_vars pr.goal n at g e h c) pr.clauses n at g e h c)
+    pr.relations (length s) 0 nothing_read refl (omega arith) (omega arith)

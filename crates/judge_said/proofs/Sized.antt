@@ -6,16 +6,16 @@ use Prim.Native.Nat.{suc, ℕ}
 use lib.Dec.{leb}
 use lib.ListN.{length, length-append, length-map}
 use native.Mathlib.Omega.{arith}
-use Rattle.judge_image.specs.Judged.{askSized, clauseSized, goalSized, literalSized, literalsOf, stageSized}
-use Rattle.judge_said.specs.Said.{askRight, clauseSize}
+use Rattle.judge_image.specs.Judged.{ask_sized, clause_sized, goal_sized, literal_sized, literals_of, stage_sized}
+use Rattle.judge_said.specs.Said.{ask_right, clause_size}
 use Rattle.lay_lines.proofs.Sizes.{args-length}
-use Rattle.lay_lines.specs.Fields.{clauseIn}
-use Rattle.lay_lines.specs.Lines.{clauseRight, withVars}
-use Rattle.read_goal.specs.Spans.{goalRight, literalRight, literalsIn, stageRight, stagesRight}
+use Rattle.lay_lines.specs.Fields.{clause_in}
+use Rattle.lay_lines.specs.Lines.{clause_right, with_vars}
+use Rattle.read_goal.specs.Spans.{goal_right, literal_right, literals_in, stage_right, stages_right}
 use Rattle.text_names.specs.Names.{Name}
 use Rattle.text_program.proofs.Fields.{terms-length}
-use Rattle.text_program.specs.Encoded.{clauseBytes, goalBytes, literalBytes, recordBytes, stageBytes, termBytes}
-use Rattle.text_program.specs.Numbered.{goalNumbered, goalTerms, joined, literalNumbered, markBy, Numbering, termNumbered, variableNames}
+use Rattle.text_program.specs.Encoded.{clause_bytes, goal_bytes, literal_bytes, record_bytes, stage_bytes, term_bytes}
+use Rattle.text_program.specs.Numbered.{goal_numbered, goal_terms, joined, literal_numbered, mark_by, Numbering, term_numbered, variable_names}
 use Rattle.text_program.specs.Parsing.{all_of}
 use Rattle.text_program.specs.Source.{Said, SaidClause}
 
@@ -25,35 +25,35 @@ all_map f ok is h [] = refl
 all_map f ok is h (x ∷ xs) = rw (h x, all_map f ok is h xs)
 
 module _ (n : Numbering) where
-  literal-sized : (l : Said) → literalSized (literalNumbered n l) ≡ literalRight l
-  unfolding literalRight
+  literal-sized : (l : Said) → literal_sized (literal_numbered n l) ≡ literal_right l
+  unfolding literal_right
   literal-sized l = ap (λ (k : ℕ). leb k 4) (args-length n l)
 
-  stage-sized : (st : List Said) → stageSized (map (literalNumbered n) st) ≡ stageRight st
-  unfolding stageSized stageRight
-  stage-sized st = rw (length-map st (literalNumbered n), all_map (literalNumbered n) literalSized literalRight literal-sized st)
+  stage-sized : (st : List Said) → stage_sized (map (literal_numbered n) st) ≡ stage_right st
+  unfolding stage_sized stage_right
+  stage-sized st = rw (length-map st (literal_numbered n), all_map (literal_numbered n) literal_sized literal_right literal-sized st)
 
-  literals-same : (g : List (List Said)) → literalsOf (goalNumbered n g) ≡ literalsIn g
-  unfolding literalsOf literalsIn
+  literals-same : (g : List (List Said)) → literals_of (goal_numbered n g) ≡ literals_in g
+  unfolding literals_of literals_in
   literals-same [] = refl
-  literals-same (st ∷ g) = rw (length-map st (literalNumbered n), literals-same g)
+  literals-same (st ∷ g) = rw (length-map st (literal_numbered n), literals-same g)
 
-  goal-sized : (g : List (List Said)) → goalSized (goalNumbered n g) ≡ goalRight g
-  unfolding goalSized goalRight stagesRight
-  goal-sized g = rw (length-map g (map (literalNumbered n)), all_map (map (literalNumbered n)) stageSized stageRight stage-sized g, literals-same g)
+  goal-sized : (g : List (List Said)) → goal_sized (goal_numbered n g) ≡ goal_right g
+  unfolding goal_sized goal_right stages_right
+  goal-sized g = rw (length-map g (map (literal_numbered n)), all_map (map (literal_numbered n)) stage_sized stage_right stage-sized g, literals-same g)
 
-mark-small : (b : Bool) → leb (markBy b) 1 ≡ true
+mark-small : (b : Bool) → leb (mark_by b) 1 ≡ true
 mark-small true = refl
 mark-small false = refl
 
-pub clause-sized : (rels consts : List Name) (opens : Bool) (c : SaidClause) → clauseSized (clauseIn (withVars rels consts c) (markBy opens) c) ≡ clauseRight c
-unfolding clauseSized clauseRight
+pub clause-sized : (rels consts : List Name) (opens : Bool) (c : SaidClause) → clause_sized (clause_in (with_vars rels consts c) (mark_by opens) c) ≡ clause_right c
+unfolding clause_sized clause_right
 clause-sized rels consts opens c =
-    let n = withVars rels consts c in
-    rw (length-map c.terms (termNumbered n), mark-small opens, goal-sized n c.guard, goal-sized n c.body)
+    let n = with_vars rels consts c in
+    rw (length-map c.terms (term_numbered n), mark-small opens, goal-sized n c.guard, goal-sized n c.body)
 
-pub ask-sized : (n : Numbering) (g : List (List Said)) → n.variables ≡ variableNames (goalTerms g) → askSized (length n.variables) (goalNumbered n g) ≡ askRight g
-unfolding askSized askRight
+pub ask-sized : (n : Numbering) (g : List (List Said)) → n.variables ≡ variable_names (goal_terms g) → ask_sized (length n.variables) (goal_numbered n g) ≡ ask_right g
+unfolding ask_sized ask_right
 ask-sized n g e = rw (goal-sized n g, e)
 
 -- ---- lengths
@@ -69,38 +69,38 @@ joined_length f h bytes other e (x ∷ xs) =
     omega arith
 
 module _ (n k : Numbering) where
-  literal-length : (l : Said) → length (literalBytes (literalNumbered n l)) ≡ length (literalBytes (literalNumbered k l))
-  unfolding literalBytes
+  literal-length : (l : Said) → length (literal_bytes (literal_numbered n l)) ≡ length (literal_bytes (literal_numbered k l))
+  unfolding literal_bytes
   literal-length l =
-      let a = terms-length (literalNumbered n l).args in
-      let b = terms-length (literalNumbered k l).args in
+      let a = terms-length (literal_numbered n l).args in
+      let b = terms-length (literal_numbered k l).args in
       let c = args-length n l in
       let d = args-length k l in
       omega arith
 
-  stage-length : (st : List Said) → length (stageBytes (map (literalNumbered n) st)) ≡ length (stageBytes (map (literalNumbered k) st))
-  unfolding stageBytes
-  stage-length st = ap suc (joined_length (literalNumbered n) (literalNumbered k) literalBytes literalBytes literal-length st)
+  stage-length : (st : List Said) → length (stage_bytes (map (literal_numbered n) st)) ≡ length (stage_bytes (map (literal_numbered k) st))
+  unfolding stage_bytes
+  stage-length st = ap suc (joined_length (literal_numbered n) (literal_numbered k) literal_bytes literal_bytes literal-length st)
 
-  goal-length : (g : List (List Said)) → length (goalBytes (goalNumbered n g)) ≡ length (goalBytes (goalNumbered k g))
-  unfolding goalBytes
-  goal-length g = ap suc (joined_length (map (literalNumbered n)) (map (literalNumbered k)) stageBytes stageBytes stage-length g)
+  goal-length : (g : List (List Said)) → length (goal_bytes (goal_numbered n g)) ≡ length (goal_bytes (goal_numbered k g))
+  unfolding goal_bytes
+  goal-length g = ap suc (joined_length (map (literal_numbered n)) (map (literal_numbered k)) stage_bytes stage_bytes stage-length g)
 
-  clause-length : (mark other : ℕ) (c : SaidClause) → length (clauseBytes (clauseIn n mark c)) ≡ length (clauseBytes (clauseIn k other c))
-  unfolding clauseBytes recordBytes
+  clause-length : (mark other : ℕ) (c : SaidClause) → length (clause_bytes (clause_in n mark c)) ≡ length (clause_bytes (clause_in k other c))
+  unfolding clause_bytes record_bytes
   clause-length mark other c =
-      let a = terms-length (map (termNumbered n) c.terms) in
-      let b = terms-length (map (termNumbered k) c.terms) in
-      let d = length-map c.terms (termNumbered n) in
-      let e = length-map c.terms (termNumbered k) in
+      let a = terms-length (map (term_numbered n) c.terms) in
+      let b = terms-length (map (term_numbered k) c.terms) in
+      let d = length-map c.terms (term_numbered n) in
+      let e = length-map c.terms (term_numbered k) in
       let f = goal-length c.guard in
       let g = goal-length c.body in
-      let h = length-append (joined termBytes (map (termNumbered n) c.terms)) (goalBytes (goalNumbered n c.guard) ++ goalBytes (goalNumbered n c.body)) in
-      let i = length-append (joined termBytes (map (termNumbered k) c.terms)) (goalBytes (goalNumbered k c.guard) ++ goalBytes (goalNumbered k c.body)) in
-      let j = length-append (goalBytes (goalNumbered n c.guard)) (goalBytes (goalNumbered n c.body)) in
-      let l = length-append (goalBytes (goalNumbered k c.guard)) (goalBytes (goalNumbered k c.body)) in
+      let h = length-append (joined term_bytes (map (term_numbered n) c.terms)) (goal_bytes (goal_numbered n c.guard) ++ goal_bytes (goal_numbered n c.body)) in
+      let i = length-append (joined term_bytes (map (term_numbered k) c.terms)) (goal_bytes (goal_numbered k c.guard) ++ goal_bytes (goal_numbered k c.body)) in
+      let j = length-append (goal_bytes (goal_numbered n c.guard)) (goal_bytes (goal_numbered n c.body)) in
+      let l = length-append (goal_bytes (goal_numbered k c.guard)) (goal_bytes (goal_numbered k c.body)) in
       omega arith
 
-pub clause-size : (n : Numbering) (mark : ℕ) (c : SaidClause) → length (clauseBytes (clauseIn n mark c)) ≡ clauseSize c
-unfolding clauseSize
-clause-size n mark c = clause-length n (withVars [] [] c) mark 0 c
+pub clause-size : (n : Numbering) (mark : ℕ) (c : SaidClause) → length (clause_bytes (clause_in n mark c)) ≡ clause_size c
+unfolding clause_size
+clause-size n mark c = clause-length n (with_vars [] [] c) mark 0 c

@@ -8,13 +8,13 @@ use lib.ListN.{drop}
 use borrow.Author.Tests.{leb-false, ltb-false}
 use native.Mathlib.Omega.{arith}
 use Rattle.judge_text.specs.Tests.{Counted, kept, tested}
-use Rattle.parlog.specs.Load.{blockWith, refuseIf}
+use Rattle.parlog.specs.Load.{block_with, refuse_if}
 use Rattle.parlog.specs.Names.{follows}
 use Rattle.parlog.specs.declared.Progress.{Progress}
 use Rattle.parlog.specs.declared.Verdict.TheVariants.{Goes, Refuses}
 use Rattle.text_names.specs.Bytes.{front}
-use Rattle.text_program.specs.Numbered.{markBy}
-use Rattle.text_program.specs.Source.{readClause}
+use Rattle.text_program.specs.Numbered.{mark_by}
+use Rattle.text_program.specs.Source.{read_clause}
 
 -- ---- the first that fails
 
@@ -43,23 +43,23 @@ module _ (many right known full : Bool) (next : Progress) where
   unfolding tested
   tested-kept k = go many right known full refl refl
     where
-      go : (a b c d : Bool) → many ≡ a → full ≡ d → kept (refuseIf a 6 (refuseIf (not b) 4 (refuseIf (not c) 5 (refuseIf d 6 (Goes next)))))
+      go : (a b c d : Bool) → many ≡ a → full ≡ d → kept (refuse_if a 6 (refuse_if (not b) 4 (refuse_if (not c) 5 (refuse_if d 6 (Goes next)))))
       go true b c d e f = (omega arith, omega arith)
       go false false c d e f = (omega arith, omega arith)
       go false true false d e f = (omega arith, omega arith)
       go false true true true e f = (omega arith, omega arith)
       go false true true false e f = k e f
 
-pub clause-name : (s : List ℕ) (at : ℕ) → front (drop at s) ≡ (readClause (drop at s)).value.name
-unfolding readClause
+pub clause-name : (s : List ℕ) (at : ℕ) → front (drop at s) ≡ (read_clause (drop at s)).value.name
+unfolding read_clause
 clause-name s at = refl
 
 -- ---- the block
 
-pub block-told : (g : Progress) (r n : ℕ) (opens joins follow : Bool) → follow ≡ follows g r → joins ≡ (follow && not opens) → n ≡ cond joins (g.block + 1) 1 → n ≡ blockWith g r (markBy opens)
+pub block-told : (g : Progress) (r n : ℕ) (opens joins follow : Bool) → follow ≡ follows g r → joins ≡ (follow && not opens) → n ≡ cond joins (g.block + 1) 1 → n ≡ block_with g r (mark_by opens)
 block-told g r n opens joins follow e f h = h ∙ rw (f, e, mark-none opens) refl
   where
-    mark-none : (b : Bool) → not b ≡ eqb (markBy b) 0
+    mark-none : (b : Bool) → not b ≡ eqb (mark_by b) 0
     mark-none true = refl
     mark-none false = refl
 

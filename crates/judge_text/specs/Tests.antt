@@ -1,13 +1,13 @@
 -- What the tests of a clause tell and need.
 use Rattle.std.specs.Prelude.{Bool, not, ◌≤◌}
-use Rattle.parlog.specs.Load.{refuseIf}
+use Rattle.parlog.specs.Load.{refuse_if}
 use Rattle.parlog.specs.declared.Progress.{Progress}
 use Rattle.parlog.specs.declared.Verdict.{Verdict}
 use Rattle.parlog.specs.declared.Verdict.TheVariants.{Goes, Refuses}
 
 -- the first of four tests that fails
 unfoldable pub tested : Bool → Bool → Bool → Bool → Progress → Verdict
-tested many right known full next = refuseIf many 6 (refuseIf (not right) 4 (refuseIf (not known) 5 (refuseIf full 6 (Goes next))))
+tested many right known full next = refuse_if many 6 (refuse_if (not right) 4 (refuse_if (not known) 5 (refuse_if full 6 (Goes next))))
 
 -- how large the counts are before a clause
 pub record Counted (g : Progress) : Type 0 where

@@ -1,8 +1,8 @@
 // The tests of one record of a text in their order, 6, 4 and 5, and the block that a clause is of.
 ghost use Rattle.std.specs.Prelude.{◌≡◌, ◌≤◌};
 ghost use Rattle.judge_text.specs.Tests.{tested};
-ghost use Rattle.parlog.specs.Load.{blockWith};
-ghost use Rattle.text_program.specs.Numbered.{markBy};
+ghost use Rattle.parlog.specs.Load.{block_with};
+ghost use Rattle.text_program.specs.Numbered.{mark_by};
 
 use parlog::{Progress, Verdict, codes};
 
@@ -28,7 +28,7 @@ pub fn verdict(many: bool, right: bool, known: bool, full: bool, next: Progress)
 // How many clauses the block has with this one.
 pub fn block_with(g: Progress, r: usize, opens: bool) -> usize
     requires { g.block ≤ 8 }
-    ensures { result ≡ blockWith g r (markBy opens) }
+    ensures { result ≡ block_with g r (mark_by opens) }
 {
     let joins = basics::and(load_names::follows(g, r), !opens);
     if joins { g.block + 1 } else { 1 }

@@ -11,7 +11,7 @@ use Rattle.lay_text.specs.declared.To.{To}
 use Rattle.text_program.specs.Encoded.{word_bytes}
 use Rattle.text_program.specs.Numbered.{joined}
 use Rattle.text_program.specs.Parsing.{all_of}
-use Rattle.text_program.specs.Source.{consGot, Got, got}
+use Rattle.text_program.specs.Source.{cons_got, Got, got}
 
 -- ---- low bytes
 
@@ -40,31 +40,31 @@ joined-map f g (x ∷ xs) = ap (λ (l : List ℕ). f (g x) ++ l) (joined-map f g
 
 module _ {A : Type 0} (bytes : A → List ℕ) (ok : A → Bool) where
   -- the bytes of a row
-  abbrev rowBytes : List A → List ℕ
-  rowBytes xs = lows (joined bytes xs)
+  abbrev row_bytes : List A → List ℕ
+  row_bytes xs = lows (joined bytes xs)
 
   module _ {o : List ℕ} {w : To} {bs : List ℕ} {g : Bool} {p : List ℕ} {x : To} where
-    pub lay-on : {q : List ℕ} {y : To} (i : A) (Y Z : Got (List A)) → Y ≡ consGot i Z → Left o w bs g p x (rowBytes Y.value) (all_of ok Y.value) → Writes p x (lows (bytes i)) (ok i) q y →
-        Left o w bs g q y (rowBytes Z.value) (all_of ok Z.value)
+    pub lay-on : {q : List ℕ} {y : To} (i : A) (Y Z : Got (List A)) → Y ≡ cons_got i Z → Left o w bs g p x (row_bytes Y.value) (all_of ok Y.value) → Writes p x (lows (bytes i)) (ok i) q y →
+        Left o w bs g q y (row_bytes Z.value) (all_of ok Z.value)
     unfolding joined all_of
     lay-on i Y Z e l v =
-        left_step (lows (bytes i)) (rowBytes Z.value) (ok i) (all_of ok Z.value)
-        (left_as (ap (λ (k : Got (List A)). rowBytes k.value) e ∙ lows-append (bytes i) (joined bytes Z.value)) (ap (λ (k : Got (List A)). all_of ok k.value) e) l) v
+        left_step (lows (bytes i)) (row_bytes Z.value) (ok i) (all_of ok Z.value)
+        (left_as (ap (λ (k : Got (List A)). row_bytes k.value) e ∙ lows-append (bytes i) (joined bytes Z.value)) (ap (λ (k : Got (List A)). all_of ok k.value) e) l) v
 
-    pub lay-last : {q : List ℕ} {y : To} (i : A) (r : List ℕ) (Y : Got (List A)) → Y ≡ got (i ∷ []) r → Left o w bs g p x (rowBytes Y.value) (all_of ok Y.value) → Writes p x (lows (bytes i)) (ok i) q y →
+    pub lay-last : {q : List ℕ} {y : To} (i : A) (r : List ℕ) (Y : Got (List A)) → Y ≡ got (i ∷ []) r → Left o w bs g p x (row_bytes Y.value) (all_of ok Y.value) → Writes p x (lows (bytes i)) (ok i) q y →
         Writes o w bs g q y
     unfolding joined all_of lows
     lay-last i r Y e l v =
         left_end (left_step (lows (bytes i)) [] (ok i) true
-        (left_as (ap (λ (k : Got (List A)). rowBytes k.value) e ∙ lows-append (bytes i) []) (ap (λ (k : Got (List A)). all_of ok k.value) e) l) v)
+        (left_as (ap (λ (k : Got (List A)). row_bytes k.value) e ∙ lows-append (bytes i) []) (ap (λ (k : Got (List A)). all_of ok k.value) e) l) v)
 
-    pub lay_done : (r : List ℕ) (Y : Got (List A)) → Y ≡ got [] r → Left o w bs g p x (rowBytes Y.value) (all_of ok Y.value) → Writes o w bs g p x
+    pub lay_done : (r : List ℕ) (Y : Got (List A)) → Y ≡ got [] r → Left o w bs g p x (row_bytes Y.value) (all_of ok Y.value) → Writes o w bs g p x
     unfolding joined all_of lows
-    lay_done r Y e l = left_end (left_as (ap (λ (k : Got (List A)). rowBytes k.value) e) (ap (λ (k : Got (List A)). all_of ok k.value) e) l)
+    lay_done r Y e l = left_end (left_as (ap (λ (k : Got (List A)). row_bytes k.value) e) (ap (λ (k : Got (List A)). all_of ok k.value) e) l)
 
   -- a row begins
-  pub lay-start : {o : List ℕ} {w : To} (Y W : Got (List A)) → Y ≡ W → length o ≤ most → w.at ≤ most → Left o w (rowBytes W.value) (all_of ok W.value) o w (rowBytes Y.value) (all_of ok Y.value)
-  lay-start {o} {w} Y W e h g = left_as (ap (λ (k : Got (List A)). rowBytes k.value) (sym e)) (ap (λ (k : Got (List A)). all_of ok k.value) (sym e)) (left-start o w (rowBytes W.value) (all_of ok W.value) h g)
+  pub lay-start : {o : List ℕ} {w : To} (Y W : Got (List A)) → Y ≡ W → length o ≤ most → w.at ≤ most → Left o w (row_bytes W.value) (all_of ok W.value) o w (row_bytes Y.value) (all_of ok Y.value)
+  lay-start {o} {w} Y W e h g = left_as (ap (λ (k : Got (List A)). row_bytes k.value) (sym e)) (ap (λ (k : Got (List A)). all_of ok k.value) (sym e)) (left-start o w (row_bytes W.value) (all_of ok W.value) h g)
 
 pub all_true : {A : Type 0} (xs : List A) → all_of (λ (x : A). true) xs ≡ true
 unfolding all_of

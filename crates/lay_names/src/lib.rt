@@ -1,7 +1,7 @@
 // Names of a text as entries of a names row: each name and a byte 10.
 ghost use Rattle.std.specs.Prelude.{true, [], ◌++◌, ◌∷◌, ◌≡◌, ◌≤◌, drop, length};
 ghost use Rattle.lay_text.specs.Laying.{Writes};
-ghost use Rattle.read_names.specs.Tables.{modeNames, modesFrom, names_at};
+ghost use Rattle.read_names.specs.Tables.{mode_names, modes_from, names_at};
 ghost use Rattle.text_names.specs.Bytes.{front};
 ghost use Rattle.text_names.specs.Entries.{entries};
 
@@ -44,7 +44,7 @@ fn entry(out: &mut [u8], w: To, s: &[u8], from: usize) -> To
 // The names of the mode lines from a place on.
 pub fn mode_names(out: &mut [u8], w: To, s: &[u8], at: usize) -> To
     requires { at ≤ length s.now }
-    ensures { Writes out.old w (entries (modeNames (modesFrom s.now at))) true out.new result }
+    ensures { Writes out.old w (entries (mode_names (modes_from s.now at))) true out.new result }
 {
     let mut to = w;
     let mut p = at;

@@ -3,7 +3,7 @@ ghost use Rattle.std.specs.Prelude.{true, [], ◌∷◌, ◌≡◌, ◌+◌, ◌
 ghost use Rattle.entry_table.specs.Entered.{Entered};
 ghost use Rattle.lay.specs.Lay.{laid};
 ghost use Rattle.lay_text.specs.Laying.{capped, Writes};
-ghost use Rattle.text_names.specs.Entries.{entryName, isEntry};
+ghost use Rattle.text_names.specs.Entries.{entry_name, is_entry};
 
 use entry_table::Noted;
 
@@ -100,7 +100,7 @@ fn ahead(at: usize, n: usize) -> usize
 // The name in entry k, and whether it is one.
 pub fn name(out: &mut [u8], w: To, names: &[u8], table: &[usize], e: Noted, k: usize) -> To
     requires { Entered names.now table.now e.every e.count }
-    ensures { Writes out.old w (entryName names.now k) (isEntry names.now k) out.new result }
+    ensures { Writes out.old w (entry_name names.now k) (is_entry names.now k) out.new result }
 {
     let from = entry_table::find(names, table, e, k);
     let end = text_names::name_end(names, from);

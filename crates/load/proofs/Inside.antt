@@ -10,65 +10,65 @@ use native.Mathlib.Omega.{arith}
 use Rattle.load_names.specs.Reading.{GoalsIn}
 use Rattle.parlog.proofs.Along.{total-at}
 use Rattle.parlog.proofs.Bools.{and-true}
-use Rattle.parlog.specs.Body.{askBody, bodyRight, clauseBody, goalRange, literalCount, stagesRange}
-use Rattle.parlog.specs.Image.{body_at, goalEnd, guardAt, stageEnd, stagesEnd}
-use Rattle.parlog.specs.Records.{byte_at, recordEnd}
+use Rattle.parlog.specs.Body.{ask_body, body_right, clause_body, goal_range, literal_count, stages_range}
+use Rattle.parlog.specs.Image.{body_at, goal_end, guard_at, stage_end, stages_end}
+use Rattle.parlog.specs.Records.{byte_at, record_end}
 
 -- ---- a goal in range
 
 pub record GoalFields (s : List ℕ) (at : ℕ) : Type 0 where
   pub stages : byte_at s at ≤ 8
-  pub few : (i : ℕ) → i < byte_at s at → byte_at s (stagesEnd s i (at + 1)) ≤ 8
+  pub few : (i : ℕ) → i < byte_at s at → byte_at s (stages_end s i (at + 1)) ≤ 8
 
-pub goal-fields : (s : List ℕ) (at : ℕ) → goalRange s at ≡ true → GoalFields s at
-unfolding goalRange
+pub goal-fields : (s : List ℕ) (at : ℕ) → goal_range s at ≡ true → GoalFields s at
+unfolding goal_range
 goal-fields s at e =
     let n = byte_at s at in
-    let a = and-true (leb n 8) (stagesRange s n (at + 1) && leb (literalCount s n (at + 1)) 8) e in
-    let b = and-true (stagesRange s n (at + 1)) (leb (literalCount s n (at + 1)) 8) a.1 in
-    let l = leb-true (literalCount s n (at + 1)) 8 b.1 in
-    record { stages = leb-true n 8 a.0; few = λ i h. omega (arith, total-at (byte_at s) (stageEnd s) n (at + 1) i h) }
+    let a = and-true (leb n 8) (stages_range s n (at + 1) && leb (literal_count s n (at + 1)) 8) e in
+    let b = and-true (stages_range s n (at + 1)) (leb (literal_count s n (at + 1)) 8) a.1 in
+    let l = leb-true (literal_count s n (at + 1)) 8 b.1 in
+    record { stages = leb-true n 8 a.0; few = λ i h. omega (arith, total-at (byte_at s) (stage_end s) n (at + 1) i h) }
 
 -- ---- records in range
 
 pub record ClauseFields (s : List ℕ) (at : ℕ) : Type 0 where
   pub vars : byte_at s (at + 7) ≤ 16
-  pub guard : goalRange s (guardAt s at) ≡ true
-  pub body : goalRange s (body_at s at) ≡ true
-  pub ends : goalEnd s (body_at s at) ≡ recordEnd s at
+  pub guard : goal_range s (guard_at s at) ≡ true
+  pub body : goal_range s (body_at s at) ≡ true
+  pub ends : goal_end s (body_at s at) ≡ record_end s at
 
-pub clause-fields : (s : List ℕ) (at : ℕ) → clauseBody s at ≡ true → ClauseFields s at
-unfolding clauseBody
+pub clause-fields : (s : List ℕ) (at : ℕ) → clause_body s at ≡ true → ClauseFields s at
+unfolding clause_body
 clause-fields s at e =
-    let the_end = eqb (goalEnd s (body_at s at)) (recordEnd s at) in
-    let goals = goalRange s (guardAt s at) && (goalRange s (body_at s at) && the_end) in
+    let the_end = eqb (goal_end s (body_at s at)) (record_end s at) in
+    let goals = goal_range s (guard_at s at) && (goal_range s (body_at s at) && the_end) in
     let a = and-true (leb (byte_at s (at + 5)) 4) (leb (byte_at s (at + 6)) 1 && (leb (byte_at s (at + 7)) 16 && goals)) e in
     let b = and-true (leb (byte_at s (at + 6)) 1) (leb (byte_at s (at + 7)) 16 && goals) a.1 in
     let d = and-true (leb (byte_at s (at + 7)) 16) goals b.1 in
-    let f = and-true (goalRange s (guardAt s at)) (goalRange s (body_at s at) && the_end) d.1 in
-    let h = and-true (goalRange s (body_at s at)) the_end f.1 in
+    let f = and-true (goal_range s (guard_at s at)) (goal_range s (body_at s at) && the_end) d.1 in
+    let h = and-true (goal_range s (body_at s at)) the_end f.1 in
     record {
       vars = leb-true (byte_at s (at + 7)) 16 d.0;
       guard = f.0;
       body = h.0;
-      ends = eqb-true (goalEnd s (body_at s at)) (recordEnd s at) h.1;
+      ends = eqb-true (goal_end s (body_at s at)) (record_end s at) h.1;
     }
 
 pub record AskFields (s : List ℕ) (at : ℕ) : Type 0 where
   pub vars : byte_at s (at + 4) ≤ 16
-  pub goal : goalRange s (at + 5) ≡ true
-  pub ends : goalEnd s (at + 5) ≡ recordEnd s at
+  pub goal : goal_range s (at + 5) ≡ true
+  pub ends : goal_end s (at + 5) ≡ record_end s at
 
-pub ask-fields : (s : List ℕ) (at : ℕ) → askBody s at ≡ true → AskFields s at
-unfolding askBody
+pub ask-fields : (s : List ℕ) (at : ℕ) → ask_body s at ≡ true → AskFields s at
+unfolding ask_body
 ask-fields s at e =
-    let a = and-true (leb (byte_at s (at + 4)) 16) (goalRange s (at + 5) && eqb (goalEnd s (at + 5)) (recordEnd s at)) e in
-    let b = and-true (goalRange s (at + 5)) (eqb (goalEnd s (at + 5)) (recordEnd s at)) a.1 in
-    record { vars = leb-true (byte_at s (at + 4)) 16 a.0; goal = b.0; ends = eqb-true (goalEnd s (at + 5)) (recordEnd s at) b.1 }
+    let a = and-true (leb (byte_at s (at + 4)) 16) (goal_range s (at + 5) && eqb (goal_end s (at + 5)) (record_end s at)) e in
+    let b = and-true (goal_range s (at + 5)) (eqb (goal_end s (at + 5)) (record_end s at)) a.1 in
+    record { vars = leb-true (byte_at s (at + 4)) 16 a.0; goal = b.0; ends = eqb-true (goal_end s (at + 5)) (record_end s at) b.1 }
 
 -- the goals of a record whose fields are right end inside the bytes where the record does
-pub goals-in : (s : List ℕ) (at kind : ℕ) → bodyRight s at kind ≡ true → recordEnd s at ≤ length s → GoalsIn s at kind
-unfolding bodyRight
+pub goals-in : (s : List ℕ) (at kind : ℕ) → body_right s at kind ≡ true → record_end s at ≤ length s → GoalsIn s at kind
+unfolding body_right
 goals-in s at kind b h = record {
   clause = λ e. let n1 : eqb kind 1 ≡ false = ne_eqb kind 1 (λ f. omega arith) in
       let q = (clause-fields s at (rw (n1, eq-eqb kind 2 e) at b)).ends in

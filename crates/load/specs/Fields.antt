@@ -1,8 +1,8 @@
 -- The verdict of a record, the part of it that reads the fields, and the refusal that an answer holds.
 use Rattle.std.specs.Prelude.{not, List, ℕ}
-use Rattle.parlog.specs.Body.{bodyRight}
-use Rattle.parlog.specs.Load.{blockFull, progressed, refusal, refuseIf, verdict}
-use Rattle.parlog.specs.Names.{namesRight}
+use Rattle.parlog.specs.Body.{body_right}
+use Rattle.parlog.specs.Load.{block_full, progressed, refusal, refuse_if, verdict}
+use Rattle.parlog.specs.Names.{names_right}
 use Rattle.parlog.specs.Records.{cut}
 use Rattle.parlog.specs.declared.Loaded.{Loaded}
 use Rattle.parlog.specs.declared.Loaded.TheVariants.{Accepted, Refused}
@@ -12,18 +12,18 @@ use Rattle.parlog.specs.declared.Verdict.{Verdict}
 use Rattle.parlog.specs.declared.Verdict.TheVariants.{Goes}
 
 -- 4 for the whole record, then 5, then the ninth-clause part of 6
-abbrev pub fieldsVerdict : List ℕ → Progress → ℕ → ℕ → Verdict
-fieldsVerdict s g at kind =
-    refuseIf (not (bodyRight s at kind)) 4
-    (refuseIf (not (namesRight s g at kind)) 5
-    (refuseIf (blockFull s g at kind) 6
+abbrev pub fields_verdict : List ℕ → Progress → ℕ → ℕ → Verdict
+fields_verdict s g at kind =
+    refuse_if (not (body_right s at kind)) 4
+    (refuse_if (not (names_right s g at kind)) 5
+    (refuse_if (block_full s g at kind) 6
     (Goes (progressed s g at kind))))
 
 -- 2 before the tests of a whole record
-abbrev pub recordVerdict : List ℕ → Progress → ℕ → Verdict
-recordVerdict s g at = refuseIf (cut s at) 2 (verdict s g at)
+abbrev pub record_verdict : List ℕ → Progress → ℕ → Verdict
+record_verdict s g at = refuse_if (cut s at) 2 (verdict s g at)
 
 -- 0 at 0 for an answer that is none
-abbrev pub refusalOf : Loaded → Refusal
-refusalOf (Accepted r c) = refusal 0 0
-refusalOf (Refused r) = r
+abbrev pub refusal_of : Loaded → Refusal
+refusal_of (Accepted r c) = refusal 0 0
+refusal_of (Refused r) = r

@@ -1,20 +1,20 @@
 // The image loader: the tests of a record in their order, and the records in file order.
 ghost use Rattle.std.specs.Prelude.{◌≡◌, false, ◌+◌, ◌<◌, ◌≤◌, ℕ, get_or, length};
-ghost use Rattle.parlog.specs.Records.{kindAt, recordEnd};
-ghost use Rattle.parlog.specs.Load.{kindFault, tooMany, blockWith, blockFull, progressed, records, nothingRead, refusal, load_of};
+ghost use Rattle.parlog.specs.Records.{kind_at, record_end};
+ghost use Rattle.parlog.specs.Load.{kind_fault, too_many, block_with, block_full, progressed, records, nothing_read, refusal, load_of};
 ghost use Rattle.parlog.specs.declared.Loaded.TheVariants.{Refused};
 ghost use Rattle.parlog.specs.declared.Verdict.TheVariants.{Refuses};
 ghost use Rattle.load_body.specs.Reading.{place_of};
 ghost use Rattle.load_names.specs.Reading.{Arities};
-ghost use Rattle.program_index.specs.Indexed.{blocks_from, indexSize, IndexedOf};
+ghost use Rattle.program_index.specs.Indexed.{blocks_from, index_size, IndexedOf};
 ghost use Rattle.load.specs.Bounds.{BodyTold, Bounded, Next, Small};
-ghost use Rattle.load.specs.Fields.{fieldsVerdict, recordVerdict, refusalOf};
+ghost use Rattle.load.specs.Fields.{fields_verdict, record_verdict, refusal_of};
 
 use parlog::{Loaded, Progress, Refusal, Verdict, codes};
 
 // 3, KIND.
 fn kind_fault(g: Progress, kind: usize) -> bool
-    ensures { result ≡ kindFault g kind }
+    ensures { result ≡ kind_fault g kind }
 {
     let late = basics::or(kind < g.kind, g.kind == codes::GOAL_KIND);
     let high = basics::or(codes::GOAL_KIND < kind, late);
@@ -23,7 +23,7 @@ fn kind_fault(g: Progress, kind: usize) -> bool
 
 // 6, MANY: 33rd relation, 65th clause.
 fn too_many(g: Progress, kind: usize) -> bool
-    ensures { result ≡ tooMany g kind }
+    ensures { result ≡ too_many g kind }
 {
     let clauses = basics::and(kind == codes::CLAUSE_KIND, codes::MOST_CLAUSES <= g.clauses);
     basics::choose(
@@ -36,7 +36,7 @@ fn too_many(g: Progress, kind: usize) -> bool
 // How many clauses the block has with this one.
 fn block_with(g: Progress, r: usize, mark: usize) -> usize
     requires { g.block ≤ 8 }
-    ensures { result ≡ blockWith g r mark }
+    ensures { result ≡ block_with g r mark }
 {
     let joins = basics::and(load_names::follows(g, r), mark == 0);
     if joins { g.block + 1 } else { 1 }
@@ -45,7 +45,7 @@ fn block_with(g: Progress, r: usize, mark: usize) -> usize
 // 6, MANY: 9th clause of a block.
 fn block_full(s: &[u8], g: Progress, at: usize, kind: usize) -> bool
     requires { (g.block ≤ 8) × (at ≤ 32768) }
-    ensures { result ≡ blockFull s.now g at kind }
+    ensures { result ≡ block_full s.now g at kind }
 {
     let r = place::byte_at(s, at + codes::CLAUSE_RELATION);
     let m = place::byte_at(s, at + codes::CLAUSE_MARK);
@@ -57,8 +57,8 @@ fn block_full(s: &[u8], g: Progress, at: usize, kind: usize) -> bool
 fn progressed(s: &[u8], g: Progress, at: usize, kind: usize) -> Progress
     requires small { Small g }
     requires at_bound { at ≤ 32768 }
-    requires kind_value { tooMany g kind ≡ false }
-    requires kind_value_2 { blockFull s.now g at kind ≡ false }
+    requires kind_value { too_many g kind ≡ false }
+    requires kind_value_2 { block_full s.now g at kind ≡ false }
     ensures value { result ≡ progressed s.now g at kind }
     ensures small_2 { Small result }
 {
@@ -103,9 +103,9 @@ struct Tested {
 fn test_fields(s: &[u8], t: &[u8; codes::ARITIES], g: Progress, at: usize, kind: usize) -> Tested
     requires arities { Arities s.now g.relations t.now }
     requires small { Small g }
-    requires at_bound { (at ≤ 32768) × (recordEnd s.now at ≤ length s.now) }
-    requires kind_value { tooMany g kind ≡ false }
-    ensures { (result.verdict ≡ fieldsVerdict s.now g at kind) × Next result.verdict × BodyTold result.verdict result.body (place_of s.now at kind) × (result.body ≤ 65535) }
+    requires at_bound { (at ≤ 32768) × (record_end s.now at ≤ length s.now) }
+    requires kind_value { too_many g kind ≡ false }
+    ensures { (result.verdict ≡ fields_verdict s.now g at kind) × Next result.verdict × BodyTold result.verdict result.body (place_of s.now at kind) × (result.body ≤ 65535) }
 {
     let body = load_body::body_of(s, at, kind);
     if body == 0 {
@@ -148,7 +148,7 @@ fn test_record(s: &[u8], t: &[u8; codes::ARITIES], g: Progress, at: usize) -> Te
     requires arities { Arities s.now g.relations t.now }
     requires small { Small g }
     requires at_bound { at ≤ 32768 }
-    ensures { (result.verdict ≡ recordVerdict s.now g at) × Next result.verdict × BodyTold result.verdict result.body (place_of s.now at (kindAt s.now at)) × (result.body ≤ 65535) }
+    ensures { (result.verdict ≡ record_verdict s.now g at) × Next result.verdict × BodyTold result.verdict result.body (place_of s.now at (kind_at s.now at)) × (result.body ≤ 65535) }
 {
     if records::cut(s, at) {
         return broken(codes::CUT);
@@ -175,8 +175,8 @@ fn refused(number: u8, offset: usize) -> Loaded
 
 // Records in file order, each noted in the index once it has passed its tests.
 fn records(s: &[u8], ix: &mut [u16; program_index::SIZE]) -> Loaded
-    requires { (length s.now ≤ 32768) × (length ix.old ≡ indexSize) × ((k : ℕ) → k < 96 → get_or ix.old (blocks_from + k) 0 ≡ 0) }
-    ensures value { result ≡ records s.now (length s.now) 0 nothingRead }
+    requires { (length s.now ≤ 32768) × (length ix.old ≡ index_size) × ((k : ℕ) → k < 96 → get_or ix.old (blocks_from + k) 0 ≡ 0) }
+    ensures value { result ≡ records s.now (length s.now) 0 nothing_read }
     ensures bounded { Bounded (length s.now) result }
     ensures indexed_of { IndexedOf result s.now ix.new }
 {
@@ -217,7 +217,7 @@ fn records(s: &[u8], ix: &mut [u16; program_index::SIZE]) -> Loaded
 
 // The answer to an image: its counts, with the index of its program, or the first refusal.
 pub fn load_indexed(image: &[u8], ix: &mut [u16; program_index::SIZE]) -> Loaded
-    requires { length ix.old ≡ indexSize }
+    requires { length ix.old ≡ index_size }
     ensures value { result ≡ load_of image.now }
     ensures bounded { Bounded (length image.now) result }
     ensures indexed_of { IndexedOf result image.now ix.new }
@@ -267,7 +267,7 @@ pub fn load(image: &[u8]) -> Loaded
 
 // The refusal that an answer holds.
 pub fn refusal(l: Loaded) -> Refusal
-    ensures { result ≡ refusalOf l }
+    ensures { result ≡ refusal_of l }
 {
     match l {
         Loaded::Accepted(_, _) => Refusal {

@@ -1,15 +1,15 @@
 // Refusal 4, BODY: what a record holds, field by field, in the order of the definitions.
 ghost use Rattle.std.specs.Prelude.{◌≡◌, cond, ◌+◌, ◌*◌, ◌≤◌};
-ghost use Rattle.parlog.specs.Image.{body_at, byte_at, literalsEnd, stageEnd, goalEnd};
-ghost use Rattle.parlog.specs.Body.{modesRange, literalsRange, stageRange, goalRange, relationBody, clauseBody, askBody, bodyRight};
-ghost use Rattle.load_body.specs.Reading.{place_of, stagesRow};
+ghost use Rattle.parlog.specs.Image.{body_at, byte_at, literals_end, stage_end, goal_end};
+ghost use Rattle.parlog.specs.Body.{modes_range, literals_range, stage_range, goal_range, relation_body, clause_body, ask_body, body_right};
+ghost use Rattle.load_body.specs.Reading.{place_of, stages_row};
 
 use parlog::codes;
 
 // BODY, kind 1: each of n modes is 0 or 1.
 fn modes_range(s: &[u8], n: usize, from: usize) -> bool
     requires { (n ≤ 255) × (from ≤ 1073741824) }
-    ensures { result ≡ modesRange s.now n from }
+    ensures { result ≡ modes_range s.now n from }
 {
     let mut at = from;
     let mut left = n;
@@ -27,7 +27,7 @@ fn modes_range(s: &[u8], n: usize, from: usize) -> bool
 // BODY, literals: the place after n literals with an arity of 0 to 4, else 0.
 fn literals_range(s: &[u8], n: usize, from: usize) -> usize
     requires { (n ≤ 255) × (from ≤ 1073741824) }
-    ensures { (result ≡ cond (literalsRange s.now n from) (literalsEnd s.now n from) 0) × (result ≤ from + 10 * n) }
+    ensures { (result ≡ cond (literals_range s.now n from) (literals_end s.now n from) 0) × (result ≤ from + 10 * n) }
 {
     let mut at = from;
     let mut left = n;
@@ -45,7 +45,7 @@ fn literals_range(s: &[u8], n: usize, from: usize) -> usize
 // BODY, goals: the place after a stage of at least 1 literal, else 0.
 fn stage_range(s: &[u8], at: usize) -> usize
     requires { at ≤ 536870912 }
-    ensures { (result ≡ cond (stageRange s.now at) (stageEnd s.now at) 0) × (result ≤ at + 1 + 10 * byte_at s.now at) }
+    ensures { (result ≡ cond (stage_range s.now at) (stage_end s.now at) 0) × (result ≤ at + 1 + 10 * byte_at s.now at) }
 {
     let n = place::byte_at(s, at);
     if n == 0 {
@@ -57,7 +57,7 @@ fn stage_range(s: &[u8], at: usize) -> usize
 // BODY, goals: the place after n stages of at most 8 literals in all, else 0.
 fn stages_range(s: &[u8], n: usize, from: usize) -> usize
     requires { (n ≤ 8) × (from ≤ 268435456) }
-    ensures { (result ≡ stagesRow s.now n from 0) × (result ≤ from + 81 * n) }
+    ensures { (result ≡ stages_row s.now n from 0) × (result ≤ from + 81 * n) }
 {
     let mut at = from;
     let mut left = n;
@@ -80,7 +80,7 @@ fn stages_range(s: &[u8], n: usize, from: usize) -> usize
 // BODY, goals: the place after a goal of 0 to 8 stages, else 0.
 fn goal_range(s: &[u8], at: usize) -> usize
     requires { at ≤ 134217728 }
-    ensures { (result ≡ cond (goalRange s.now at) (goalEnd s.now at) 0) × (result ≤ at + 649) }
+    ensures { (result ≡ cond (goal_range s.now at) (goal_end s.now at) 0) × (result ≤ at + 649) }
 {
     let n = place::byte_at(s, at);
     if codes::MOST_STAGES < n {
@@ -92,7 +92,7 @@ fn goal_range(s: &[u8], at: usize) -> usize
 // BODY, kind 1: arity, modes, and the record's end.
 fn relation_body(s: &[u8], at: usize) -> bool
     requires { at ≤ 32768 }
-    ensures { result ≡ relationBody s.now at }
+    ensures { result ≡ relation_body s.now at }
 {
     let a = place::byte_at(s, at + codes::RELATION_ARITY);
     let modes = modes_range(s, a, at + codes::RELATION_MODES);
@@ -104,7 +104,7 @@ fn relation_body(s: &[u8], at: usize) -> bool
 // BODY, kind 2: arity, mark, variables, guard, body, and the record's end: where its body begins, else 0.
 fn clause_body(s: &[u8], at: usize) -> usize
     requires { at ≤ 32768 }
-    ensures { (result ≡ cond (clauseBody s.now at) (body_at s.now at) 0) × (result ≤ at + 1167) }
+    ensures { (result ≡ cond (clause_body s.now at) (body_at s.now at) 0) × (result ≤ at + 1167) }
 {
     let a = place::byte_at(s, at + codes::CLAUSE_ARITY);
     let m = place::byte_at(s, at + codes::CLAUSE_MARK);
@@ -126,7 +126,7 @@ fn clause_body(s: &[u8], at: usize) -> usize
 // BODY, kind 3: variables, goal, and the record's end.
 fn ask_body(s: &[u8], at: usize) -> bool
     requires { at ≤ 32768 }
-    ensures { result ≡ askBody s.now at }
+    ensures { result ≡ ask_body s.now at }
 {
     let v = place::byte_at(s, at + codes::GOAL_VARS);
     let w = place::word_at(s, at);
@@ -145,7 +145,7 @@ fn one_if(b: bool) -> usize
 // 4, BODY: where a clause's body begins, 1 of another record; 0 where it is refused.
 pub fn body_of(s: &[u8], at: usize, kind: usize) -> usize
     requires { at ≤ 32768 }
-    ensures { (result ≡ cond (bodyRight s.now at kind) (place_of s.now at kind) 0) × (result ≤ at + 1167) }
+    ensures { (result ≡ cond (body_right s.now at kind) (place_of s.now at kind) 0) × (result ≤ at + 1167) }
 {
     if kind == codes::RELATION_KIND {
         return one_if(relation_body(s, at));

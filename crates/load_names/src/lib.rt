@@ -1,7 +1,7 @@
 // Refusal 5, NAME: what a record names, and where a clause stands, in the order of the definitions.
 ghost use Rattle.std.specs.Prelude.{◌≡◌, cond, ◌+◌, ◌*◌, ◌≤◌, length, eqb};
-ghost use Rattle.parlog.specs.Image.{byte_at, equality, number_of, literalEnd, literalsEnd, stagesEnd, goalEnd, body_at};
-ghost use Rattle.parlog.specs.Names.{termNamed, termsNamed, relationNamed, literalNamed, literalsNamed, stagesNamed, goalNamed, follows, clausePlaced, clauseInside, namesRight};
+ghost use Rattle.parlog.specs.Image.{byte_at, equality, number_of, literal_end, literals_end, stages_end, goal_end, body_at};
+ghost use Rattle.parlog.specs.Names.{term_named, terms_named, relation_named, literal_named, literals_named, stages_named, goal_named, follows, clause_placed, clause_inside, names_right};
 ghost use Rattle.load_names.specs.Reading.{Arities, GoalsIn, word_of};
 
 use parlog::{Progress, Term, codes};
@@ -20,7 +20,7 @@ fn word_of(t: Term) -> usize
 // NAME: a term that is a variable is below the count; one comparison, since constants have the lower numbers.
 fn term_named(vars: usize, t: Term) -> bool
     requires { (number_of t ≤ 32767) × (vars ≤ 255) }
-    ensures { result ≡ termNamed vars t }
+    ensures { result ≡ term_named vars t }
 {
     word_of(t) < codes::FIRST_VARIABLE + vars
 }
@@ -28,7 +28,7 @@ fn term_named(vars: usize, t: Term) -> bool
 // NAME: each of n terms is.
 fn terms_named(s: &[u8], vars: usize, n: usize, from: usize) -> bool
     requires { (n ≤ 255) × (from ≤ 1073741824) × (vars ≤ 255) × (from + 2 * n ≤ length s.now) }
-    ensures { result ≡ termsNamed s.now vars n from }
+    ensures { result ≡ terms_named s.now vars n from }
 {
     let mut at = from;
     let mut left = n;
@@ -47,7 +47,7 @@ fn terms_named(s: &[u8], vars: usize, n: usize, from: usize) -> bool
 fn relation_named(s: &[u8], t: &[u8; codes::ARITIES], rels: usize, r: usize, a: usize) -> bool
     requires arities { Arities s.now rels t.now }
     requires rels_bound { rels ≤ 32 }
-    ensures { result ≡ relationNamed s.now rels r a }
+    ensures { result ≡ relation_named s.now rels r a }
 {
     if r < rels {
         return a == basics::wide(t[r]);
@@ -59,7 +59,7 @@ fn relation_named(s: &[u8], t: &[u8; codes::ARITIES], rels: usize, r: usize, a: 
 fn relation_called(s: &[u8], t: &[u8; codes::ARITIES], rels: usize, r: usize, a: usize) -> bool
     requires arities { Arities s.now rels t.now }
     requires rels_bound { rels ≤ 32 }
-    ensures { result ≡ cond (eqb r equality) (eqb a 2) (relationNamed s.now rels r a) }
+    ensures { result ≡ cond (eqb r equality) (eqb a 2) (relation_named s.now rels r a) }
 {
     if r == codes::EQUALITY {
         return a == codes::EQUALITY_ARITY;
@@ -70,8 +70,8 @@ fn relation_called(s: &[u8], t: &[u8; codes::ARITIES], rels: usize, r: usize, a:
 // NAME, literals: the relation, then the terms.
 fn literal_named(s: &[u8], t: &[u8; codes::ARITIES], rels: usize, vars: usize, at: usize) -> bool
     requires arities { Arities s.now rels t.now }
-    requires rels_bound { (rels ≤ 32) × (vars ≤ 255) × (at ≤ 536870912) × (literalEnd s.now at ≤ length s.now) }
-    ensures { result ≡ literalNamed s.now rels vars at }
+    requires rels_bound { (rels ≤ 32) × (vars ≤ 255) × (at ≤ 536870912) × (literal_end s.now at ≤ length s.now) }
+    ensures { result ≡ literal_named s.now rels vars at }
 {
     let r = place::byte_in(s, at);
     let a = place::byte_in(s, at + codes::LITERAL_ARITY);
@@ -91,8 +91,8 @@ fn literals_named(
     from: usize,
 ) -> usize
     requires arities { Arities s.now rels t.now }
-    requires rels_bound { (rels ≤ 32) × (vars ≤ 255) × (n ≤ 255) × (from ≤ 402653184) × (literalsEnd s.now n from ≤ length s.now) }
-    ensures { (result ≡ cond (literalsNamed s.now rels vars n from) (literalsEnd s.now n from) 0) × (result ≤ from + 512 * n) }
+    requires rels_bound { (rels ≤ 32) × (vars ≤ 255) × (n ≤ 255) × (from ≤ 402653184) × (literals_end s.now n from ≤ length s.now) }
+    ensures { (result ≡ cond (literals_named s.now rels vars n from) (literals_end s.now n from) 0) × (result ≤ from + 512 * n) }
 {
     let mut at = from;
     let mut left = n;
@@ -119,8 +119,8 @@ fn stages_named(
     from: usize,
 ) -> usize
     requires arities { Arities s.now rels t.now }
-    requires rels_bound { (rels ≤ 32) × (vars ≤ 255) × (n ≤ 255) × (from ≤ 268435456) × (stagesEnd s.now n from ≤ length s.now) }
-    ensures { (result ≡ cond (stagesNamed s.now rels vars n from) (stagesEnd s.now n from) 0) × (result ≤ from + 130561 * n) }
+    requires rels_bound { (rels ≤ 32) × (vars ≤ 255) × (n ≤ 255) × (from ≤ 268435456) × (stages_end s.now n from ≤ length s.now) }
+    ensures { (result ≡ cond (stages_named s.now rels vars n from) (stages_end s.now n from) 0) × (result ≤ from + 130561 * n) }
 {
     let mut at = from;
     let mut left = n;
@@ -139,8 +139,8 @@ fn stages_named(
 // NAME, goals: the place after a goal, else 0.
 fn goal_named(s: &[u8], t: &[u8; codes::ARITIES], rels: usize, vars: usize, at: usize) -> usize
     requires arities { Arities s.now rels t.now }
-    requires rels_bound { (rels ≤ 32) × (vars ≤ 255) × (at ≤ 134217728) × (goalEnd s.now at ≤ length s.now) }
-    ensures { (result ≡ cond (goalNamed s.now rels vars at) (goalEnd s.now at) 0) × (result ≤ at + 33293056) }
+    requires rels_bound { (rels ≤ 32) × (vars ≤ 255) × (at ≤ 134217728) × (goal_end s.now at ≤ length s.now) }
+    ensures { (result ≡ cond (goal_named s.now rels vars at) (goal_end s.now at) 0) × (result ≤ at + 33293056) }
 {
     let n = place::byte_in(s, at);
     stages_named(s, t, rels, vars, n, at + 1)
@@ -157,7 +157,7 @@ pub fn follows(g: Progress, r: usize) -> bool
 fn clause_placed(s: &[u8], t: &[u8; codes::ARITIES], g: Progress, at: usize) -> bool
     requires arities { Arities s.now g.relations t.now }
     requires relations_bound { (g.relations ≤ 32) × (at ≤ 32768) }
-    ensures { result ≡ clausePlaced s.now g at }
+    ensures { result ≡ clause_placed s.now g at }
 {
     let r = place::byte_at(s, at + codes::CLAUSE_RELATION);
     let a = place::byte_at(s, at + codes::CLAUSE_ARITY);
@@ -172,8 +172,8 @@ fn clause_placed(s: &[u8], t: &[u8; codes::ARITIES], g: Progress, at: usize) -> 
 // NAME, kind 2: the names in its head, guard and body.
 fn clause_inside(s: &[u8], t: &[u8; codes::ARITIES], rels: usize, at: usize) -> bool
     requires arities { Arities s.now rels t.now }
-    requires rels_bound { (rels ≤ 32) × (at ≤ 32768) × (goalEnd s.now (body_at s.now at) ≤ length s.now) }
-    ensures { result ≡ clauseInside s.now rels at }
+    requires rels_bound { (rels ≤ 32) × (at ≤ 32768) × (goal_end s.now (body_at s.now at) ≤ length s.now) }
+    ensures { result ≡ clause_inside s.now rels at }
 {
     let a = place::byte_at(s, at + codes::CLAUSE_ARITY);
     let v = place::byte_at(s, at + codes::CLAUSE_VARS);
@@ -195,8 +195,8 @@ fn clause_inside(s: &[u8], t: &[u8; codes::ARITIES], rels: usize, at: usize) -> 
 // NAME, kind 3: the names in its goal.
 fn ask_named(s: &[u8], t: &[u8; codes::ARITIES], rels: usize, at: usize) -> bool
     requires arities { Arities s.now rels t.now }
-    requires rels_bound { (rels ≤ 32) × (at ≤ 32768) × (goalEnd s.now (at + 5) ≤ length s.now) }
-    ensures { result ≡ goalNamed s.now rels (byte_at s.now (at + 4)) (at + 5) }
+    requires rels_bound { (rels ≤ 32) × (at ≤ 32768) × (goal_end s.now (at + 5) ≤ length s.now) }
+    ensures { result ≡ goal_named s.now rels (byte_at s.now (at + 4)) (at + 5) }
 {
     let v = place::byte_at(s, at + codes::GOAL_VARS);
     let e = goal_named(s, t, rels, v, at + codes::GOAL_AT);
@@ -208,7 +208,7 @@ pub fn names_right(s: &[u8], t: &[u8; codes::ARITIES], g: Progress, at: usize, k
     requires arities { Arities s.now g.relations t.now }
     requires relations_bound { (g.relations ≤ 32) × (at ≤ 32768) }
     requires goals_in { GoalsIn s.now at kind }
-    ensures { result ≡ namesRight s.now g at kind }
+    ensures { result ≡ names_right s.now g at kind }
 {
     if kind == codes::RELATION_KIND {
         return true;

@@ -6,14 +6,14 @@ use Prim.Native.Nat.{◌<◌, ◌≤◌, ℕ}
 use lib.Dec.{ltb}
 use borrow.Author.Tests.{le-ltb, lt-ltb}
 use native.Mathlib.Omega.{arith}
-use Rattle.load.specs.Fields.{refusalOf}
+use Rattle.load.specs.Fields.{refusal_of}
 use Rattle.entry.specs.Entered.{EnterSays}
-use Rattle.parlog.specs.Calls.{valueAnswer, valueCall}
+use Rattle.parlog.specs.Calls.{value_answer, value_call}
 use Rattle.parlog.specs.Limits.{Limits}
 use Rattle.parlog.specs.Load.{refusal}
 use Rattle.parlog.specs.Program.{program_of}
-use Rattle.parlog.specs.Run.{seen, unseen, valueTables}
-use Rattle.parlog.specs.Tables.{Lent, tablesIn, varCount, varsIn}
+use Rattle.parlog.specs.Run.{seen, unseen, value_tables}
+use Rattle.parlog.specs.Tables.{Lent, tables_in, var_count, vars_in}
 use Rattle.parlog.specs.Unify.{value}
 use Rattle.parlog.specs.declared.Binding.{Binding}
 use Rattle.parlog.specs.declared.Loaded.{Loaded}
@@ -30,19 +30,19 @@ unfolding top
 var-top v g n h k = omega arith
 
 module _ (k : ℕ) (vs : List Binding) (v : ℕ) {g : ℕ} (eg : g ≡ k) where
-  pub look_none : g ≤ v → {f : Refusal} → f ≡ refusal 12 0 → Unvalued f ≡ valueAnswer (cond (ltb v k) (seen (value vs (Var v))) (unseen 12))
+  pub look_none : g ≤ v → {f : Refusal} → f ≡ refusal 12 0 → Unvalued f ≡ value_answer (cond (ltb v k) (seen (value vs (Var v))) (unseen 12))
   look_none h ef = rw (ef, ← eg, le-ltb v g h)
 
-  pub look-some : v < g → {t : Term} → t ≡ value vs (Var v) → Value t ≡ valueAnswer (cond (ltb v k) (seen (value vs (Var v))) (unseen 12))
+  pub look-some : v < g → {t : Term} → t ≡ value vs (Var v) → Value t ≡ value_answer (cond (ltb v k) (seen (value vs (Var v))) (unseen 12))
   look-some h et = rw (et, ← eg, lt-ltb v g h)
 
 module _ (lim : Limits) (s : List ℕ) (l : Lent) (v : ℕ) {a : Loaded} (told : EnterSays lim s l a) where
-  pub value-refused : {f r : Refusal} → a ≡ Refused f → r ≡ refusalOf a → Unvalued r ≡ valueCall lim s l v
-  unfolding valueCall
+  pub value-refused : {f r : Refusal} → a ≡ Refused f → r ≡ refusal_of a → Unvalued r ≡ value_call lim s l v
+  unfolding value_call
   value-refused e er = rw (told.entry, er, e)
 
   pub value-looked : {r c : ℕ} → a ≡ Accepted r c → {x : Valued}
-      → x ≡ valueAnswer (cond (ltb v (program_of s r c).goalVars) (seen (value (varsIn l.vars (varCount l.head)) (Var v))) (unseen 12))
-      → x ≡ valueCall lim s l v
-  unfolding valueCall valueTables tablesIn
+      → x ≡ value_answer (cond (ltb v (program_of s r c).goal_vars) (seen (value (vars_in l.vars (var_count l.head)) (Var v))) (unseen 12))
+      → x ≡ value_call lim s l v
+  unfolding value_call value_tables tables_in
   value-looked e ex = rw (told.entry, ex, e)

@@ -4,14 +4,14 @@ use mathlib.Core.List.{List}
 use Prim.Native.Nat.{ℕ}
 use Rattle.machine.specs.Starting.{StartSays}
 use Rattle.machine.specs.Supplying.{SupplySays}
-use Rattle.parlog.specs.Calls.{valueCall}
+use Rattle.parlog.specs.Calls.{value_call}
 use Rattle.parlog.specs.Limits.{Limits}
 use Rattle.parlog.specs.Tables.{Lent}
 use Rattle.parlog.specs.declared.Started.{Started}
 use Rattle.parlog.specs.declared.Supplied.{Supplied}
 use Rattle.parlog.specs.declared.Valued.{Valued}
 
-pub value-once : (lim : Limits) (s : List ℕ) (l : Lent) (v : ℕ) (r q : Valued) → r ≡ valueCall lim s l v → q ≡ valueCall lim s l v → r ≡ q
+pub value-once : (lim : Limits) (s : List ℕ) (l : Lent) (v : ℕ) (r q : Valued) → r ≡ value_call lim s l v → q ≡ value_call lim s l v → r ≡ q
 value-once lim s l v r q a b = a ∙ sym b
 
 pub start-once : (lim : Limits) (s : List ℕ) (l : Lent) (r q : Started) (h p v h' p' v' : List ℕ) → StartSays lim s l r h p v → StartSays lim s l q h' p' v'

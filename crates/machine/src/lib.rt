@@ -1,19 +1,19 @@
 // The calls over lent bytes: a start, a supply, and the value of a goal variable.
 ghost use Rattle.std.specs.Prelude.{◌≡◌, cond, ◌*◌, ◌≤◌, ◌<◌, leb, ltb, length};
-ghost use Rattle.parlog.specs.Calls.{valueAnswer, valueCall};
-ghost use Rattle.parlog.specs.Codes.{starting, the-goal};
+ghost use Rattle.parlog.specs.Calls.{value_answer, value_call};
+ghost use Rattle.parlog.specs.Codes.{starting, the_goal};
 ghost use Rattle.parlog.specs.Limits.{small};
 ghost use Rattle.parlog.specs.Load.{refusal};
-ghost use Rattle.parlog.specs.Program.{program_of, tagOfGoal};
+ghost use Rattle.parlog.specs.Program.{program_of, tag_of_goal};
 ghost use Rattle.parlog.specs.Run.{seen, unseen};
-ghost use Rattle.parlog.specs.Tables.{cellSize, goalSpot, headSize, lent, newProcess, numberCode, startedLent, varCount, varsIn};
+ghost use Rattle.parlog.specs.Tables.{cell_size, goal_spot, head_size, lent, new_process, number_code, started_lent, var_count, vars_in};
 ghost use Rattle.parlog.specs.Unify.{value};
 ghost use Rattle.parlog.specs.declared.Binding.TheVariants.{Bound};
 ghost use Rattle.parlog.specs.declared.Supplied.TheVariants.{Ungiven};
 ghost use Rattle.parlog.specs.declared.Term.TheVariants.{Var};
-ghost use Rattle.program_index.specs.Indexed.{Indexed, IndexedOf, indexSize};
+ghost use Rattle.program_index.specs.Indexed.{Indexed, IndexedOf, index_size};
 ghost use Rattle.machine.specs.Starting.{BeginSays, StartSays, StartableSays};
-ghost use Rattle.machine.specs.Supplying.{DecidedSays, SupplySays, asked_of, givenBy, isConst};
+ghost use Rattle.machine.specs.Supplying.{DecidedSays, SupplySays, asked_of, given_by, is_const};
 
 use parlog::{Loaded, Process, Spot, Started, Supplied, Term, Valued, codes};
 
@@ -34,8 +34,8 @@ fn look(
     vars: &[u8],
     variable: u32,
 ) -> Valued
-    requires { (rels ≤ 32) × (clauses ≤ 64) × (headSize ≤ length head.now) × (varCount head.now * cellSize ≤ length vars.now) × ((program_of image.now rels clauses).goalVars ≤ varCount head.now) × Indexed image.now rels clauses ix.now }
-    ensures { result ≡ valueAnswer (cond (ltb variable (program_of image.now rels clauses).goalVars) (seen (value (varsIn vars.now (varCount head.now)) (Var variable))) (unseen 12)) }
+    requires { (rels ≤ 32) × (clauses ≤ 64) × (head_size ≤ length head.now) × (var_count head.now * cell_size ≤ length vars.now) × ((program_of image.now rels clauses).goal_vars ≤ var_count head.now) × Indexed image.now rels clauses ix.now }
+    ensures { result ≡ value_answer (cond (ltb variable (program_of image.now rels clauses).goal_vars) (seen (value (vars_in vars.now (var_count head.now)) (Var variable))) (unseen 12)) }
 {
     let goal = program_clause::goal_vars(image, rels, clauses, ix);
     if goal <= (variable as usize) {
@@ -48,7 +48,7 @@ fn look(
 
 // The value of a goal variable.
 pub fn value(image: &[u8], head: &[u8], procs: &[u8], vars: &[u8], variable: u32) -> Valued
-    ensures { result ≡ valueCall small image.now (lent head.now procs.now vars.now) variable }
+    ensures { result ≡ value_call small image.now (lent head.now procs.now vars.now) variable }
 {
     let mut ix = [0u16; program_index::SIZE];
     let e = entry::enter(image, head, procs, vars, &mut ix);
@@ -69,7 +69,7 @@ fn startable(
     vars: &[u8],
     ix: &mut [u16; program_index::SIZE],
 ) -> Loaded
-    requires { length ix.old ≡ indexSize }
+    requires { length ix.old ≡ index_size }
     ensures startable_says { StartableSays small image.now (lent head.now procs.now vars.now) result }
     ensures indexed_of { IndexedOf result image.now ix.new }
 {
@@ -91,7 +91,7 @@ fn goal_process(
     ix: &[u16; program_index::SIZE],
 ) -> Process
     requires { (rels ≤ 32) × (clauses ≤ 64) × Indexed image.now rels clauses ix.now }
-    ensures { result ≡ newProcess (tagOfGoal (program_of image.now rels clauses).goal) starting 0 (goalSpot the-goal 0 0) }
+    ensures { result ≡ new_process (tag_of_goal (program_of image.now rels clauses).goal) starting 0 (goal_spot the_goal 0 0) }
 {
     let tag = program_goal::tag_of_goal(image, rels, clauses, ix, 0, 0);
     let spot = Spot {
@@ -125,7 +125,7 @@ fn begin_procs(
     procs: &mut [u8],
 )
     requires { (rels ≤ 32) × (clauses ≤ 64) × (length procs.old ≡ 12288) × Indexed image.now rels clauses ix.now }
-    ensures { procs.new ≡ (startedLent small (program_of image.now rels clauses)).procs }
+    ensures { procs.new ≡ (started_lent small (program_of image.now rels clauses)).procs }
 {
     let x = goal_process(image, rels, clauses, ix);
     rows::wipe(procs, 0, PROC_BYTES);
@@ -142,7 +142,7 @@ fn begin(
     procs: &mut [u8],
     vars: &mut [u8],
 )
-    requires { (rels ≤ 32) × (clauses ≤ 64) × (length head.old ≡ headSize) × (length procs.old ≡ 12288) × (length vars.old ≡ 4096) × Indexed image.now rels clauses ix.now }
+    requires { (rels ≤ 32) × (clauses ≤ 64) × (length head.old ≡ head_size) × (length procs.old ≡ 12288) × (length vars.old ≡ 4096) × Indexed image.now rels clauses ix.now }
     ensures { BeginSays small (program_of image.now rels clauses) head.new procs.new vars.new }
 {
     let goal = program_clause::goal_vars(image, rels, clauses, ix);
@@ -169,7 +169,7 @@ pub fn start(image: &[u8], head: &mut [u8], procs: &mut [u8], vars: &mut [u8]) -
 
 // The value is known already.
 fn is_const(t: Term) -> bool
-    ensures { result ≡ isConst t }
+    ensures { result ≡ is_const t }
 {
     match t {
         Term::Const(_) => true,
@@ -179,7 +179,7 @@ fn is_const(t: Term) -> bool
 
 // The number of a term.
 fn number_of(t: Term) -> usize
-    ensures { result ≡ numberCode (Bound t) }
+    ensures { result ≡ number_code (Bound t) }
 {
     match t {
         Term::Const(c) => c as usize,
@@ -189,7 +189,7 @@ fn number_of(t: Term) -> usize
 
 // A constant for a variable whose value is t: it must be one that an image can have, before t is looked at.
 fn given(t: Term, constant: u32) -> Supplied
-    ensures { result ≡ cond (leb constant 32767) (givenBy t) (Ungiven (refusal 14 0)) }
+    ensures { result ≡ cond (leb constant 32767) (given_by t) (Ungiven (refusal 14 0)) }
 {
     let large = codes::MOST_CONSTANT < constant;
     let known = is_const(t);
@@ -213,8 +213,8 @@ pub fn asked(
     variable: u32,
     value: u32,
 ) -> Supplied
-    requires { (rels ≤ 32) × (clauses ≤ 64) × (headSize ≤ length head.now) × (varCount head.now * cellSize ≤ length vars.now) × ((program_of image.now rels clauses).goalVars ≤ varCount head.now) × Indexed image.now rels clauses ix.now }
-    ensures { result ≡ asked_of (program_of image.now rels clauses) (varsIn vars.now (varCount head.now)) variable value }
+    requires { (rels ≤ 32) × (clauses ≤ 64) × (head_size ≤ length head.now) × (var_count head.now * cell_size ≤ length vars.now) × ((program_of image.now rels clauses).goal_vars ≤ var_count head.now) × Indexed image.now rels clauses ix.now }
+    ensures { result ≡ asked_of (program_of image.now rels clauses) (vars_in vars.now (var_count head.now)) variable value }
 {
     let goal = program_clause::goal_vars(image, rels, clauses, ix);
     if goal <= (variable as usize) {

@@ -11,54 +11,54 @@ use Rattle.text_names.specs.Names.{Name}
 use Rattle.text_program.specs.Parsing.{all_of}
 
 -- a name that is looked for is not before y
-abbrev pub notBefore : (Name → Bool) → Name → Name → Bool
-notBefore asked y x = not (asked x && before x y)
+abbrev pub not_before : (Name → Bool) → Name → Name → Bool
+not_before asked y x = not (asked x && before x y)
 
 -- of the names xs, y is one that is looked for, and none of these is before it
 pub record Lowest (asked : Name → Bool) (xs : List Name) (y : Name) (ys : List Name) : Type 0 where
   pub one : ys ≡ []
   pub wanted : asked y ≡ true
   pub among : (ok : Name → Bool) → all_of ok xs ≡ true → ok y ≡ true
-  pub lowest : all_of (notBefore asked y) xs ≡ true
+  pub lowest : all_of (not_before asked y) xs ≡ true
 
 module _ {asked : Name → Bool} {y : Name} {ys : List Name} where
   -- one name more in front
-  lowest-more : {xs : List Name} (x : Name) → notBefore asked y x ≡ true → Lowest asked xs y ys → Lowest asked (x ∷ xs) y ys
+  lowest-more : {xs : List Name} (x : Name) → not_before asked y x ≡ true → Lowest asked xs y ys → Lowest asked (x ∷ xs) y ys
   unfolding all_of
   lowest-more {xs} x e l = record {
     one = l.one;
     wanted = l.wanted;
     among = λ ok h. l.among ok (and-true (ok x) (all_of ok xs) h).1;
-    lowest = true-and (notBefore asked y x) (all_of (notBefore asked y) xs) e l.lowest;
+    lowest = true-and (not_before asked y x) (all_of (not_before asked y) xs) e l.lowest;
   }
 
   -- one name more behind the first
-  lowest-under : {xs : List Name} (z x : Name) → notBefore asked y x ≡ true → Lowest asked (z ∷ xs) y ys → Lowest asked (z ∷ x ∷ xs) y ys
+  lowest-under : {xs : List Name} (z x : Name) → not_before asked y x ≡ true → Lowest asked (z ∷ xs) y ys → Lowest asked (z ∷ x ∷ xs) y ys
   unfolding all_of
   lowest-under {xs} z x e l =
-      let w = and-true (notBefore asked y z) (all_of (notBefore asked y) xs) l.lowest in
+      let w = and-true (not_before asked y z) (all_of (not_before asked y) xs) l.lowest in
       record {
         one = l.one;
         wanted = l.wanted;
         among = λ ok h.
             let k = and-true (ok z) (ok x && all_of ok xs) h in
             l.among ok (true-and (ok z) (all_of ok xs) k.0 (and-true (ok x) (all_of ok xs) k.1).1);
-        lowest = true-and (notBefore asked y z) (notBefore asked y x && all_of (notBefore asked y) xs) w.0 (true-and (notBefore asked y x) (all_of (notBefore asked y) xs) e w.1);
+        lowest = true-and (not_before asked y z) (not_before asked y x && all_of (not_before asked y) xs) w.0 (true-and (not_before asked y x) (all_of (not_before asked y) xs) e w.1);
       }
 
   lowest-first : {xs : List Name} (z : Name) → asked z ≡ true → Lowest asked (z ∷ xs) y ys → before z y ≡ false
   unfolding all_of
-  lowest-first {xs} z e l = go (before z y) (rw e at (and-true (notBefore asked y z) (all_of (notBefore asked y) xs) l.lowest).0)
+  lowest-first {xs} z e l = go (before z y) (rw e at (and-true (not_before asked y z) (all_of (not_before asked y) xs) l.lowest).0)
     where
       go : (b : Bool) → not (true && b) ≡ true → b ≡ false
       go true h = never h
       go false h = refl
 
 -- a test of a name that is not looked for, or of one that is not before y
-not-asked : (asked : Name → Bool) (y x : Name) → asked x ≡ false → notBefore asked y x ≡ true
+not-asked : (asked : Name → Bool) (y x : Name) → asked x ≡ false → not_before asked y x ≡ true
 not-asked asked y x e = rw e refl
 
-not-less : (asked : Name → Bool) (y x : Name) → before x y ≡ false → notBefore asked y x ≡ true
+not-less : (asked : Name → Bool) (y x : Name) → before x y ≡ false → not_before asked y x ≡ true
 not-less asked y x e = go (asked x)
   where
     go : (b : Bool) → not (b && before x y) ≡ true

@@ -4,18 +4,18 @@ use mathlib.Core.List.{[], ◌∷◌, List}
 use Prim.Native.Nat.{◌≤◌, ℕ}
 use lib.ListN.{drop, length}
 use Rattle.missing_call.proofs.Folded.{least-none, least_on}
-use Rattle.missing_call.specs.Sees.{leastOf, Looks, Sees}
+use Rattle.missing_call.specs.Sees.{least_of, Looks, Sees}
 use Rattle.missing_call.specs.declared.Asked.{Asked}
 use Rattle.missing_call.specs.declared.Seen.{Seen}
 use Rattle.text_names.specs.Names.{Name}
 use Rattle.text_program.proofs.Joined.{joined-cons, joined-none, joined-one}
 use Rattle.text_program.specs.Numbered.{joined}
-use Rattle.text_program.specs.Source.{consGot, Got, got}
+use Rattle.text_program.specs.Source.{cons_got, Got, got}
 
 -- of the row W, which is walked over from w on, there is left Y, from v on
 pub record Walked {A : Type 0} (f : A → List Name) (s t : List ℕ) (a : Asked) (w : Seen) (W : Got (List A)) (v : Seen) (Y : Got (List A)) : Type 0 where
   pub rest : Y.rest ≡ W.rest
-  pub name : leastOf s t a v (joined f Y.value) ≡ leastOf s t a w (joined f W.value)
+  pub name : least_of s t a v (joined f Y.value) ≡ least_of s t a w (joined f W.value)
   pub inside : v.end ≤ length s
   pub within : v.at ≤ length s
 
@@ -25,29 +25,29 @@ looks_on k h i = record { index = k.index; bound = k.bound; inside = h; within =
 
 -- the least name with those of a row
 abbrev named : {A : Type 0} → (A → List Name) → List ℕ → List ℕ → Asked → Seen → Got (List A) → List Name
-named f s t a v Y = leastOf s t a v (joined f Y.value)
+named f s t a v Y = least_of s t a v (joined f Y.value)
 
 module _ {A : Type 0} (f : A → List Name) (s t : List ℕ) (a : Asked) (w : Seen) {W : Got (List A)} where
   pub walked_start : {l : List ℕ} {Y : Got (List A)} → Looks s t l a w → Y ≡ W → Walked f s t a w W w Y
   walked_start k e = record { rest = ap (λ (y : Got (List A)). y.rest) e; name = ap (named f s t a w) e; inside = k.inside; within = k.within }
 
-  pub walked_on : {v u : Seen} {Y Z : Got (List A)} {rest : List ℕ} (x : A) (e : ℕ) → Y ≡ consGot x Z → Sees s rest (leastOf s t a v (f x)) u → e ≤ length s →
+  pub walked_on : {v u : Seen} {Y Z : Got (List A)} {rest : List ℕ} (x : A) (e : ℕ) → Y ≡ cons_got x Z → Sees s rest (least_of s t a v (f x)) u → e ≤ length s →
       Walked f s t a w W v Y → Walked f s t a w W (record { end = e; some = u.some; at = u.at }) Z
   walked_on {v = v} {u = u} {Z = Z} x e split sees h k =
       record {
         rest = sym (ap (λ (y : Got (List A)). y.rest) split) ∙ k.rest;
-        name = least_on s t a v u (f x) (joined f Z.value) sees.name ∙ sym (ap (leastOf s t a v) (joined-cons f x Z.value)) ∙ sym (ap (named f s t a v) split) ∙ k.name;
+        name = least_on s t a v u (f x) (joined f Z.value) sees.name ∙ sym (ap (least_of s t a v) (joined-cons f x Z.value)) ∙ sym (ap (named f s t a v) split) ∙ k.name;
         inside = h;
         within = sees.within;
       }
 
-  pub walked-last : {v u : Seen} {Y : Got (List A)} {rest : List ℕ} (x : A) → Y ≡ got (x ∷ []) (drop u.end s) → Sees s rest (leastOf s t a v (f x)) u → Walked f s t a w W v Y →
+  pub walked-last : {v u : Seen} {Y : Got (List A)} {rest : List ℕ} (x : A) → Y ≡ got (x ∷ []) (drop u.end s) → Sees s rest (least_of s t a v (f x)) u → Walked f s t a w W v Y →
       Sees s W.rest (named f s t a w W) u
   walked-last {v = v} x split sees k =
       record {
         end = sym (ap (λ (y : Got (List A)). y.rest) split) ∙ k.rest;
         inside = sees.inside;
-        name = sees.name ∙ sym (ap (leastOf s t a v) (joined-one f x)) ∙ sym (ap (named f s t a v) split) ∙ k.name;
+        name = sees.name ∙ sym (ap (least_of s t a v) (joined-one f x)) ∙ sym (ap (named f s t a v) split) ∙ k.name;
         within = sees.within;
       }
 
@@ -56,6 +56,6 @@ module _ {A : Type 0} (f : A → List Name) (s t : List ℕ) (a : Asked) (w : Se
       record {
         end = sym (ap (λ (y : Got (List A)). y.rest) split) ∙ k.rest;
         inside = k.inside;
-        name = sym (least-none s t a v) ∙ sym (ap (leastOf s t a v) (joined-none f)) ∙ sym (ap (named f s t a v) split) ∙ k.name;
+        name = sym (least-none s t a v) ∙ sym (ap (least_of s t a v) (joined-none f)) ∙ sym (ap (named f s t a v) split) ∙ k.name;
         within = k.within;
       }

@@ -18,8 +18,8 @@ abbrev pub unseen : ℕ → Seen
 unseen from = record { end = from; some = false; at = 0 }
 
 -- the least of the names that are looked for by a class, a table and a bound, and of what was seen so far
-abbrev pub leastOf : List ℕ → List ℕ → Asked → Seen → List Name → List Name
-leastOf s t a w xs = least (missing a.class (names_at s (take a.count t)) (one_at s a.bounded a.bound)) (one_at s w.some w.at) xs
+abbrev pub least_of : List ℕ → List ℕ → Asked → Seen → List Name → List Name
+least_of s t a w xs = least (missing a.class (names_at s (take a.count t)) (one_at s a.bounded a.bound)) (one_at s w.some w.at) xs
 
 -- names are at the places of a table, and all places are inside the text
 pub record Looks (s t l : List ℕ) (a : Asked) (w : Seen) : Type 0 where

@@ -1,14 +1,14 @@
 // The calls of a text whose relations a table does not have: the least of their names that is of a class and above a bound.
 ghost use Rattle.std.specs.Prelude.{[], ◌∷◌, ◌≡◌, ◌≤◌, drop, length, take};
-ghost use Rattle.missing_call.specs.Called.{callsFrom, clauseCalls, goalCalls, saidCalls};
-ghost use Rattle.missing_call.specs.Least.{before, inClass, missing};
-ghost use Rattle.missing_call.specs.Sees.{leastOf, Looks, one_at, Sees, unseen};
-ghost use Rattle.name_index.specs.Index.{chainOf, Indexed};
+ghost use Rattle.missing_call.specs.Called.{calls_from, clause_calls, goal_calls, said_calls};
+ghost use Rattle.missing_call.specs.Least.{before, in_class, missing};
+ghost use Rattle.missing_call.specs.Sees.{least_of, Looks, one_at, Sees, unseen};
+ghost use Rattle.name_index.specs.Index.{chain_of, Indexed};
 ghost use Rattle.read_clause.specs.Parts.{part_of};
 ghost use Rattle.read_names.specs.Tables.{names_at};
 ghost use Rattle.text_names.specs.Bytes.{front};
 ghost use Rattle.text_program.specs.Numbered.{joined};
-ghost use Rattle.text_program.specs.Source.{isClause, linesFor, read_body, readClause, readGoal, readLiteral, row};
+ghost use Rattle.text_program.specs.Source.{is_clause, lines_for, read_body, read_clause, read_goal, read_literal, row};
 
 // How a goal is read: there is none, or there is one; else there may be one.
 const NO_GOAL: usize = 0;
@@ -68,14 +68,14 @@ fn before(s: &[u8], p: usize, q: usize) -> bool
 
 // A chain is of a class.
 pub fn in_class(class: usize, chain: usize) -> bool
-    ensures { result ≡ inClass class chain }
+    ensures { result ≡ in_class class chain }
 {
     basics::or(CLASSES <= class, chain / CHAINS_EACH == class)
 }
 
 // The name at q, which is in a chain, is looked for.
 fn missing(s: &[u8], places: &[usize], links: &[u16], a: Asked, q: usize, chain: usize) -> bool
-    requires { (q ≤ length s.now) × (chain ≡ chainOf (front (drop q s.now))) × Indexed s.now places.now links.now a.count × (a.bound ≤ length s.now) }
+    requires { (q ≤ length s.now) × (chain ≡ chain_of (front (drop q s.now))) × Indexed s.now places.now links.now a.count × (a.bound ≤ length s.now) }
     ensures { result ≡ missing a.class (names_at s.now (take a.count places.now)) (one_at s.now a.bounded a.bound) (front (drop q s.now)) }
 {
     if !in_class(a.class, chain) {
@@ -101,8 +101,8 @@ fn call(
     q: usize,
     chain: usize,
 ) -> Seen
-    requires { (q ≤ length s.now) × (chain ≡ chainOf (front (drop q s.now))) × Looks s.now places.now links.now a w }
-    ensures { (one_at s.now result.some result.at ≡ leastOf s.now places.now a w (front (drop q s.now) ∷ [])) × (result.at ≤ length s.now) × (result.end ≡ w.end) }
+    requires { (q ≤ length s.now) × (chain ≡ chain_of (front (drop q s.now))) × Looks s.now places.now links.now a w }
+    ensures { (one_at s.now result.some result.at ≡ least_of s.now places.now a w (front (drop q s.now) ∷ [])) × (result.at ≤ length s.now) × (result.end ≡ w.end) }
 {
     if !missing(s, places, links, a, q, chain) {
         return w;
@@ -135,7 +135,7 @@ fn moved(w: Seen, end: usize) -> Seen
 // A literal.
 fn literal(s: &[u8], places: &[usize], links: &[u16], a: Asked, w: Seen) -> Seen
     requires { Looks s.now places.now links.now a w }
-    ensures { Sees s.now (readLiteral (drop w.end s.now)).rest (leastOf s.now places.now a w (saidCalls (readLiteral (drop w.end s.now)).value)) result }
+    ensures { Sees s.now (read_literal (drop w.end s.now)).rest (least_of s.now places.now a w (said_calls (read_literal (drop w.end s.now)).value)) result }
 {
     let word = name_index::name_at(s, w.end);
     let behind = text_names::skip_blanks(s, word.end);
@@ -151,7 +151,7 @@ fn literal(s: &[u8], places: &[usize], links: &[u16], a: Asked, w: Seen) -> Seen
 // Literals with a comma between them.
 fn stage(s: &[u8], places: &[usize], links: &[u16], a: Asked, w: Seen) -> Seen
     requires { Looks s.now places.now links.now a w }
-    ensures { Sees s.now (row readLiteral 44 (drop w.end s.now)).rest (leastOf s.now places.now a w (joined saidCalls (row readLiteral 44 (drop w.end s.now)).value)) result }
+    ensures { Sees s.now (row read_literal 44 (drop w.end s.now)).rest (least_of s.now places.now a w (joined said_calls (row read_literal 44 (drop w.end s.now)).value)) result }
 {
     let mut v = w;
     let mut left = s.len() - w.end;
@@ -169,7 +169,7 @@ fn stage(s: &[u8], places: &[usize], links: &[u16], a: Asked, w: Seen) -> Seen
 // Stages with `&` between them.
 fn goal(s: &[u8], places: &[usize], links: &[u16], a: Asked, w: Seen) -> Seen
     requires { Looks s.now places.now links.now a w }
-    ensures { Sees s.now (readGoal (drop w.end s.now)).rest (leastOf s.now places.now a w (goalCalls (readGoal (drop w.end s.now)).value)) result }
+    ensures { Sees s.now (read_goal (drop w.end s.now)).rest (least_of s.now places.now a w (goal_calls (read_goal (drop w.end s.now)).value)) result }
 {
     let mut v = w;
     let mut left = s.len() - w.end;
@@ -187,7 +187,7 @@ fn goal(s: &[u8], places: &[usize], links: &[u16], a: Asked, w: Seen) -> Seen
 // A goal, or nothing where the line ends.
 fn body(s: &[u8], places: &[usize], links: &[u16], a: Asked, w: Seen) -> Seen
     requires { Looks s.now places.now links.now a w }
-    ensures { Sees s.now (read_body (drop w.end s.now)).rest (leastOf s.now places.now a w (goalCalls (read_body (drop w.end s.now)).value)) result }
+    ensures { Sees s.now (read_body (drop w.end s.now)).rest (least_of s.now places.now a w (goal_calls (read_body (drop w.end s.now)).value)) result }
 {
     let mark = place::byte_at(s, w.end);
     if basics::or(mark == read_goal::DOT, mark == read_goal::SEMICOLON) {
@@ -199,7 +199,7 @@ fn body(s: &[u8], places: &[usize], links: &[u16], a: Asked, w: Seen) -> Seen
 // A goal, as it is read.
 fn part(s: &[u8], places: &[usize], links: &[u16], a: Asked, w: Seen, how: usize) -> Seen
     requires { Looks s.now places.now links.now a w }
-    ensures { Sees s.now (part_of how (drop w.end s.now)).rest (leastOf s.now places.now a w (goalCalls (part_of how (drop w.end s.now)).value)) result }
+    ensures { Sees s.now (part_of how (drop w.end s.now)).rest (least_of s.now places.now a w (goal_calls (part_of how (drop w.end s.now)).value)) result }
 {
     if how == NO_GOAL {
         return w;
@@ -215,7 +215,7 @@ fn part(s: &[u8], places: &[usize], links: &[u16], a: Asked, w: Seen, how: usize
 // A clause: its own relation, its guard and its body.
 fn clause(s: &[u8], places: &[usize], links: &[u16], a: Asked, w: Seen) -> Seen
     requires { Looks s.now places.now links.now a w }
-    ensures { Sees s.now (readClause (drop w.end s.now)).rest (leastOf s.now places.now a w (clauseCalls (readClause (drop w.end s.now)).value)) result }
+    ensures { Sees s.now (read_clause (drop w.end s.now)).rest (least_of s.now places.now a w (clause_calls (read_clause (drop w.end s.now)).value)) result }
 {
     let c = read_clause::clause(s, w.end);
     let word = name_index::name_at(s, w.end);
@@ -228,7 +228,7 @@ fn clause(s: &[u8], places: &[usize], links: &[u16], a: Asked, w: Seen) -> Seen
 // Up to `left` clauses.
 fn clauses(s: &[u8], places: &[usize], links: &[u16], a: Asked, w: Seen, left: usize) -> Seen
     requires { Looks s.now places.now links.now a w }
-    ensures { Sees s.now (linesFor left isClause readClause (drop w.end s.now)).rest (leastOf s.now places.now a w (joined clauseCalls (linesFor left isClause readClause (drop w.end s.now)).value)) result }
+    ensures { Sees s.now (lines_for left is_clause read_clause (drop w.end s.now)).rest (least_of s.now places.now a w (joined clause_calls (lines_for left is_clause read_clause (drop w.end s.now)).value)) result }
 {
     let mut v = w;
     let mut more = left;
@@ -245,7 +245,7 @@ fn clauses(s: &[u8], places: &[usize], links: &[u16], a: Asked, w: Seen, left: u
 // Up to `left` clauses from a place on and the goal behind them: the least name of a call that is looked for.
 pub fn least(s: &[u8], places: &[usize], links: &[u16], a: Asked, from: usize, left: usize) -> Seen
     requires { Looks s.now places.now links.now a (unseen from) }
-    ensures { (one_at s.now result.some result.at ≡ leastOf s.now places.now a (unseen from) (callsFrom s.now from left)) × (result.at ≤ length s.now) }
+    ensures { (one_at s.now result.some result.at ≡ least_of s.now places.now a (unseen from) (calls_from s.now from left)) × (result.at ≤ length s.now) }
 {
     let w = Seen {
         end: from,

@@ -1,8 +1,8 @@
 // The mode lines of a text in tables, and a relation found there by its name.
 ghost use Rattle.std.specs.Prelude.{◌≡◌, ◌≤◌, drop, length};
 ghost use Rattle.mode_table.specs.Moded.{Moded};
-ghost use Rattle.name_index.specs.Index.{chainOf};
-ghost use Rattle.read_names.specs.Tables.{Finds, modesFrom};
+ghost use Rattle.name_index.specs.Index.{chain_of};
+ghost use Rattle.read_names.specs.Tables.{Finds, modes_from};
 ghost use Rattle.text_names.specs.Bytes.{front};
 
 use read_names::Entry;
@@ -24,8 +24,8 @@ pub fn relation(
     q: usize,
     chain: usize,
 ) -> Entry
-    requires { (q ≤ length s.now) × (chain ≡ chainOf (front (drop q s.now))) × Moded s.now places.now arities.now links.now lines }
-    ensures { Finds (modesFrom s.now lines.from) (front (drop q s.now)) result }
+    requires { (q ≤ length s.now) × (chain ≡ chain_of (front (drop q s.now))) × Moded s.now places.now arities.now links.now lines }
+    ensures { Finds (modes_from s.now lines.from) (front (drop q s.now)) result }
 {
     let count = lines.count;
     let k = name_index::find(s, places, links, count, q, chain);

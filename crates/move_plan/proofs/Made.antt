@@ -4,8 +4,8 @@ use mathlib.Core.List.{[], ◌++◌, ◌∷◌, List}
 use Prim.Native.Nat.{suc, zero, ℕ}
 use lib.ListN.{length}
 use Rattle.parlog.specs.Delta.{making}
-use Rattle.parlog.specs.Rules.{Applied, by-rule, firstMade}
-use Rattle.parlog.specs.Tables.{procsOf, State}
+use Rattle.parlog.specs.Rules.{Applied, by_rule, first_made}
+use Rattle.parlog.specs.Tables.{procs_of, State}
 use Rattle.parlog.specs.declared.Found.{Found}
 use Rattle.parlog.specs.declared.Move.{Move}
 use Rattle.parlog.specs.declared.Process.{Process}
@@ -15,13 +15,13 @@ use Rattle.move_plan.specs.Plans.{touched}
 
 -- ---- one new process
 
-module _ (rows : List ℕ) {new : List ℕ} {y : Process} (t : Table rows new (procsOf rows 0 ++ (y ∷ []))) where
-  pub first-row : procsOf new 1 ≡ y ∷ []
+module _ (rows : List ℕ) {new : List ℕ} {y : Process} (t : Table rows new (procs_of rows 0 ++ (y ∷ []))) where
+  pub first-row : procs_of new 1 ≡ y ∷ []
   first-row =
-      let e : procsOf rows 0 ++ (y ∷ []) ≡ y ∷ [] = rw (procs-none rows) in
+      let e : procs_of rows 0 ++ (y ∷ []) ≡ y ∷ [] = rw (procs-none rows) in
       table-rows 1 t (ap length e) ∙ e
 
-  pub one-made : {mv : Move} {x : Process} {nap : Found} {a : Applied} → a ≡ by-rule mv (making x nap (procsOf new 1) 0) → a ≡ by-rule mv (making x nap (y ∷ []) 0)
+  pub one-made : {mv : Move} {x : Process} {nap : Found} {a : Applied} → a ≡ by_rule mv (making x nap (procs_of new 1) 0) → a ≡ by_rule mv (making x nap (y ∷ []) 0)
   one-made e = rw first-row at e
 
 -- ---- the row that is touched
@@ -35,7 +35,7 @@ unfolding touched
 touch-next n p zero ne = absurd (ne refl)
 touch-next n p (suc k) ne = refl
 
-pub touches : (s : State) (n p k : ℕ) (ps : List Process) → length s.procs ≡ n → length ps ≡ k → touched n p k ≡ firstMade s p ps
+pub touches : (s : State) (n p k : ℕ) (ps : List Process) → length s.procs ≡ n → length ps ≡ k → touched n p k ≡ first_made s p ps
 unfolding touched
 touches s n p k [] es ek = rw (← ek)
 touches s n p k (y ∷ ys) es ek = rw (← ek, es)

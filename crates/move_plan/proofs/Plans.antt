@@ -10,86 +10,86 @@ use borrow.Author.Tests.{le-leb, leb-false, leb-true, lt-leb}
 use native.Mathlib.Omega.{arith}
 use Rattle.parlog.proofs.Bools.{and-true, split}
 use Rattle.parlog.specs.Codes.{Result}
-use Rattle.parlog.specs.Delta.{Delta, fourOf, report, reporting-with, withNotes}
+use Rattle.parlog.specs.Delta.{Delta, four_of, report, reporting_with, with_notes}
 use Rattle.parlog.specs.Limits.{Limits}
-use Rattle.parlog.specs.Rules.{Applied, by-rule, fits, no-rule}
+use Rattle.parlog.specs.Rules.{Applied, by_rule, fits, no_rule}
 use Rattle.parlog.specs.Tables.{State}
 use Rattle.parlog.specs.declared.Move.{Move}
 use Rattle.parlog.specs.declared.Process.{Process}
-use Rattle.move_plan.specs.Plans.{appliedOf, changesOf, deltaOf, fitsIn}
+use Rattle.move_plan.specs.Plans.{applied_of, changes_of, delta_of, fits_in}
 use Rattle.move_plan.specs.declared.Changes.{Changes}
 use Rattle.move_plan.specs.declared.Plan.{Plan}
 use Rattle.rows.proofs.Tables.{procs-length}
 
-pub none-taken : (c : Changes) → c.count ≡ 0 → changesOf c ≡ []
-unfolding changesOf
+pub none-taken : (c : Changes) → c.count ≡ 0 → changes_of c ≡ []
+unfolding changes_of
 none-taken c e = rw e
 
 -- ---- a plan that acts
 
-no-by : {X : Type 0} {m : Move} {d : Delta} → no-rule ≡ by-rule m d → X
+no-by : {X : Type 0} {m : Move} {d : Delta} → no_rule ≡ by_rule m d → X
 no-by e = let z : ◌≡◌ {A = ℕ} 0 1 = cc in absurd (omega arith)
 
-module _ (pl : Plan) {m : Move} {d : Delta} (e : appliedOf pl ≡ by-rule m d) where
-  acting : (b : Bool) → cond b (by-rule pl.mv (deltaOf pl)) no-rule ≡ by-rule m d → by-rule pl.mv (deltaOf pl) ≡ by-rule m d
+module _ (pl : Plan) {m : Move} {d : Delta} (e : applied_of pl ≡ by_rule m d) where
+  acting : (b : Bool) → cond b (by_rule pl.mv (delta_of pl)) no_rule ≡ by_rule m d → by_rule pl.mv (delta_of pl) ≡ by_rule m d
   acting true q = q
   acting false q = no-by q
 
-  both : by-rule pl.mv (deltaOf pl) ≡ by-rule m d
-  unfolding appliedOf
+  both : by_rule pl.mv (delta_of pl) ≡ by_rule m d
+  unfolding applied_of
   both = acting pl.acts e
 
   pub applied-acts : pl.acts ≡ true
-  unfolding appliedOf
+  unfolding applied_of
   applied-acts = split pl.acts (λ q. q) (λ q. no-by (rw q at e))
 
   pub applied-move : pl.mv ≡ m
   applied-move = let q = both in cc
 
-  pub applied-delta : deltaOf pl ≡ d
+  pub applied-delta : delta_of pl ≡ d
   applied-delta = let q = both in cc
 
 -- and one that does not
-pub applied-none : (pl : Plan) → pl.acts ≡ false → appliedOf pl ≡ no-rule
-unfolding appliedOf
+pub applied-none : (pl : Plan) → pl.acts ≡ false → applied_of pl ≡ no_rule
+unfolding applied_of
 applied-none pl e = rw e
 
-pub applied-some : (pl : Plan) → pl.acts ≡ true → appliedOf pl ≡ by-rule pl.mv (deltaOf pl)
-unfolding appliedOf
+pub applied-some : (pl : Plan) → pl.acts ≡ true → applied_of pl ≡ by_rule pl.mv (delta_of pl)
+unfolding applied_of
 applied-some pl e = rw e
 
-pub delta-new : (pl : Plan) → length (deltaOf pl).new ≡ pl.count
-unfolding deltaOf
+pub delta-new : (pl : Plan) → length (delta_of pl).new ≡ pl.count
+unfolding delta_of
 delta-new pl = procs-length pl.rows pl.count
 
-pub delta-fresh : (pl : Plan) → (deltaOf pl).fresh ≡ pl.fresh
-unfolding deltaOf
+pub delta-fresh : (pl : Plan) → (delta_of pl).fresh ≡ pl.fresh
+unfolding delta_of
 delta-fresh pl = refl
 
 -- ---- room
 
 module _ (procs vars n m : ℕ) (pl : Plan) where
-  pub fits_not : n ≤ procs → procs - n < pl.count → false ≡ fitsIn procs vars n m pl
-  unfolding fitsIn
+  pub fits_not : n ≤ procs → procs - n < pl.count → false ≡ fits_in procs vars n m pl
+  unfolding fits_in
   fits_not a h = rw (lt-leb (n + pl.count) procs (omega arith))
 
-  pub fits_by : n ≤ procs → m ≤ vars → pl.count ≤ procs - n → leb pl.fresh (vars - m) ≡ fitsIn procs vars n m pl
-  unfolding fitsIn
+  pub fits_by : n ≤ procs → m ≤ vars → pl.count ≤ procs - n → leb pl.fresh (vars - m) ≡ fits_in procs vars n m pl
+  unfolding fits_in
   fits_by a b h = rw (le-leb (n + pl.count) procs (omega arith)) (split (leb pl.fresh (vars - m))
       (λ q. let k : pl.fresh ≤ vars - m = leb-true pl.fresh (vars - m) q in rw (q, le-leb (m + pl.fresh) vars (omega arith)))
       (λ q. let k : vars - m < pl.fresh = leb-false pl.fresh (vars - m) q in rw (q, lt-leb (m + pl.fresh) vars (omega arith))))
 
-  pub fits-procs : fitsIn procs vars n m pl ≡ true → n + pl.count ≤ procs
-  unfolding fitsIn
+  pub fits-procs : fits_in procs vars n m pl ≡ true → n + pl.count ≤ procs
+  unfolding fits_in
   fits-procs e = leb-true (n + pl.count) procs (and-true (leb (n + pl.count) procs) (leb (m + pl.fresh) vars) e).0
 
-  pub fits-vars : fitsIn procs vars n m pl ≡ true → m + pl.fresh ≤ vars
-  unfolding fitsIn
+  pub fits-vars : fits_in procs vars n m pl ≡ true → m + pl.fresh ≤ vars
+  unfolding fits_in
   fits-vars e = leb-true (m + pl.fresh) vars (and-true (leb (n + pl.count) procs) (leb (m + pl.fresh) vars) e).1
 
 -- the room of the rules
-pub fits-is : (lim : Limits) (s : State) (pl : Plan) → fitsIn lim.procs lim.vars (length s.procs) (length s.vars) pl ≡ fits lim s (deltaOf pl)
-unfolding fitsIn fits
+pub fits-is : (lim : Limits) (s : State) (pl : Plan) → fits_in lim.procs lim.vars (length s.procs) (length s.vars) pl ≡ fits lim s (delta_of pl)
+unfolding fits_in fits
 fits-is lim s pl = rw (delta-new pl, delta-fresh pl)
 
 -- ---- notes
@@ -102,10 +102,10 @@ taken-past (suc k) (x ∷ l) (suc i) h = taken-past k l i (omega arith)
 
 pub noted-is : (x : Process) (k : ℕ) (notes : List ℕ) → length notes ≡ 4 → k ≤ 4 → {a b c d : ℕ}
     → a ≡ get_or (take k notes) 0 0 → b ≡ get_or (take k notes) 1 0 → c ≡ get_or (take k notes) 2 0 → d ≡ get_or (take k notes) 3 0
-    → ◌≡◌ {A = Process} (record { tag = x.tag; mode = 5; result = x.result; count = k; parent = x.parent; spot = x.spot; notes = a ∷ b ∷ c ∷ d ∷ [] }) (withNotes (take k notes) x)
-unfolding withNotes fourOf
+    → ◌≡◌ {A = Process} (record { tag = x.tag; mode = 5; result = x.result; count = k; parent = x.parent; spot = x.spot; notes = a ∷ b ∷ c ∷ d ∷ [] }) (with_notes (take k notes) x)
+unfolding with_notes four_of
 noted-is x k notes e h ea eb ec ed = rw (ea, eb, ec, ed, length-take-le k notes (omega arith))
 
 -- a report that binds nothing
-pub reports-plain : {mv : Move} (t : Result) (x : Process) (c : Changes) → c.count ≡ 0 → {a : Applied} → a ≡ by-rule mv (reporting-with t x (changesOf c)) → a ≡ by-rule mv (report t x)
+pub reports-plain : {mv : Move} (t : Result) (x : Process) (c : Changes) → c.count ≡ 0 → {a : Applied} → a ≡ by_rule mv (reporting_with t x (changes_of c)) → a ≡ by_rule mv (report t x)
 reports-plain t x c e q = rw (none-taken c e) at q

@@ -1,9 +1,9 @@
 -- What a plan means.
 use Rattle.std.specs.Prelude.{◌≡◌, ◌&&◌, Bool, cond, List, ◌*◌, ◌+◌, ◌<◌, suc, zero, ℕ, leb, get_or, take}
-use Rattle.parlog.specs.Codes.{Mode, modeCode, Tag, tagCode}
+use Rattle.parlog.specs.Codes.{Mode, mode_code, Tag, tag_code}
 use Rattle.parlog.specs.Delta.{Delta}
-use Rattle.parlog.specs.Rules.{Applied, by-rule, no-rule}
-use Rattle.parlog.specs.Tables.{newProcess, numberCode, procsOf, rowSize, State, varsIn}
+use Rattle.parlog.specs.Rules.{Applied, by_rule, no_rule}
+use Rattle.parlog.specs.Tables.{new_process, number_code, procs_of, row_size, State, vars_in}
 use Rattle.parlog.specs.Unify.{change}
 use Rattle.parlog.specs.declared.Binding.TheVariants.{Bound}
 use Rattle.parlog.specs.declared.Change.{Change}
@@ -19,39 +19,39 @@ Of {K = K} code k f r = (t : K) → code t ≡ k → r ≡ f t
 
 -- a new process, by the numbers of its tag and mode
 abbrev pub Born : ℕ → ℕ → ℕ → Spot → Process → Type 0
-Born k j parent z r = (t : Tag) → tagCode t ≡ k → (m : Mode) → modeCode m ≡ j → r ≡ newProcess t m parent z
+Born k j parent z r = (t : Tag) → tag_code t ≡ k → (m : Mode) → mode_code m ≡ j → r ≡ new_process t m parent z
 
 -- ---- a plan
 
 -- how many new processes a plan has room for
-abbrev pub newMost : ℕ
-newMost = 12
+abbrev pub new_most : ℕ
+new_most = 12
 
 -- the bytes of their rows
-abbrev pub newSize : ℕ
-newSize = newMost * rowSize
+abbrev pub new_size : ℕ
+new_size = new_most * row_size
 
 -- the bindings that wait, in order
-unfoldable pub changesOf : Changes → List Change
-changesOf c = take c.count c.list
+unfoldable pub changes_of : Changes → List Change
+changes_of c = take c.count c.list
 
 -- the change of the tables; the new processes wait as rows
-unfoldable pub deltaOf : Plan → Delta
-deltaOf pl = record {
+unfoldable pub delta_of : Plan → Delta
+delta_of pl = record {
   me = pl.me;
   cut = pl.cut;
   nap = pl.nap;
-  new = procsOf pl.rows pl.count;
-  changes = changesOf pl.changes;
+  new = procs_of pl.rows pl.count;
+  changes = changes_of pl.changes;
   fresh = pl.fresh;
 }
 
-unfoldable pub appliedOf : Plan → Applied
-appliedOf pl = cond pl.acts (by-rule pl.mv (deltaOf pl)) no-rule
+unfoldable pub applied_of : Plan → Applied
+applied_of pl = cond pl.acts (by_rule pl.mv (delta_of pl)) no_rule
 
 -- 11 ROOM, by numbers: the limits, the counts
-unfoldable pub fitsIn : ℕ → ℕ → ℕ → ℕ → Plan → Bool
-fitsIn procs vars n m pl = leb (n + pl.count) procs && leb (m + pl.fresh) vars
+unfoldable pub fits_in : ℕ → ℕ → ℕ → ℕ → Plan → Bool
+fits_in procs vars n m pl = leb (n + pl.count) procs && leb (m + pl.fresh) vars
 
 -- Turns 9: the row that a move touches which makes k processes after n
 unfoldable pub touched : ℕ → ℕ → ℕ → ℕ
@@ -61,12 +61,12 @@ touched n p (suc k) = n
 -- ---- what a plan is carried out on
 
 -- the tables' lists
-abbrev pub stateIn : List ℕ → ℕ → List ℕ → ℕ → State
-stateIn procs n vars m = record { procs = procsOf procs n; vars = varsIn vars m }
+abbrev pub state_in : List ℕ → ℕ → List ℕ → ℕ → State
+state_in procs n vars m = record { procs = procs_of procs n; vars = vars_in vars m }
 
 -- a change of one of the first m variables, to a term that a row can hold
 abbrev pub Binds : ℕ → Change → Type 0
-Binds m c = (c.var < m) × (numberCode (Bound c.to) < 16777216)
+Binds m c = (c.var < m) × (number_code (Bound c.to) < 16777216)
 
 -- the first k changes are such
 abbrev pub Within : ℕ → ℕ → List Change → Type 0

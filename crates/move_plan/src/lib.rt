@@ -1,10 +1,10 @@
 // What a move will do, decided before anything is written, and whether there is room for it.
 ghost use Rattle.std.specs.Prelude.{◌≡◌, [], ◌∷◌, ◌*◌, ◌≤◌, ◌<◌, get_or, take};
-ghost use Rattle.parlog.specs.Codes.{kindCode, modeCode, resultCode};
-ghost use Rattle.parlog.specs.Delta.{at_block, atStage, blockSpot, guardSpot, literalSpot, making, only, report, reporting-with, trySpot, withClause, withMode, withNotes, withSpot, woken};
-ghost use Rattle.parlog.specs.Rules.{by-rule, no-rule};
-ghost use Rattle.parlog.specs.Tables.{goalSpot, procsOf};
-ghost use Rattle.move_plan.specs.Plans.{appliedOf, Born, changesOf, fitsIn, newMost, Of, touched};
+ghost use Rattle.parlog.specs.Codes.{kind_code, mode_code, result_code};
+ghost use Rattle.parlog.specs.Delta.{at_block, at_stage, block_spot, guard_spot, literal_spot, making, only, report, reporting_with, try_spot, with_clause, with_mode, with_notes, with_spot, woken};
+ghost use Rattle.parlog.specs.Rules.{by_rule, no_rule};
+ghost use Rattle.parlog.specs.Tables.{goal_spot, procs_of};
+ghost use Rattle.move_plan.specs.Plans.{applied_of, Born, changes_of, fits_in, new_most, Of, touched};
 
 use parlog::{Change, Found, Move, Process, Spot, Term, codes};
 
@@ -37,7 +37,7 @@ pub struct Plan {
 // ---- one process changed
 
 pub fn with_mode(mut x: Process, mode: u8) -> Process
-    ensures { Of modeCode mode (λ m. withMode m x) result }
+    ensures { Of mode_code mode (λ m. with_mode m x) result }
 {
     x.mode = mode;
     x
@@ -58,7 +58,7 @@ fn note_at(notes: [u16; codes::MOST_NOTES as usize], count: u8, i: usize) -> u16
 // Suspended, noting the first `count` of these.
 pub fn with_notes(mut x: Process, count: u8, notes: [u16; codes::MOST_NOTES as usize]) -> Process
     requires { count ≤ 4 }
-    ensures { result ≡ withNotes (take count notes) x }
+    ensures { result ≡ with_notes (take count notes) x }
 {
     let kept = [
         note_at(notes, count, 0),
@@ -84,7 +84,7 @@ pub fn woken(mut x: Process) -> Process
 }
 
 pub fn with_spot(mut x: Process, mode: u8, z: Spot) -> Process
-    ensures { Of modeCode mode (λ m. withSpot m z x) result }
+    ensures { Of mode_code mode (λ m. with_spot m z x) result }
 {
     x.mode = mode;
     x.spot = z;
@@ -94,7 +94,7 @@ pub fn with_spot(mut x: Process, mode: u8, z: Spot) -> Process
 // ---- places
 
 pub fn at_stage(mut z: Spot, k: u8) -> Spot
-    ensures { result ≡ atStage k z }
+    ensures { result ≡ at_stage k z }
 {
     z.stage = k;
     z
@@ -108,7 +108,7 @@ pub fn at_block(mut z: Spot, k: u8) -> Spot
 }
 
 pub fn with_clause(mut z: Spot, k: u8, v: u16) -> Spot
-    ensures { result ≡ withClause k v z }
+    ensures { result ≡ with_clause k v z }
 {
     z.found = k;
     z.first = v;
@@ -117,7 +117,7 @@ pub fn with_clause(mut z: Spot, k: u8, v: u16) -> Spot
 
 // Literal j of the stage that z names.
 pub fn literal_spot(mut z: Spot, j: u8) -> Spot
-    ensures { result ≡ literalSpot z j }
+    ensures { result ≡ literal_spot z j }
 {
     z.literal = j;
     z.block = 0;
@@ -128,7 +128,7 @@ pub fn literal_spot(mut z: Spot, j: u8) -> Spot
 
 // A block for the call that z names.
 pub fn block_spot(mut z: Spot, b: u8) -> Spot
-    ensures { result ≡ blockSpot z b }
+    ensures { result ≡ block_spot z b }
 {
     z.block = b;
     z.found = 0;
@@ -138,7 +138,7 @@ pub fn block_spot(mut z: Spot, b: u8) -> Spot
 
 // A clause for that call, with its first variable.
 pub fn try_spot(mut z: Spot, k: u8, v: u16) -> Spot
-    ensures { result ≡ trySpot z k v }
+    ensures { result ≡ try_spot z k v }
 {
     z.block = 0;
     z.found = k;
@@ -148,7 +148,7 @@ pub fn try_spot(mut z: Spot, k: u8, v: u16) -> Spot
 
 // The clause alone.
 pub fn guard_spot(k: u8, v: u16) -> Spot
-    ensures { result ≡ guardSpot k v }
+    ensures { result ≡ guard_spot k v }
 {
     Spot {
         kind: codes::THE_GOAL,
@@ -164,7 +164,7 @@ pub fn guard_spot(k: u8, v: u16) -> Spot
 
 // A whole goal: the image's, or the guard or committed body of clause k.
 pub fn goal_spot(kind: u8, k: u8, base: u16) -> Spot
-    ensures { Of kindCode kind (λ t. goalSpot t k base) result }
+    ensures { Of kind_code kind (λ t. goal_spot t k base) result }
 {
     Spot {
         kind,
@@ -209,7 +209,7 @@ pub fn no_changes() -> Changes
 
 // No rule applies.
 pub fn none() -> Plan
-    ensures { (appliedOf result ≡ no-rule) × (result.count ≤ newMost) × (result.changes.count ≡ 0) }
+    ensures { (applied_of result ≡ no_rule) × (result.count ≤ new_most) × (result.changes.count ≡ 0) }
 {
     let z = guard_spot(0, 0);
     let x = new_process(codes::AND_PAR, codes::DORMANT, 0, z);
@@ -237,8 +237,8 @@ pub fn make(
     rows: [u8; NEW_SIZE],
     fresh: usize,
 ) -> Plan
-    requires { count ≤ newMost }
-    ensures { (appliedOf result ≡ by-rule mv (making x nap (procsOf rows count) fresh)) × (result.count ≤ newMost) × (result.changes.count ≡ 0) }
+    requires { count ≤ new_most }
+    ensures { (applied_of result ≡ by_rule mv (making x nap (procs_of rows count) fresh)) × (result.count ≤ new_most) × (result.changes.count ≡ 0) }
 {
     let changes = no_changes();
     Plan {
@@ -256,7 +256,7 @@ pub fn make(
 
 // One new process, and perhaps a child that falls asleep.
 pub fn make_one(mv: Move, x: Process, nap: Found, y: Process) -> Plan
-    ensures { (appliedOf result ≡ by-rule mv (making x nap (y ∷ []) 0)) × (result.count ≤ newMost) × (result.changes.count ≡ 0) }
+    ensures { (applied_of result ≡ by_rule mv (making x nap (y ∷ []) 0)) × (result.count ≤ new_most) × (result.changes.count ≡ 0) }
 {
     let mut new = [0u8; NEW_SIZE];
     rows::append(&mut new, 0, y);
@@ -275,7 +275,7 @@ pub fn touched(n: usize, p: usize, k: usize) -> usize
 
 // The mover alone changes.
 pub fn only(mv: Move, x: Process) -> Plan
-    ensures { (appliedOf result ≡ by-rule mv (only x)) × (result.count ≤ newMost) × (result.changes.count ≡ 0) }
+    ensures { (applied_of result ≡ by_rule mv (only x)) × (result.count ≤ new_most) × (result.changes.count ≡ 0) }
 {
     let rows = [0u8; NEW_SIZE];
     make(mv, x, Found::Nothing, 0, rows, 0)
@@ -283,7 +283,7 @@ pub fn only(mv: Move, x: Process) -> Plan
 
 // The mover reports, and binds these.
 pub fn report_with(mv: Move, res: u8, mut x: Process, changes: Changes) -> Plan
-    ensures { Of resultCode res (λ t. by-rule mv (reporting-with t x (changesOf changes))) (appliedOf result) × (result.count ≤ newMost) × (result.changes ≡ changes) × (result.fresh ≡ 0) }
+    ensures { Of result_code res (λ t. by_rule mv (reporting_with t x (changes_of changes))) (applied_of result) × (result.count ≤ new_most) × (result.changes ≡ changes) × (result.fresh ≡ 0) }
 {
     let rows = [0u8; NEW_SIZE];
     x.mode = codes::REPORTING;
@@ -302,7 +302,7 @@ pub fn report_with(mv: Move, res: u8, mut x: Process, changes: Changes) -> Plan
 }
 
 pub fn report(mv: Move, res: u8, x: Process) -> Plan
-    ensures { Of resultCode res (λ t. by-rule mv (report t x)) (appliedOf result) × (result.count ≤ newMost) × (result.changes.count ≡ 0) }
+    ensures { Of result_code res (λ t. by_rule mv (report t x)) (applied_of result) × (result.count ≤ new_most) × (result.changes.count ≡ 0) }
 {
     let changes = no_changes();
     report_with(mv, res, x, changes)
@@ -311,7 +311,7 @@ pub fn report(mv: Move, res: u8, x: Process) -> Plan
 // With these limits and counts there is room for what the plan makes.
 pub fn fits(procs: usize, vars: usize, n: usize, m: usize, plan: Plan) -> bool
     requires { (n ≤ procs) × (m ≤ vars) }
-    ensures { result ≡ fitsIn procs vars n m plan }
+    ensures { result ≡ fits_in procs vars n m plan }
 {
     if procs - n < plan.count {
         return false;

@@ -1,7 +1,7 @@
 -- What the writers do to the lists of processes and bindings.
 use Rattle.std.specs.Prelude.{Bool, false, true, ◌++◌, List, ℕ, length, replicate, set}
 use Rattle.parlog.specs.Codes.{dormant}
-use Rattle.parlog.specs.Delta.{Delta, rowAfter, withMode}
+use Rattle.parlog.specs.Delta.{Delta, row_after, with_mode}
 use Rattle.parlog.specs.Scan.{build}
 use Rattle.parlog.specs.Tables.{at}
 use Rattle.parlog.specs.Unify.{changed}
@@ -10,22 +10,22 @@ use Rattle.parlog.specs.declared.Binding.TheVariants.{Free}
 use Rattle.parlog.specs.declared.Found.{Found}
 use Rattle.parlog.specs.declared.Found.TheVariants.{At, Nothing}
 use Rattle.parlog.specs.declared.Process.{Process}
-use Rattle.tree.specs.Family.{sleptBelow}
+use Rattle.tree.specs.Family.{slept_below}
 
-unfoldable pub cutBelow : Bool → List Process → ℕ → List Process
-cutBelow true ps p = sleptBelow ps p
-cutBelow false ps p = ps
+unfoldable pub cut_below : Bool → List Process → ℕ → List Process
+cut_below true ps p = slept_below ps p
+cut_below false ps p = ps
 
-unfoldable pub sleptAt : List Process → ℕ → List Process
-sleptAt ps c = set ps c (withMode dormant (at ps c))
+unfoldable pub slept_at : List Process → ℕ → List Process
+slept_at ps c = set ps c (with_mode dormant (at ps c))
 
 unfoldable pub napped : Found → List Process → List Process
 napped Nothing ps = ps
-napped (At c) ps = sleptAt ps c
+napped (At c) ps = slept_at ps c
 
 -- apply, list by list
-unfoldable pub procsAfter : List Process → ℕ → Delta → List Process
-procsAfter ps p d = build (rowAfter ps p d) (length ps) ++ d.new
+unfoldable pub procs_after : List Process → ℕ → Delta → List Process
+procs_after ps p d = build (row_after ps p d) (length ps) ++ d.new
 
-unfoldable pub varsAfter : List Binding → Delta → List Binding
-varsAfter vs d = changed (vs ++ replicate d.fresh Free) d.changes
+unfoldable pub vars_after : List Binding → Delta → List Binding
+vars_after vs d = changed (vs ++ replicate d.fresh Free) d.changes

@@ -1,21 +1,21 @@
 // Carries a plan out: the one writer of the tables in a move.
 ghost use Rattle.std.specs.Prelude.{◌++◌, ◌+◌, ◌*◌, ◌≤◌, ◌<◌, length, take};
 ghost use Rattle.parlog.specs.Delta.{apply};
-ghost use Rattle.parlog.specs.Tables.{cellSize, procsOf, rowSize, varsIn};
+ghost use Rattle.parlog.specs.Tables.{cell_size, procs_of, row_size, vars_in};
 ghost use Rattle.parlog.specs.Unify.{changed};
 ghost use Rattle.rows.specs.Rows.{Table};
-ghost use Rattle.tree.specs.Family.{Falls, mostRows};
+ghost use Rattle.tree.specs.Family.{Falls, most_rows};
 ghost use Rattle.vars.specs.Cells.{Cells};
-ghost use Rattle.move_plan.specs.Plans.{deltaOf, newMost, stateIn, Within};
-ghost use Rattle.move_write.specs.Writing.{cutBelow, napped, procsAfter, sleptAt, varsAfter};
+ghost use Rattle.move_plan.specs.Plans.{delta_of, new_most, state_in, Within};
+ghost use Rattle.move_write.specs.Writing.{cut_below, napped, procs_after, slept_at, vars_after};
 
 use move_plan::Plan;
 use parlog::{Change, Found, codes};
 
 // Where `cut` says so, all below p fall asleep.
 fn cut_below(procs: &mut [u8], n: usize, p: usize, cut: bool)
-    requires { (n * rowSize ≤ length procs.old) × (p < n) × Falls (procsOf procs.old n) × (n ≤ mostRows) }
-    ensures { Table procs.old procs.new (cutBelow cut (procsOf procs.old n) p) }
+    requires { (n * row_size ≤ length procs.old) × (p < n) × Falls (procs_of procs.old n) × (n ≤ most_rows) }
+    ensures { Table procs.old procs.new (cut_below cut (procs_of procs.old n) p) }
 {
     if cut {
         tree::sleep_below(procs, n, p);
@@ -23,8 +23,8 @@ fn cut_below(procs: &mut [u8], n: usize, p: usize, cut: bool)
 }
 
 fn sleep_at(procs: &mut [u8], n: usize, c: usize)
-    requires { n * rowSize ≤ length procs.old }
-    ensures { Table procs.old procs.new (sleptAt (procsOf procs.old n) c) }
+    requires { n * row_size ≤ length procs.old }
+    ensures { Table procs.old procs.new (slept_at (procs_of procs.old n) c) }
 {
     if c < n {
         let x = rows::get(procs, n, c);
@@ -35,8 +35,8 @@ fn sleep_at(procs: &mut [u8], n: usize, c: usize)
 
 // The child that falls asleep, if there is one.
 fn nap_at(procs: &mut [u8], n: usize, nap: Found)
-    requires { n * rowSize ≤ length procs.old }
-    ensures { Table procs.old procs.new (napped nap (procsOf procs.old n)) }
+    requires { n * row_size ≤ length procs.old }
+    ensures { Table procs.old procs.new (napped nap (procs_of procs.old n)) }
 {
     match nap {
         Found::At(c) => sleep_at(procs, n, c),
@@ -46,8 +46,8 @@ fn nap_at(procs: &mut [u8], n: usize, nap: Found)
 
 // The first k of these rows follow the first n.
 fn append_all(procs: &mut [u8], n: usize, rows: [u8; move_plan::NEW_SIZE], k: usize)
-    requires { ((n + k) * rowSize ≤ length procs.old) × (k ≤ newMost) }
-    ensures { Table procs.old procs.new (procsOf procs.old n ++ procsOf rows k) }
+    requires { ((n + k) * row_size ≤ length procs.old) × (k ≤ new_most) }
+    ensures { Table procs.old procs.new (procs_of procs.old n ++ procs_of rows k) }
 {
     let mut i = 0;
     while i < k {
@@ -59,8 +59,8 @@ fn append_all(procs: &mut [u8], n: usize, rows: [u8; move_plan::NEW_SIZE], k: us
 
 // The first k of these changes are bound, in order.
 fn bind_all(vars: &mut [u8], m: usize, list: [Change; codes::MOST_ARITY], k: usize)
-    requires { (m * cellSize ≤ length vars.old) × (k ≤ 4) × Within m k list }
-    ensures { Cells m vars.old vars.new (changed (varsIn vars.old m) (take k list)) }
+    requires { (m * cell_size ≤ length vars.old) × (k ≤ 4) × Within m k list }
+    ensures { Cells m vars.old vars.new (changed (vars_in vars.old m) (take k list)) }
 {
     let mut i = 0;
     while i < k {
@@ -73,8 +73,8 @@ fn bind_all(vars: &mut [u8], m: usize, list: [Change; codes::MOST_ARITY], k: usi
 }
 
 fn write_procs(procs: &mut [u8], n: usize, p: usize, plan: Plan)
-    requires { ((n + plan.count) * rowSize ≤ length procs.old) × (plan.count ≤ newMost) × (p < n) × Falls (procsOf procs.old n) × (n ≤ mostRows) }
-    ensures { Table procs.old procs.new (procsAfter (procsOf procs.old n) p (deltaOf plan)) }
+    requires { ((n + plan.count) * row_size ≤ length procs.old) × (plan.count ≤ new_most) × (p < n) × Falls (procs_of procs.old n) × (n ≤ most_rows) }
+    ensures { Table procs.old procs.new (procs_after (procs_of procs.old n) p (delta_of plan)) }
 {
     let nap = plan.nap;
     let new = plan.rows;
@@ -85,8 +85,8 @@ fn write_procs(procs: &mut [u8], n: usize, p: usize, plan: Plan)
 }
 
 fn write_vars(vars: &mut [u8], m: usize, plan: Plan)
-    requires { ((m + plan.fresh) * cellSize ≤ length vars.old) × (plan.changes.count ≤ 4) × Within (m + plan.fresh) plan.changes.count plan.changes.list }
-    ensures { Cells m vars.old vars.new (varsAfter (varsIn vars.old m) (deltaOf plan)) }
+    requires { ((m + plan.fresh) * cell_size ≤ length vars.old) × (plan.changes.count ≤ 4) × Within (m + plan.fresh) plan.changes.count plan.changes.list }
+    ensures { Cells m vars.old vars.new (vars_after (vars_in vars.old m) (delta_of plan)) }
 {
     let list = plan.changes.list;
     vars::grow(vars, m, plan.fresh);
@@ -95,8 +95,8 @@ fn write_vars(vars: &mut [u8], m: usize, plan: Plan)
 
 // Carries a plan out.
 pub fn write(procs: &mut [u8], n: usize, vars: &mut [u8], m: usize, p: usize, plan: Plan)
-    requires { ((n + plan.count) * rowSize ≤ length procs.old) × (plan.count ≤ newMost) × (p < n) × Falls (procsOf procs.old n) × ((m + plan.fresh) * cellSize ≤ length vars.old) × (plan.changes.count ≤ 4) × Within (m + plan.fresh) plan.changes.count plan.changes.list × (n ≤ mostRows) }
-    ensures { Table procs.old procs.new (apply (stateIn procs.old n vars.old m) p (deltaOf plan)).procs × Cells m vars.old vars.new (apply (stateIn procs.old n vars.old m) p (deltaOf plan)).vars }
+    requires { ((n + plan.count) * row_size ≤ length procs.old) × (plan.count ≤ new_most) × (p < n) × Falls (procs_of procs.old n) × ((m + plan.fresh) * cell_size ≤ length vars.old) × (plan.changes.count ≤ 4) × Within (m + plan.fresh) plan.changes.count plan.changes.list × (n ≤ most_rows) }
+    ensures { Table procs.old procs.new (apply (state_in procs.old n vars.old m) p (delta_of plan)).procs × Cells m vars.old vars.new (apply (state_in procs.old n vars.old m) p (delta_of plan)).vars }
 {
     write_procs(procs, n, p, plan);
     write_vars(vars, m, plan);

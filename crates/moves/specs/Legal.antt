@@ -1,6 +1,6 @@
 -- What the functions of the rules ask of the process that moves.
 use Rattle.std.specs.Prelude.{◌≡◌, List, ◌<◌, ◌≤◌, ℕ, length}
-use Rattle.move_plan.specs.Plans.{newMost}
+use Rattle.move_plan.specs.Plans.{new_most}
 use Rattle.parlog.specs.Program.{Program}
 use Rattle.parlog.specs.Rules.{block_at, members}
 use Rattle.parlog.specs.Tables.{at, State}
@@ -12,7 +12,7 @@ use Rattle.rules_match.specs.Starts.{EquateThere, MatchThere}
 pub record Able (pr : Program) (vs : List Binding) (x : Process) : Type 0 where
   pub tag : x.tag < 9
   pub mode : x.mode < 6
-  pub members : (p : ℕ) → length (members pr p x.spot) ≤ newMost
+  pub members : (p : ℕ) → length (members pr p x.spot) ≤ new_most
   pub tries : length (block_at pr x.spot) ≤ 8
   pub stage : x.tag ≡ 1 → x.mode ≡ 3 → x.spot.stage < 255
   pub block : x.tag ≡ 3 → x.mode ≡ 3 → x.spot.block < 255

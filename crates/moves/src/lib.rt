@@ -4,10 +4,10 @@ ghost use Rattle.std.specs.Prelude.{◌≡◌, ◌≢◌, List, ◌*◌, ◌≤�
 ghost use Rattle.children.specs.Telling.{Tells};
 ghost use Rattle.parlog.specs.Codes.{tag_of};
 ghost use Rattle.parlog.specs.Program.{program_of};
-ghost use Rattle.parlog.specs.Rules.{block_at, members, ruleOf, startRule, waitRule};
-ghost use Rattle.parlog.specs.Tables.{at, cellSize, procsOf, rowSize, State, varsIn};
+ghost use Rattle.parlog.specs.Rules.{block_at, members, rule_of, start_rule, wait_rule};
+ghost use Rattle.parlog.specs.Tables.{at, cell_size, procs_of, row_size, State, vars_in};
 ghost use Rattle.parlog.specs.declared.Binding.{Binding};
-ghost use Rattle.move_plan.specs.Plans.{appliedOf, newMost, stateIn, Within};
+ghost use Rattle.move_plan.specs.Plans.{applied_of, new_most, state_in, Within};
 ghost use Rattle.moves.specs.Legal.{Able, Legal};
 
 use children::Told;
@@ -25,8 +25,8 @@ fn start_tree(
     p: usize,
     x: Process,
 ) -> Plan
-    requires { (rels ≤ 32) × (clauses ≤ 64) × (n ≤ 65535) × (m ≤ 60000) × (p < n) × (x.tag < 9) × (x.tag ≢ 6) × (x.tag ≢ 8) × (length (members (program_of image.now rels clauses) p x.spot) ≤ newMost) × (length (block_at (program_of image.now rels clauses) x.spot) ≤ 8) × Indexed image.now rels clauses ix.now }
-    ensures { ((s : State) → length s.procs ≡ n → length s.vars ≡ m → appliedOf result ≡ startRule (tag_of x.tag) (program_of image.now rels clauses) s p x) × (result.count ≤ newMost) × (result.changes.count ≡ 0) }
+    requires { (rels ≤ 32) × (clauses ≤ 64) × (n ≤ 65535) × (m ≤ 60000) × (p < n) × (x.tag < 9) × (x.tag ≢ 6) × (x.tag ≢ 8) × (length (members (program_of image.now rels clauses) p x.spot) ≤ new_most) × (length (block_at (program_of image.now rels clauses) x.spot) ≤ 8) × Indexed image.now rels clauses ix.now }
+    ensures { ((s : State) → length s.procs ≡ n → length s.vars ≡ m → applied_of result ≡ start_rule (tag_of x.tag) (program_of image.now rels clauses) s p x) × (result.count ≤ new_most) × (result.changes.count ≡ 0) }
 {
     let t = x.tag;
     match t {
@@ -53,8 +53,8 @@ fn start_rule(
     p: usize,
     x: Process,
 ) -> Plan
-    requires { (rels ≤ 32) × (clauses ≤ 64) × (n * rowSize ≤ length procs.now) × (n ≤ 65535) × (m * cellSize ≤ length vars.now) × (m ≤ 60000) × (p < n) × Able (program_of image.now rels clauses) (varsIn vars.now m) x × Indexed image.now rels clauses ix.now }
-    ensures { (appliedOf result ≡ startRule (tag_of x.tag) (program_of image.now rels clauses) (stateIn procs.now n vars.now m) p x) × (result.count ≤ newMost) × (result.changes.count ≤ 4) × Within m result.changes.count result.changes.list }
+    requires { (rels ≤ 32) × (clauses ≤ 64) × (n * row_size ≤ length procs.now) × (n ≤ 65535) × (m * cell_size ≤ length vars.now) × (m ≤ 60000) × (p < n) × Able (program_of image.now rels clauses) (vars_in vars.now m) x × Indexed image.now rels clauses ix.now }
+    ensures { (applied_of result ≡ start_rule (tag_of x.tag) (program_of image.now rels clauses) (state_in procs.now n vars.now m) p x) × (result.count ≤ new_most) × (result.changes.count ≤ 4) × Within m result.changes.count result.changes.list }
 {
     let t = x.tag;
     match t {
@@ -80,8 +80,8 @@ fn wait_rule(
     x: Process,
     told: Told,
 ) -> Plan
-    requires { (rels ≤ 32) × (clauses ≤ 64) × (n * rowSize ≤ length procs.now) × (n ≤ 65535) × (p < n) × (x.tag < 9) × (x.tag ≡ 1 → x.spot.stage < 255) × (x.tag ≡ 3 → x.spot.block < 255) × Tells (procsOf procs.now n) p told × Indexed image.now rels clauses ix.now }
-    ensures { ((vs : List Binding) → appliedOf result ≡ waitRule (tag_of x.tag) (program_of image.now rels clauses) (record { procs = procsOf procs.entry.now n; vars = vs }) p x) × (result.count ≤ newMost) × (result.changes.count ≡ 0) }
+    requires { (rels ≤ 32) × (clauses ≤ 64) × (n * row_size ≤ length procs.now) × (n ≤ 65535) × (p < n) × (x.tag < 9) × (x.tag ≡ 1 → x.spot.stage < 255) × (x.tag ≡ 3 → x.spot.block < 255) × Tells (procs_of procs.now n) p told × Indexed image.now rels clauses ix.now }
+    ensures { ((vs : List Binding) → applied_of result ≡ wait_rule (tag_of x.tag) (program_of image.now rels clauses) (record { procs = procs_of procs.entry.now n; vars = vs }) p x) × (result.count ≤ new_most) × (result.changes.count ≡ 0) }
 {
     let t = x.tag;
     match t {
@@ -111,8 +111,8 @@ pub fn rule_of(
     p: usize,
     told: Told,
 ) -> Plan
-    requires { (rels ≤ 32) × (clauses ≤ 64) × (n * rowSize ≤ length procs.now) × (n ≤ 65535) × (m * cellSize ≤ length vars.now) × (m ≤ 60000) × (p < n) × Legal (program_of image.now rels clauses) (stateIn procs.now n vars.now m) p × ((at (procsOf procs.now n) p).mode ≡ 3 → Tells (procsOf procs.now n) p told) × Indexed image.now rels clauses ix.now }
-    ensures { (appliedOf result ≡ ruleOf (program_of image.now rels clauses) (stateIn procs.now n vars.now m) p) × (result.count ≤ newMost) × (result.changes.count ≤ 4) × Within m result.changes.count result.changes.list }
+    requires { (rels ≤ 32) × (clauses ≤ 64) × (n * row_size ≤ length procs.now) × (n ≤ 65535) × (m * cell_size ≤ length vars.now) × (m ≤ 60000) × (p < n) × Legal (program_of image.now rels clauses) (state_in procs.now n vars.now m) p × ((at (procs_of procs.now n) p).mode ≡ 3 → Tells (procs_of procs.now n) p told) × Indexed image.now rels clauses ix.now }
+    ensures { (applied_of result ≡ rule_of (program_of image.now rels clauses) (state_in procs.now n vars.now m) p) × (result.count ≤ new_most) × (result.changes.count ≤ 4) × Within m result.changes.count result.changes.list }
 {
     let x = rows::get(procs, n, p);
     let mode = x.mode;

@@ -10,30 +10,30 @@ use borrow.Author.Tests.{eqb-false, eqb-true, leb-false, leb-true}
 use native.Mathlib.Omega.{arith}
 use native.Mathlib.Nat.{mod-lt}
 use native.Mathlib.Numerals.{add-one}
-use Rattle.name_index.specs.Index.{AddsOne, chainFrom, chainOf, Indexed, latest}
+use Rattle.name_index.specs.Index.{AddsOne, chain_from, chain_of, Indexed, latest}
 use Rattle.parlog.proofs.Bools.{never}
 use Rattle.parlog.proofs.Scans.{below_suc}
-use Rattle.read_names.proofs.Tabled.{add-full, add-known, add-new, names-append, names-fit, names-length}
+use Rattle.read_names.proofs.Tabled.{add-full, add-known, add-new, names-append, names_fit, names-length}
 use Rattle.read_names.specs.Tables.{names_at}
 use Rattle.text_names.proofs.Looked.{look-front, look-here, look_none, same-is}
 use Rattle.text_names.specs.Bytes.{front}
-use Rattle.text_names.specs.Names.{look, Name, sameName}
+use Rattle.text_names.specs.Names.{look, Name, same_name}
 
 -- ---- chains
 
-chain-from : (h : ℕ) (x : Name) → h < 512 → chainFrom h x < 512
-unfolding chainFrom
+chain-from : (h : ℕ) (x : Name) → h < 512 → chain_from h x < 512
+unfolding chain_from
 chain-from h [] l = l
 chain-from h (b ∷ x) l = chain-from ((h * 31 + b) % 512) x (mod-lt (h * 31 + b) (omega arith))
 
-pub chain-small : (x : Name) → chainOf x < 512
+pub chain-small : (x : Name) → chain_of x < 512
 chain-small x = chain-from 0 x (omega arith)
 
 module _ (xs : List Name) (h : ℕ) where
   latest-most : (n : ℕ) → latest xs h n ≤ n
   unfolding latest
   latest-most zero = omega arith
-  latest-most (suc n) = go (eqb (chainOf (get_or xs n [])) h) (latest-most n)
+  latest-most (suc n) = go (eqb (chain_of (get_or xs n [])) h) (latest-most n)
     where
       go : (b : Bool) → latest xs h n ≤ n → cond b (suc n) (latest xs h n) ≤ suc n
       go true i = omega arith
@@ -43,30 +43,30 @@ module _ (xs : List Name) (h : ℕ) where
   latest-again : (n : ℕ) → latest xs h (latest xs h n) ≡ latest xs h n
   unfolding latest
   latest-again zero = refl
-  latest-again (suc n) = go (eqb (chainOf (get_or xs n [])) h) refl (latest-again n)
+  latest-again (suc n) = go (eqb (chain_of (get_or xs n [])) h) refl (latest-again n)
     where
-      go : (b : Bool) → eqb (chainOf (get_or xs n [])) h ≡ b → latest xs h (latest xs h n) ≡ latest xs h n → latest xs h (cond b (suc n) (latest xs h n)) ≡ cond b (suc n) (latest xs h n)
+      go : (b : Bool) → eqb (chain_of (get_or xs n [])) h ≡ b → latest xs h (latest xs h n) ≡ latest xs h n → latest xs h (cond b (suc n) (latest xs h n)) ≡ cond b (suc n) (latest xs h n)
       go true e i = rw e
       go false e i = i
 
   -- behind it there is none
-  latest-none : (n j : ℕ) → latest xs h n ≤ j → j < n → chainOf (get_or xs j []) ≡ h → ⊥
+  latest-none : (n j : ℕ) → latest xs h n ≤ j → j < n → chain_of (get_or xs j []) ≡ h → ⊥
   unfolding latest
   latest-none zero j l g e = absurd (omega arith)
-  latest-none (suc n) j l g e = go (eqb (chainOf (get_or xs n [])) h) refl l (λ a m. latest-none n j a m e)
+  latest-none (suc n) j l g e = go (eqb (chain_of (get_or xs n [])) h) refl l (λ a m. latest-none n j a m e)
     where
-      go : (b : Bool) → eqb (chainOf (get_or xs n [])) h ≡ b → cond b (suc n) (latest xs h n) ≤ j → (latest xs h n ≤ j → j < n → ⊥) → ⊥
+      go : (b : Bool) → eqb (chain_of (get_or xs n [])) h ≡ b → cond b (suc n) (latest xs h n) ≤ j → (latest xs h n ≤ j → j < n → ⊥) → ⊥
       go true f l more = omega arith
-      go false f l more = below_suc j n g (λ q. eqb-false (chainOf (get_or xs n [])) h f (ap (λ (i : ℕ). chainOf (get_or xs i [])) (sym q) ∙ e)) (λ m. more l m)
+      go false f l more = below_suc j n g (λ q. eqb-false (chain_of (get_or xs n [])) h f (ap (λ (i : ℕ). chain_of (get_or xs i [])) (sym q) ∙ e)) (λ m. more l m)
 
   -- it is in the chain
-  latest-in : (k : ℕ) → 0 < k → latest xs h k ≡ k → chainOf (get_or xs (k - 1) []) ≡ h
+  latest-in : (k : ℕ) → 0 < k → latest xs h k ≡ k → chain_of (get_or xs (k - 1) []) ≡ h
   unfolding latest
   latest-in zero l e = absurd (omega arith)
-  latest-in (suc k) l e = let z : suc k - 1 ≡ k = omega arith in rw z (go (eqb (chainOf (get_or xs k [])) h) refl e)
+  latest-in (suc k) l e = let z : suc k - 1 ≡ k = omega arith in rw z (go (eqb (chain_of (get_or xs k [])) h) refl e)
     where
-      go : (b : Bool) → eqb (chainOf (get_or xs k [])) h ≡ b → cond b (suc k) (latest xs h k) ≡ suc k → chainOf (get_or xs k []) ≡ h
-      go true f e = eqb-true (chainOf (get_or xs k [])) h f
+      go : (b : Bool) → eqb (chain_of (get_or xs k [])) h ≡ b → cond b (suc k) (latest xs h k) ≡ suc k → chain_of (get_or xs k []) ≡ h
+      go true f e = eqb-true (chain_of (get_or xs k [])) h f
       go false f e = absurd (let m = latest-most k in omega arith)
 
   -- names behind do not count
@@ -86,34 +86,34 @@ names-get s (p ∷ ps) (suc i) l = names-get s ps i (omega arith)
 -- of n names the last k are left to be looked at, and the last of these is in the chain
 pub record Left (s t : List ℕ) (n : ℕ) (x : Name) (k : ℕ) : Type 0 where
   pub inside : k ≤ n
-  pub last : latest (names_at s (take n t)) (chainOf x) k ≡ k
-  pub none : (j : ℕ) → k ≤ j → j < n → sameName (get_or (names_at s (take n t)) j []) x ≡ true → ⊥
+  pub last : latest (names_at s (take n t)) (chain_of x) k ≡ k
+  pub none : (j : ℕ) → k ≤ j → j < n → same_name (get_or (names_at s (take n t)) j []) x ≡ true → ⊥
 
 -- the same when all names were looked at from the last of the first m on
-left-latest : (s t : List ℕ) (n : ℕ) (x : Name) (m : ℕ) → m ≤ n → ((j : ℕ) → m ≤ j → j < n → sameName (get_or (names_at s (take n t)) j []) x ≡ true → ⊥) →
-    Left s t n x (latest (names_at s (take n t)) (chainOf x) m)
+left-latest : (s t : List ℕ) (n : ℕ) (x : Name) (m : ℕ) → m ≤ n → ((j : ℕ) → m ≤ j → j < n → same_name (get_or (names_at s (take n t)) j []) x ≡ true → ⊥) →
+    Left s t n x (latest (names_at s (take n t)) (chain_of x) m)
 left-latest s t n x m l none =
     let xs = names_at s (take n t) in
-    let b = latest-most xs (chainOf x) m in
+    let b = latest-most xs (chain_of x) m in
     record {
       inside = omega arith;
-      last = latest-again xs (chainOf x) m;
+      last = latest-again xs (chain_of x) m;
       none = λ j g i e. go j g i e (leb m j) refl;
     }
   where
-    go : (j : ℕ) → latest (names_at s (take n t)) (chainOf x) m ≤ j → j < n → sameName (get_or (names_at s (take n t)) j []) x ≡ true → (b : Bool) → leb m j ≡ b → ⊥
+    go : (j : ℕ) → latest (names_at s (take n t)) (chain_of x) m ≤ j → j < n → same_name (get_or (names_at s (take n t)) j []) x ≡ true → (b : Bool) → leb m j ≡ b → ⊥
     go j g i e true f = none j (leb-true m j f) i e
-    go j g i e false f = latest-none (names_at s (take n t)) (chainOf x) m j g (leb-false m j f) (ap chainOf (same-is (get_or (names_at s (take n t)) j []) x e))
+    go j g i e false f = latest-none (names_at s (take n t)) (chain_of x) m j g (leb-false m j f) (ap chain_of (same-is (get_or (names_at s (take n t)) j []) x e))
 
 module _ (s t l : List ℕ) (n : ℕ) (x : Name) (ix : Indexed s t l n) where
   -- the first one to look at
-  pub left-start : (h k : ℕ) → h ≡ chainOf x → k ≡ get_or l h 0 → Left s t n x k
+  pub left-start : (h k : ℕ) → h ≡ chain_of x → k ≡ get_or l h 0 → Left s t n x k
   left-start h k e f =
-      let z : k ≡ latest (names_at s (take n t)) (chainOf x) n = f ∙ ap (λ (c : ℕ). get_or l c 0) e ∙ ix.heads (chainOf x) (chain-small x) in
+      let z : k ≡ latest (names_at s (take n t)) (chain_of x) n = f ∙ ap (λ (c : ℕ). get_or l c 0) e ∙ ix.heads (chain_of x) (chain-small x) in
       rw z (left-latest s t n x n (omega arith) (λ j g i o. absurd (omega arith)))
 
-  module _ (p k : ℕ) (b : Bool) (some : 0 < k) (at : drop p s ≡ drop (get_or t (k - 1) 0) s) (told : b ≡ sameName (front (drop p s)) x) (left : Left s t n x k) where
-    here : b ≡ sameName (get_or (names_at s (take n t)) (k - 1) []) x
+  module _ (p k : ℕ) (b : Bool) (some : 0 < k) (at : drop p s ≡ drop (get_or t (k - 1) 0) s) (told : b ≡ same_name (front (drop p s)) x) (left : Left s t n x k) where
+    here : b ≡ same_name (get_or (names_at s (take n t)) (k - 1) []) x
     here =
         let v = left.inside in
         let w = ix.inside in
@@ -132,12 +132,12 @@ module _ (s t l : List ℕ) (n : ℕ) (x : Name) (ix : Indexed s t l n) where
     pub left-more : (m : ℕ) → b ≡ false → m ≡ get_or l (512 + (k - 1)) 0 → Left s t n x m × (m < k)
     left-more m e f =
         let v = left.inside in
-        let z : m ≡ latest (names_at s (take n t)) (chainOf x) (k - 1) =
-        f ∙ ix.links (k - 1) (omega arith) ∙ ap (λ (c : ℕ). latest (names_at s (take n t)) c (k - 1)) (latest-in (names_at s (take n t)) (chainOf x) k some left.last) in
-        let g = latest-most (names_at s (take n t)) (chainOf x) (k - 1) in
+        let z : m ≡ latest (names_at s (take n t)) (chain_of x) (k - 1) =
+        f ∙ ix.links (k - 1) (omega arith) ∙ ap (λ (c : ℕ). latest (names_at s (take n t)) c (k - 1)) (latest-in (names_at s (take n t)) (chain_of x) k some left.last) in
+        let g = latest-most (names_at s (take n t)) (chain_of x) (k - 1) in
         (rw z (left-latest s t n x (k - 1) (omega arith) more), omega arith)
       where
-        more : (j : ℕ) → k - 1 ≤ j → j < n → sameName (get_or (names_at s (take n t)) j []) x ≡ true → ⊥
+        more : (j : ℕ) → k - 1 ≤ j → j < n → same_name (get_or (names_at s (take n t)) j []) x ≡ true → ⊥
         more j g i o = go (eqb j (k - 1)) refl
           where
             go : (c : Bool) → eqb j (k - 1) ≡ c → ⊥
@@ -154,7 +154,7 @@ module _ (s t l : List ℕ) (n : ℕ) (x : Name) (ix : Indexed s t l n) where
 
 -- ---- a name added
 
-module _ (s t l : List ℕ) (n q h k : ℕ) (x : Name) (ix : Indexed s t l n) (is : front (drop q s) ≡ x) (chain : h ≡ chainOf x) (found : k ≡ look (names_at s (take n t)) x) where
+module _ (s t l : List ℕ) (n q h k : ℕ) (x : Name) (ix : Indexed s t l n) (is : front (drop q s) ≡ x) (chain : h ≡ chain_of x) (found : k ≡ look (names_at s (take n t)) x) where
   pub one_known : k < n → AddsOne s t l n x t l (record { count = n; number = k })
   one_known g = record { adds = add-known s t n q k x ix.inside found g; index = ix; number = found }
 
@@ -163,7 +163,7 @@ module _ (s t l : List ℕ) (n q h k : ℕ) (x : Name) (ix : Indexed s t l n) (i
 
   module _ (new : k ≡ n) (room : n < length t) where
     fits : length (names_at s (take n t)) ≡ n
-    fits = names-fit s t n ix.inside
+    fits = names_fit s t n ix.inside
 
     names-new : names_at s (take (n + 1) (set t n q)) ≡ names_at s (take n t) ++ (x ∷ [])
     unfolding names_at
@@ -184,22 +184,22 @@ module _ (s t l : List ℕ) (n q h k : ℕ) (x : Name) (ix : Indexed s t l n) (i
 
     heads-new : (c : ℕ) → c < 512 → get_or (set (set l (512 + n) (get_or l h 0)) h (n + 1)) c 0 ≡ latest (names_at s (take n t) ++ (x ∷ [])) c (n + 1)
     unfolding latest
-    heads-new c g = rw (add-one, name-last) (go (eqb (chainOf x) c) refl)
+    heads-new c g = rw (add-one, name-last) (go (eqb (chain_of x) c) refl)
       where
-        go : (b : Bool) → eqb (chainOf x) c ≡ b → get_or (set (set l (512 + n) (get_or l h 0)) h (suc n)) c 0 ≡ cond b (suc n) (latest (names_at s (take n t) ++ (x ∷ [])) c n)
+        go : (b : Bool) → eqb (chain_of x) c ≡ b → get_or (set (set l (512 + n) (get_or l h 0)) h (suc n)) c 0 ≡ cond b (suc n) (latest (names_at s (take n t) ++ (x ∷ [])) c n)
         go true e =
-            let z : c ≡ h = sym (chain ∙ eqb-true (chainOf x) c e) in
+            let z : c ≡ h = sym (chain ∙ eqb-true (chain_of x) c e) in
             let v = length-set l (512 + n) (get_or l h 0) in
             let w = ix.size in
             rw z (get_or-set_same (set l (512 + n) (get_or l h 0)) h (suc n) 0 (omega arith))
         go false e =
-            get_or-set_other (set l (512 + n) (get_or l h 0)) h c (suc n) 0 (λ z. eqb-false (chainOf x) c e (sym chain ∙ sym z))
+            get_or-set_other (set l (512 + n) (get_or l h 0)) h c (suc n) 0 (λ z. eqb-false (chain_of x) c e (sym chain ∙ sym z))
             ∙ get_or-set_other l (512 + n) c (get_or l h 0) 0 (λ z. omega arith)
             ∙ ix.heads c g
             ∙ sym (latest-front (names_at s (take n t)) c (x ∷ []) n (let f = fits in omega arith))
 
     links-new : (i : ℕ) → i < n + 1 →
-        get_or (set (set l (512 + n) (get_or l h 0)) h (n + 1)) (512 + i) 0 ≡ latest (names_at s (take n t) ++ (x ∷ [])) (chainOf (get_or (names_at s (take n t) ++ (x ∷ [])) i [])) i
+        get_or (set (set l (512 + n) (get_or l h 0)) h (n + 1)) (512 + i) 0 ≡ latest (names_at s (take n t) ++ (x ∷ [])) (chain_of (get_or (names_at s (take n t) ++ (x ∷ [])) i [])) i
     links-new i g =
         let f = fits in
         let u = chain-small x in
@@ -208,11 +208,11 @@ module _ (s t l : List ℕ) (n q h k : ℕ) (x : Name) (ix : Indexed s t l n) (i
         (λ e. rw (e, name-last)
         (get_or-set_same l (512 + n) (get_or l h 0) 0 (let w = ix.size in omega arith)
         ∙ ap (λ (c : ℕ). get_or l c 0) chain
-        ∙ ix.heads (chainOf x) u
-        ∙ sym (latest-front (names_at s (take n t)) (chainOf x) (x ∷ []) n (omega arith))))
+        ∙ ix.heads (chain_of x) u
+        ∙ sym (latest-front (names_at s (take n t)) (chain_of x) (x ∷ []) n (omega arith))))
         (λ j. get_or-set_other l (512 + n) (512 + i) (get_or l h 0) 0 (λ z. omega arith)
         ∙ ix.links i j
-        ∙ rw (name-front i j) (sym (latest-front (names_at s (take n t)) (chainOf (get_or (names_at s (take n t)) i [])) (x ∷ []) i (omega arith))))
+        ∙ rw (name-front i j) (sym (latest-front (names_at s (take n t)) (chain_of (get_or (names_at s (take n t)) i [])) (x ∷ []) i (omega arith))))
 
     pub one-new : AddsOne s t l n x (set t n q) (set (set l (512 + n) (get_or l h 0)) h (n + 1)) (record { count = n + 1; number = k })
     one-new =

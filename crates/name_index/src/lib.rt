@@ -1,6 +1,6 @@
 // Names of a text by their numbers in a table of places, found in chains by a sum of their bytes.
 ghost use Rattle.std.specs.Prelude.{◌≡◌, ◌%◌, ◌*◌, ◌+◌, ◌<◌, ◌≤◌, drop, length, take};
-ghost use Rattle.name_index.specs.Index.{AddsOne, chainOf, Indexed, Spells};
+ghost use Rattle.name_index.specs.Index.{AddsOne, chain_of, Indexed, Spells};
 ghost use Rattle.read_names.specs.Tables.{names_at};
 ghost use Rattle.text_names.specs.Bytes.{front};
 ghost use Rattle.text_names.specs.Names.{look};
@@ -55,7 +55,7 @@ pub fn name_at(s: &[u8], at: usize) -> Word
 
 // The number of the name at q, which is in a chain.
 pub fn find(s: &[u8], places: &[usize], links: &[u16], n: usize, q: usize, chain: usize) -> usize
-    requires { (q ≤ length s.now) × (chain ≡ chainOf (front (drop q s.now))) × Indexed s.now places.now links.now n }
+    requires { (q ≤ length s.now) × (chain ≡ chain_of (front (drop q s.now))) × Indexed s.now places.now links.now n }
     ensures { (result ≡ look (names_at s.now (take n places.now)) (front (drop q s.now))) × (result ≤ n) }
 {
     let mut k = basics::wide_u16(links[chain]);
@@ -79,7 +79,7 @@ pub fn add(
     q: usize,
     chain: usize,
 ) -> Added
-    requires { (q ≤ length s.now) × (chain ≡ chainOf (front (drop q s.now))) × Indexed s.now places.old links.old n }
+    requires { (q ≤ length s.now) × (chain ≡ chain_of (front (drop q s.now))) × Indexed s.now places.old links.old n }
     ensures { AddsOne s.now places.old links.old n (front (drop q s.now)) places.new links.new result }
 {
     let k = find(s, places, links, n, q, chain);

@@ -12,7 +12,7 @@ use native.Mathlib.Omega.{arith}
 use Rattle.parlog.proofs.Bools.{not_so, split}
 use Rattle.parlog.proofs.Changing.{changed-is, changed-only}
 use Rattle.parlog.proofs.Scans.{build-at, build-length}
-use Rattle.parlog.specs.Delta.{apply, asleep, Delta, is_at, rowAfter}
+use Rattle.parlog.specs.Delta.{apply, asleep, Delta, is_at, row_after}
 use Rattle.parlog.specs.Notions.{After, me}
 use Rattle.parlog.specs.Scan.{build}
 use Rattle.parlog.specs.Tables.{at, idle, State}
@@ -22,13 +22,13 @@ use Rattle.parlog.specs.declared.Binding.{Binding}
 use Rattle.parlog.specs.declared.Binding.TheVariants.{Free}
 use Rattle.parlog.specs.declared.Change.{Change}
 
-abbrev pub sleepsIn : State → ℕ → Delta → ℕ → Bool
-sleepsIn s p d i = (d.cut && below s.procs p i) || is_at d.nap i
+abbrev pub sleeps_in : State → ℕ → Delta → ℕ → Bool
+sleeps_in s p d i = (d.cut && below s.procs p i) || is_at d.nap i
 
 -- the test and the notion of who falls asleep agree
 pub record Agrees (s : State) (p : ℕ) (d : Delta) (Sleeps : ℕ → Type 0) : Type 0 where
-  pub sleeps : (i : ℕ) → i < length s.procs → sleepsIn s p d i ≡ true → Sleeps i
-  pub stays : (i : ℕ) → i < length s.procs → sleepsIn s p d i ≡ false → Sleeps i → ⊥
+  pub sleeps : (i : ℕ) → i < length s.procs → sleeps_in s p d i ≡ true → Sleeps i
+  pub stays : (i : ℕ) → i < length s.procs → sleeps_in s p d i ≡ false → Sleeps i → ⊥
 
 pub changed-length : (vs : List Binding) (cs : List Change) → length (changed vs cs) ≡ length vs
 changed-length vs cs = (changed-is vs cs).count
@@ -36,38 +36,38 @@ changed-length vs cs = (changed-is vs cs).count
 module _ (s : State) (p : ℕ) (d : Delta) where
   pub apply-count : length (apply s p d).procs ≡ length s.procs + length d.new
   unfolding apply
-  apply-count = length-append (build (rowAfter s.procs p d) (length s.procs)) d.new ∙ rw (build-length (rowAfter s.procs p d) (length s.procs))
+  apply-count = length-append (build (row_after s.procs p d) (length s.procs)) d.new ∙ rw (build-length (row_after s.procs p d) (length s.procs))
 
   pub apply-vars : length (apply s p d).vars ≡ length s.vars + d.fresh
   unfolding apply
   apply-vars = changed-length (s.vars ++ replicate d.fresh Free) d.changes ∙ simp (length-append, length-replicate)
 
-  pub apply-row : (i : ℕ) → i < length s.procs → me (apply s p d) i ≡ rowAfter s.procs p d i
+  pub apply-row : (i : ℕ) → i < length s.procs → me (apply s p d) i ≡ row_after s.procs p d i
   unfolding apply
   apply-row i h =
-      let l = build-length (rowAfter s.procs p d) (length s.procs) in
-      get_or-append (build (rowAfter s.procs p d) (length s.procs)) d.new idle i (omega (arith, l)) ∙ build-at (rowAfter s.procs p d) (length s.procs) i idle h
+      let l = build-length (row_after s.procs p d) (length s.procs) in
+      get_or-append (build (row_after s.procs p d) (length s.procs)) d.new idle i (omega (arith, l)) ∙ build-at (row_after s.procs p d) (length s.procs) i idle h
 
   pub apply-new : (j : ℕ) → me (apply s p d) (length s.procs + j) ≡ at d.new j
   unfolding apply
   apply-new j =
-      ap (λ k. get_or (build (rowAfter s.procs p d) (length s.procs) ++ d.new) (k + j) idle) (sym (build-length (rowAfter s.procs p d) (length s.procs)))
-      ∙ get_or-append-add (build (rowAfter s.procs p d) (length s.procs)) d.new j idle
+      ap (λ k. get_or (build (row_after s.procs p d) (length s.procs) ++ d.new) (k + j) idle) (sym (build-length (row_after s.procs p d) (length s.procs)))
+      ∙ get_or-append-add (build (row_after s.procs p d) (length s.procs)) d.new j idle
 
   pub apply-mover : p < length s.procs → me (apply s p d) p ≡ d.me
-  unfolding rowAfter
+  unfolding row_after
   apply-mover h = apply-row p h ∙ rw (eq-eqb p p refl)
 
-  pub apply-other : (i : ℕ) → i < length s.procs → i ≢ p → me (apply s p d) i ≡ asleep (sleepsIn s p d i) (me s i)
-  unfolding rowAfter
+  pub apply-other : (i : ℕ) → i < length s.procs → i ≢ p → me (apply s p d) i ≡ asleep (sleeps_in s p d i) (me s i)
+  unfolding row_after
   apply-other i h q = apply-row i h ∙ rw (ne_eqb i p q)
 
   module _ (Sleeps : ℕ → Type 0) (low : p < length s.procs) (a : Agrees s p d Sleeps) where
-    kept_by : (i : ℕ) → i < length s.procs → i ≢ p → (Sleeps i → ⊥) → sleepsIn s p d i ≡ false
-    kept_by i h q n = not_so (sleepsIn s p d i) (λ e. n (a.sleeps i h e))
+    kept_by : (i : ℕ) → i < length s.procs → i ≢ p → (Sleeps i → ⊥) → sleeps_in s p d i ≡ false
+    kept_by i h q n = not_so (sleeps_in s p d i) (λ e. n (a.sleeps i h e))
 
-    slept-by : (i : ℕ) → i < length s.procs → Sleeps i → sleepsIn s p d i ≡ true
-    slept-by i h z = split (sleepsIn s p d i) (λ e. e) (λ e. absurd (a.stays i h e z))
+    slept-by : (i : ℕ) → i < length s.procs → Sleeps i → sleeps_in s p d i ≡ true
+    slept-by i h z = split (sleeps_in s p d i) (λ e. e) (λ e. absurd (a.stays i h e z))
 
     pub after-apply : After s p d.me Sleeps d.new d.changes d.fresh (apply s p d)
     unfolding apply
@@ -84,7 +84,7 @@ module _ (s : State) (p : ℕ) (d : Delta) where
       same_old : (i : ℕ) → i < length s.procs → me s' i ≡ me (apply s p d) i
       same_old i h = split (eqb i p)
           (λ e. let z : i ≡ p = eqb-true i p e in rw z (r.mover ∙ sym (apply-mover low)))
-          (λ e. let q : i ≢ p = eqb-false i p e in split (sleepsIn s p d i)
+          (λ e. let q : i ≢ p = eqb-false i p e in split (sleeps_in s p d i)
           (λ w. r.slept i h q (a.sleeps i h w) ∙ sym (apply-other i h q ∙ rw w))
           (λ w. r.kept i h q (a.stays i h w) ∙ sym (apply-other i h q ∙ rw w)))
 

@@ -9,10 +9,10 @@ use borrow.Author.Tests.{eq-eqb, eqb-false, eqb-true, ne_eqb, not-true}
 use native.Mathlib.Omega.{arith}
 use Rattle.parlog.proofs.Bools.{and-true, implies_true, never, not_so, or_right, split, true-and, true_implies}
 use Rattle.parlog.proofs.Scans.{every-at, every-is, highest-at, highest-is, lowest-at, lowest-is, lowest-none, lowest-nothing, some_is, some-true}
-use Rattle.parlog.specs.Codes.{failure, isMode, isResult, isTag, modeCode, reporting, Result, resultCode, success, tagCode, try-clause}
-use Rattle.parlog.specs.Notions.{above_parent, AllReport, Below, Child, deeper, Hears, is-parent, Latest, LowestReports, me, Nearest, next-below, Reports, SomeReports}
+use Rattle.parlog.specs.Codes.{failure, is_mode, is_result, is_tag, mode_code, reporting, Result, result_code, success, tag_code, try_clause}
+use Rattle.parlog.specs.Notions.{above_parent, AllReport, Below, Child, deeper, Hears, is_parent, Latest, LowestReports, me, Nearest, next_below, Reports, SomeReports}
 use Rattle.parlog.specs.Tables.{rank, State}
-use Rattle.parlog.specs.Tree.{allChildren, anyChild, bad, below, childDone, childReports, climb, enclosing, good, heard, heardFrom, isChild, latest, lowestChild, reports, silent, tryAbove}
+use Rattle.parlog.specs.Tree.{all_children, any_child, bad, below, child_done, child_reports, climb, enclosing, good, heard, heard_from, is_child, latest, lowest_child, reports, silent, try_above}
 use Rattle.parlog.specs.declared.Found.{Found}
 use Rattle.parlog.specs.declared.Found.TheVariants.{At, Nothing}
 
@@ -20,25 +20,25 @@ pub record Kin (s : State) : Type 0 where
   pub lower : (i : ℕ) → i < length s.procs → i ≢ 0 → rank s.procs (me s i).parent < rank s.procs i
 
 module _ (s : State) (p : ℕ) where
-  pub child-at : (i : ℕ) → i < length s.procs → isChild s.procs p i ≡ true → Child s p i
-  unfolding isChild
+  pub child-at : (i : ℕ) → i < length s.procs → is_child s.procs p i ≡ true → Child s p i
+  unfolding is_child
   child-at i h e =
       let a = and-true (not (eqb i 0)) (eqb (me s i).parent p) e in
       record { there = h; other = eqb-false i 0 (not-true (eqb i 0) a.0); parent = eqb-true (me s i).parent p a.1 }
 
-  pub child-test : {i : ℕ} → Child s p i → isChild s.procs p i ≡ true
-  unfolding isChild
+  pub child-test : {i : ℕ} → Child s p i → is_child s.procs p i ≡ true
+  unfolding is_child
   child-test {i} c = rw (ne_eqb i 0 c.other, eq-eqb (me s i).parent p c.parent)
 
 pub reports-at : (s : State) (c : ℕ) (r : Result) → reports r (me s c) ≡ true → Reports s c r
 unfolding reports
 reports-at s c r e =
-    let a = and-true (isMode reporting (me s c).mode) (isResult r (me s c).result) e in
-    record { mode = eqb-true (me s c).mode (modeCode reporting) a.0; result = eqb-true (me s c).result (resultCode r) a.1 }
+    let a = and-true (is_mode reporting (me s c).mode) (is_result r (me s c).result) e in
+    record { mode = eqb-true (me s c).mode (mode_code reporting) a.0; result = eqb-true (me s c).result (result_code r) a.1 }
 
 pub reports-test : (s : State) (c : ℕ) (r : Result) → Reports s c r → reports r (me s c) ≡ true
 unfolding reports
-reports-test s c r q = rw (eq-eqb (me s c).mode (modeCode reporting) q.mode, eq-eqb (me s c).result (resultCode r) q.result)
+reports-test s c r q = rw (eq-eqb (me s c).mode (mode_code reporting) q.mode, eq-eqb (me s c).result (result_code r) q.result)
 
 -- success and failure differ
 pub not-both : (s : State) (c : ℕ) → Reports s c success → Reports s c failure → ⊥
@@ -50,17 +50,17 @@ module _ (s : State) (p : ℕ) where
   pub latest-at : (c : ℕ) → latest s.procs p ≡ At c → Latest s p c
   unfolding latest
   latest-at c e =
-      let r = highest-at (isChild s.procs p) (length s.procs) c e in
-      record { child = child-at s p c r.there r.passes; none-higher = λ i d. r.tops i d.there (child-test s p d) }
+      let r = highest-at (is_child s.procs p) (length s.procs) c e in
+      record { child = child-at s p c r.there r.passes; none_higher = λ i d. r.tops i d.there (child-test s p d) }
 
   pub latest-is : {c : ℕ} → Latest s p c → latest s.procs p ≡ At c
   unfolding latest
   latest-is {c} l =
-      highest-is (isChild s.procs p) (length s.procs) c
-      (record { there = l.child.there; passes = child-test s p l.child; tops = λ i h e. l.none-higher i (child-at s p i h e) })
+      highest-is (is_child s.procs p) (length s.procs) c
+      (record { there = l.child.there; passes = child-test s p l.child; tops = λ i h e. l.none_higher i (child-at s p i h e) })
 
   pub heard-good : (c : ℕ) → heard s.procs p ≡ good c → Hears s p c success
-  unfolding heard heardFrom
+  unfolding heard heard_from
   heard-good c e = go (latest s.procs p) refl e
     where
       on : (d : ℕ) → Latest s p d → (a b : Bool) → reports success (me s d) ≡ a → reports failure (me s d) ≡ b → cond a (good d) (cond b (bad d) silent) ≡ good c → Hears s p c success
@@ -68,12 +68,12 @@ module _ (s : State) (p : ℕ) where
       on d l false true qa qb w = let z : ◌≡◌ {A = ℕ} 0 1 = cc in absurd (omega arith)
       on d l false false qa qb w = let z : ◌≡◌ {A = ℕ} 0 1 = cc in absurd (omega arith)
 
-      go : (f : Found) → latest s.procs p ≡ f → heardFrom s.procs f ≡ good c → Hears s p c success
+      go : (f : Found) → latest s.procs p ≡ f → heard_from s.procs f ≡ good c → Hears s p c success
       go Nothing q w = let z : ◌≡◌ {A = ℕ} 0 1 = cc in absurd (omega arith)
       go (At d) q w = on d (latest-at d q) (reports success (me s d)) (reports failure (me s d)) refl refl w
 
   pub heard-bad : (c : ℕ) → heard s.procs p ≡ bad c → Hears s p c failure
-  unfolding heard heardFrom
+  unfolding heard heard_from
   heard-bad c e = go (latest s.procs p) refl e
     where
       on : (d : ℕ) → Latest s p d → (a b : Bool) → reports success (me s d) ≡ a → reports failure (me s d) ≡ b → cond a (good d) (cond b (bad d) silent) ≡ bad c → Hears s p c failure
@@ -81,89 +81,89 @@ module _ (s : State) (p : ℕ) where
       on d l false true qa qb w = let z : d ≡ c = cc in rw (← z) (record { latest = l; reports = reports-at s d failure qb })
       on d l false false qa qb w = let z : ◌≡◌ {A = ℕ} 0 1 = cc in absurd (omega arith)
 
-      go : (f : Found) → latest s.procs p ≡ f → heardFrom s.procs f ≡ bad c → Hears s p c failure
+      go : (f : Found) → latest s.procs p ≡ f → heard_from s.procs f ≡ bad c → Hears s p c failure
       go Nothing q w = let z : ◌≡◌ {A = ℕ} 0 1 = cc in absurd (omega arith)
       go (At d) q w = on d (latest-at d q) (reports success (me s d)) (reports failure (me s d)) refl refl w
 
   pub hears-good : {c : ℕ} → Hears s p c success → heard s.procs p ≡ good c
-  unfolding heard heardFrom
+  unfolding heard heard_from
   hears-good {c} h = rw (latest-is h.latest, reports-test s c success h.reports)
 
   pub hears-bad : {c : ℕ} → Hears s p c failure → heard s.procs p ≡ bad c
-  unfolding heard heardFrom
+  unfolding heard heard_from
   hears-bad {c} h =
       rw (latest-is h.latest, not_so (reports success (me s c)) (λ e. not-both s c (reports-at s c success e) h.reports), reports-test s c failure h.reports)
 
   -- ---- any child, all children, the lowest
 
-  pub any_at : (r : Result) → anyChild r s.procs p ≡ true → SomeReports s p r
-  unfolding anyChild childReports
+  pub any_at : (r : Result) → any_child r s.procs p ≡ true → SomeReports s p r
+  unfolding any_child child_reports
   any_at r e =
-      let (c, h, q) = some-true (childReports r s.procs p) (length s.procs) e in
-      let a = and-true (isChild s.procs p c) (reports r (me s c)) q in
+      let (c, h, q) = some-true (child_reports r s.procs p) (length s.procs) e in
+      let a = and-true (is_child s.procs p c) (reports r (me s c)) q in
       record { which = c; child = child-at s p c h a.0; reports = reports-at s c r a.1 }
 
-  pub any-test : (r : Result) → SomeReports s p r → anyChild r s.procs p ≡ true
-  unfolding anyChild childReports
+  pub any-test : (r : Result) → SomeReports s p r → any_child r s.procs p ≡ true
+  unfolding any_child child_reports
   any-test r q =
-      some_is (childReports r s.procs p) (length s.procs) q.which q.child.there
-      (true-and (isChild s.procs p q.which) (reports r (me s q.which)) (child-test s p q.child) (reports-test s q.which r q.reports))
+      some_is (child_reports r s.procs p) (length s.procs) q.which q.child.there
+      (true-and (is_child s.procs p q.which) (reports r (me s q.which)) (child-test s p q.child) (reports-test s q.which r q.reports))
 
-  pub any-not : (r : Result) → anyChild r s.procs p ≡ false → SomeReports s p r → ⊥
+  pub any-not : (r : Result) → any_child r s.procs p ≡ false → SomeReports s p r → ⊥
   any-not r e q = never (sym e ∙ any-test r q)
 
-  pub all-at : (r : Result) → allChildren r s.procs p ≡ true → AllReport s p r
-  unfolding allChildren childDone
+  pub all-at : (r : Result) → all_children r s.procs p ≡ true → AllReport s p r
+  unfolding all_children child_done
   all-at r e c d =
-      reports-at s c r (implies_true (isChild s.procs p c) (reports r (me s c)) (every-at (childDone r s.procs p) (length s.procs) c e d.there) (child-test s p d))
+      reports-at s c r (implies_true (is_child s.procs p c) (reports r (me s c)) (every-at (child_done r s.procs p) (length s.procs) c e d.there) (child-test s p d))
 
-  pub all-test : (r : Result) → AllReport s p r → allChildren r s.procs p ≡ true
-  unfolding allChildren childDone
+  pub all-test : (r : Result) → AllReport s p r → all_children r s.procs p ≡ true
+  unfolding all_children child_done
   all-test r q =
-      every-is (childDone r s.procs p) (length s.procs)
-      (λ i h. true_implies (isChild s.procs p i) (reports r (me s i)) (λ e. reports-test s i r (q i (child-at s p i h e))))
+      every-is (child_done r s.procs p) (length s.procs)
+      (λ i h. true_implies (is_child s.procs p i) (reports r (me s i)) (λ e. reports-test s i r (q i (child-at s p i h e))))
 
   -- all succeed: none fails
-  pub all-not-any : AllReport s p success → anyChild failure s.procs p ≡ false
-  all-not-any q = not_so (anyChild failure s.procs p) (λ e. let a = any_at failure e in not-both s a.which (q a.which a.child) a.reports)
+  pub all-not-any : AllReport s p success → any_child failure s.procs p ≡ false
+  all-not-any q = not_so (any_child failure s.procs p) (λ e. let a = any_at failure e in not-both s a.which (q a.which a.child) a.reports)
 
   -- all fail: none succeeds
   pub all-fail : AllReport s p failure → SomeReports s p success → ⊥
   all-fail q a = not-both s a.which a.reports (q a.which a.child)
 
-  pub lowest-child-at : (r : Result) (c : ℕ) → lowestChild r s.procs p ≡ At c → LowestReports s p c r
-  unfolding lowestChild childReports
+  pub lowest-child-at : (r : Result) (c : ℕ) → lowest_child r s.procs p ≡ At c → LowestReports s p c r
+  unfolding lowest_child child_reports
   lowest-child-at r c e =
-      let q = lowest-at (childReports r s.procs p) (length s.procs) c e in
-      let a = and-true (isChild s.procs p c) (reports r (me s c)) q.passes in
+      let q = lowest-at (child_reports r s.procs p) (length s.procs) c e in
+      let a = and-true (is_child s.procs p c) (reports r (me s c)) q.passes in
       record {
         child = child-at s p c q.there a.0;
         reports = reports-at s c r a.1;
-        none-lower = λ i d w. q.least i d.there (true-and (isChild s.procs p i) (reports r (me s i)) (child-test s p d) (reports-test s i r w));
+        none_lower = λ i d w. q.least i d.there (true-and (is_child s.procs p i) (reports r (me s i)) (child-test s p d) (reports-test s i r w));
       }
 
-  pub lowest-child-is : (r : Result) {c : ℕ} → LowestReports s p c r → lowestChild r s.procs p ≡ At c
-  unfolding lowestChild childReports
+  pub lowest-child-is : (r : Result) {c : ℕ} → LowestReports s p c r → lowest_child r s.procs p ≡ At c
+  unfolding lowest_child child_reports
   lowest-child-is r {c} q =
-      lowest-is (childReports r s.procs p) (length s.procs) c
+      lowest-is (child_reports r s.procs p) (length s.procs) c
       (record {
         there = q.child.there;
-        passes = true-and (isChild s.procs p c) (reports r (me s c)) (child-test s p q.child) (reports-test s c r q.reports);
-        least = λ i h e. let a = and-true (isChild s.procs p i) (reports r (me s i)) e in q.none-lower i (child-at s p i h a.0) (reports-at s i r a.1);
+        passes = true-and (is_child s.procs p c) (reports r (me s c)) (child-test s p q.child) (reports-test s c r q.reports);
+        least = λ i h e. let a = and-true (is_child s.procs p i) (reports r (me s i)) e in q.none_lower i (child-at s p i h a.0) (reports-at s i r a.1);
       })
 
-  pub lowest-child-none : (r : Result) → lowestChild r s.procs p ≡ Nothing → SomeReports s p r → ⊥
-  unfolding lowestChild childReports
+  pub lowest-child-none : (r : Result) → lowest_child r s.procs p ≡ Nothing → SomeReports s p r → ⊥
+  unfolding lowest_child child_reports
   lowest-child-none r e q =
-      never (sym (lowest-none (childReports r s.procs p) (length s.procs) q.which e q.child.there)
-      ∙ true-and (isChild s.procs p q.which) (reports r (me s q.which)) (child-test s p q.child) (reports-test s q.which r q.reports))
+      never (sym (lowest-none (child_reports r s.procs p) (length s.procs) q.which e q.child.there)
+      ∙ true-and (is_child s.procs p q.which) (reports r (me s q.which)) (child-test s p q.child) (reports-test s q.which r q.reports))
 
-  pub no-lowest-child : (r : Result) → (SomeReports s p r → ⊥) → lowestChild r s.procs p ≡ Nothing
-  unfolding lowestChild childReports
+  pub no-lowest-child : (r : Result) → (SomeReports s p r → ⊥) → lowest_child r s.procs p ≡ Nothing
+  unfolding lowest_child child_reports
   no-lowest-child r n =
-      lowest-nothing (childReports r s.procs p) (length s.procs)
-      (λ i h. not_so (childReports r s.procs p i) (λ e.
-      let a = and-true (isChild s.procs p i) (reports r (me s i)) e in n (record { which = i; child = child-at s p i h a.0; reports = reports-at s i r a.1 })))
+      lowest-nothing (child_reports r s.procs p) (length s.procs)
+      (λ i h. not_so (child_reports r s.procs p i) (λ e.
+      let a = and-true (is_child s.procs p i) (reports r (me s i)) e in n (record { which = i; child = child-at s p i h a.0; reports = reports-at s i r a.1 })))
 
   -- ---- below
 
@@ -174,7 +174,7 @@ module _ (s : State) (p : ℕ) where
       let a = and-true (not (eqb i 0)) (eqb (me s i).parent p || climb n s.procs p (me s i).parent) e in
       let o : i ≢ 0 = eqb-false i 0 (not-true (eqb i 0) a.0) in
       split (eqb (me s i).parent p)
-      (λ q. next-below (record { there = h; other = o; parent = eqb-true (me s i).parent p q }))
+      (λ q. next_below (record { there = h; other = o; parent = eqb-true (me s i).parent p q }))
       (λ q. deeper (climb-below k n (me s i).parent (omega (arith, k.lower i h o)) (rw q at a.1)) (record { there = h; other = o; parent = refl }))
 
   pub below_at : Kin s → (i : ℕ) → i < length s.procs → below s.procs p i ≡ true → Below s p i
@@ -183,8 +183,8 @@ module _ (s : State) (p : ℕ) where
 
   below-climb : Kin s → (n : ℕ) {i : ℕ} → Below s p i → i ≤ n → climb n s.procs p i ≡ true
   unfolding climb
-  below-climb k zero {i} (next-below c) h = absurd (c.other (omega arith))
-  below-climb k (suc n) {i} (next-below c) h = rw (ne_eqb i 0 c.other, eq-eqb (me s i).parent p c.parent)
+  below-climb k zero {i} (next_below c) h = absurd (c.other (omega arith))
+  below-climb k (suc n) {i} (next_below c) h = rw (ne_eqb i 0 c.other, eq-eqb (me s i).parent p c.parent)
   below-climb k zero {i} (deeper b c) h = absurd (c.other (omega arith))
   below-climb k (suc n) {i} (deeper {c = j} b c) h =
       rw (ne_eqb i 0 c.other)
@@ -198,35 +198,35 @@ module _ (s : State) (p : ℕ) where
 -- ---- the nearest try-clause above
 
 module _ (s : State) (k : Kin s) where
-  near-from : (n i c : ℕ) → i < length s.procs → i ≢ 0 → (b : Bool) → isTag try-clause (me s (me s i).parent).tag ≡ b
-      → (tryAbove n s.procs (me s i).parent ≡ At c → Nearest s (me s i).parent c) → cond b (At (me s i).parent) (tryAbove n s.procs (me s i).parent) ≡ At c → Nearest s i c
+  near-from : (n i c : ℕ) → i < length s.procs → i ≢ 0 → (b : Bool) → is_tag try_clause (me s (me s i).parent).tag ≡ b
+      → (try_above n s.procs (me s i).parent ≡ At c → Nearest s (me s i).parent c) → cond b (At (me s i).parent) (try_above n s.procs (me s i).parent) ≡ At c → Nearest s i c
   near-from n i c h o true q back e =
       let z : (me s i).parent ≡ c = cc in
-      rw (← z) (is-parent (record { there = h; other = o; parent = refl }) (eqb-true (me s (me s i).parent).tag (tagCode try-clause) q))
-  near-from n i c h o false q back e = above_parent (record { there = h; other = o; parent = refl }) (eqb-false (me s (me s i).parent).tag (tagCode try-clause) q) (back e)
+      rw (← z) (is_parent (record { there = h; other = o; parent = refl }) (eqb-true (me s (me s i).parent).tag (tag_code try_clause) q))
+  near-from n i c h o false q back e = above_parent (record { there = h; other = o; parent = refl }) (eqb-false (me s (me s i).parent).tag (tag_code try_clause) q) (back e)
 
   nothing-at : {X : Type 0} {c : ℕ} → Nothing ≡ At c → X
   nothing-at e = let z : ◌≡◌ {A = ℕ} 0 1 = cc in absurd (omega arith)
 
-  near_by : (n i c : ℕ) → i < length s.procs → tryAbove n s.procs i ≡ At c → Nearest s i c
-  unfolding tryAbove
+  near_by : (n i c : ℕ) → i < length s.procs → try_above n s.procs i ≡ At c → Nearest s i c
+  unfolding try_above
   near_by zero i c h e = nothing-at e
   near_by (suc n) i c h e = split (eqb i 0)
       (λ q. nothing-at (rw q at e))
       (λ q. let o : i ≢ 0 = eqb-false i 0 q in
-      near-from n i c h o (isTag try-clause (me s (me s i).parent).tag) refl (near_by n (me s i).parent c (omega (arith, k.lower i h o))) (rw q at e))
+      near-from n i c h o (is_tag try_clause (me s (me s i).parent).tag) refl (near_by n (me s i).parent c (omega (arith, k.lower i h o))) (rw q at e))
 
   pub nearest-at : (i c : ℕ) → i < length s.procs → enclosing s.procs i ≡ At c → Nearest s i c
   unfolding enclosing
   nearest-at i c h e = near_by (length s.procs) i c h e
 
-  near-is : (n : ℕ) {i c : ℕ} → Nearest s i c → i ≤ n → tryAbove n s.procs i ≡ At c
-  unfolding tryAbove
-  near-is zero {i} (is-parent c t) h = absurd (c.other (omega arith))
-  near-is (suc n) {i} (is-parent c t) h = rw (ne_eqb i 0 c.other, c.parent, t)
+  near-is : (n : ℕ) {i c : ℕ} → Nearest s i c → i ≤ n → try_above n s.procs i ≡ At c
+  unfolding try_above
+  near-is zero {i} (is_parent c t) h = absurd (c.other (omega arith))
+  near-is (suc n) {i} (is_parent c t) h = rw (ne_eqb i 0 c.other, c.parent, t)
   near-is zero {i} (above_parent c t r) h = absurd (c.other (omega arith))
   near-is (suc n) {i} (above_parent {q = j} c t r) h =
-      rw (ne_eqb i 0 c.other, c.parent, ne_eqb (me s j).tag (tagCode try-clause) t)
+      rw (ne_eqb i 0 c.other, c.parent, ne_eqb (me s j).tag (tag_code try_clause) t)
       (near-is n r (let w = k.lower i c.there c.other in let z = c.parent in omega arith))
 
   pub nearest-is : {i c : ℕ} → i < length s.procs → Nearest s i c → enclosing s.procs i ≡ At c

@@ -9,7 +9,7 @@ use native.Mathlib.Omega.{arith}
 use native.Mathlib.Nat.{le_of_suc-le-suc, not-suc-le-zero}
 use Rattle.parlog.proofs.Bools.{never}
 use Rattle.parlog.proofs.Scans.{below_suc}
-use Rattle.parlog.specs.Listed.{Among, at_head, further, Listed, lower-first, no_number, Rising}
+use Rattle.parlog.specs.Listed.{Among, at_head, further, Listed, lower_first, no_number, Rising}
 use Rattle.parlog.specs.Scan.{those}
 
 -- ---- who is among them
@@ -46,10 +46,10 @@ among-at (further a) = let (i, h, e) = among-at a in (suc i, omega arith, e)
 -- ---- one list for each notion
 
 rises-first : {k : ℕ} {ks : List ℕ} → Rising (k ∷ ks) → (j : ℕ) → Among j ks → k < j
-rises-first (lower-first f r) = f
+rises-first (lower_first f r) = f
 
 rises-rest : {k : ℕ} {ks : List ℕ} → Rising (k ∷ ks) → Rising ks
-rises-rest (lower-first f r) = r
+rises-rest (lower_first f r) = r
 
 same_head : {k j : ℕ} {ks js : List ℕ} → Rising (k ∷ ks) → Rising (j ∷ js) → (k ≡ j) ⊎ Among k js → (j ≡ k) ⊎ Among j ks → k ≡ j
 same_head r q (inl e) b = e
@@ -81,8 +81,8 @@ none-listed n = record { rising = no_number; inside = λ k a. absurd (none-among
 -- ---- the numbers that pass a test
 
 rising-last : (ks : List ℕ) (n : ℕ) → Rising ks → ((j : ℕ) → Among j ks → j < n) → Rising (ks ++ (n ∷ []))
-rising-last [] n r h = lower-first (λ j a. absurd (none-among a refl)) no_number
-rising-last (k ∷ ks) n r h = lower-first (λ j a. go (among-either ks a)) (rising-last ks n (rises-rest r) (λ j a. h j (further a)))
+rising-last [] n r h = lower_first (λ j a. absurd (none-among a refl)) no_number
+rising-last (k ∷ ks) n r h = lower_first (λ j a. go (among-either ks a)) (rising-last ks n (rises-rest r) (λ j a. h j (further a)))
   where
     go : {j : ℕ} → Among j ks ⊎ Among j (n ∷ []) → k < j
     go {j} (inl a) = rises-first r j a
@@ -137,7 +137,7 @@ among-sucs (k ∷ ks) (further a) = let (i, e, b) = among-sucs ks a in (i, e, fu
 sucs-rising : (ks : List ℕ) → Rising ks → Rising (sucs ks)
 unfolding sucs
 sucs-rising [] r = no_number
-sucs-rising (k ∷ ks) r = lower-first {k = suc k} (λ j a. let (i, e, b) = among-sucs ks a in let l = rises-first r i b in omega arith) (sucs-rising ks (rises-rest r))
+sucs-rising (k ∷ ks) r = lower_first {k = suc k} (λ j a. let (i, e, b) = among-sucs ks a in let l = rises-first r i b in omega arith) (sucs-rising ks (rises-rest r))
 
 pub sucs-length : (ks : List ℕ) → length (sucs ks) ≡ length ks
 unfolding sucs
@@ -163,7 +163,7 @@ module _ (P : ℕ → Type 0) {ks : List ℕ} (a : Listed (λ k. P (suc k)) ks) 
       go (suc k) p = sucs-among (a.all k p)
 
   pub listed-take : P 0 → Listed P (0 ∷ sucs ks)
-  listed-take z = record { rising = lower-first {k = 0} (λ j q. let (i, e, b) = among-sucs ks q in omega arith) (sucs-rising ks a.rising); inside = on; all = go }
+  listed-take z = record { rising = lower_first {k = 0} (λ j q. let (i, e, b) = among-sucs ks q in omega arith) (sucs-rising ks a.rising); inside = on; all = go }
     where
       on : (k : ℕ) → Among k (0 ∷ sucs ks) → P k
       on k at_head = z

@@ -2,7 +2,7 @@
 use Rattle.std.specs.Prelude.{◌≡◌, ◌&&◌, Bool, false, true, List, ℕ, leb, length}
 use Rattle.parlog.specs.Load.{refusal}
 use Rattle.parlog.specs.Tables.{written}
-use Rattle.text_program.specs.Parsing.{ParseCall, parseCall, unread}
+use Rattle.text_program.specs.Parsing.{ParseCall, parse_call, unread}
 use Rattle.text_program.specs.declared.Parsed.{Parsed}
 use Rattle.text_program.specs.declared.Parsed.TheVariants.{Read}
 
@@ -14,12 +14,12 @@ pub record Tells (call : ParseCall) (answer : Parsed) (image names : List ℕ) :
 
 -- Text 21: and the call is that of the definitions
 abbrev pub ParseSays : List ℕ → List ℕ → List ℕ → Parsed → List ℕ → List ℕ → Type 0
-ParseSays image names text answer after others = Tells (parseCall image names text) answer after others
+ParseSays image names text answer after others = Tells (parse_call image names text) answer after others
 
 -- these bytes and these names where the rows are long enough
-abbrev pub fittedBy : Bool → List ℕ → List ℕ → List ℕ → List ℕ → ParseCall
-fittedBy false image names bytes entries = unread image names (refusal 11 0)
-fittedBy true image names bytes entries = record { answer = Read (length bytes) (length entries); image = written bytes image; names = written entries names }
+abbrev pub fitted_by : Bool → List ℕ → List ℕ → List ℕ → List ℕ → ParseCall
+fitted_by false image names bytes entries = unread image names (refusal 11 0)
+fitted_by true image names bytes entries = record { answer = Read (length bytes) (length entries); image = written bytes image; names = written entries names }
 
 unfoldable pub fitted : List ℕ → List ℕ → List ℕ → List ℕ → ParseCall
-fitted image names bytes entries = fittedBy (leb (length bytes) (length image) && leb (length entries) (length names)) image names bytes entries
+fitted image names bytes entries = fitted_by (leb (length bytes) (length image) && leb (length entries) (length names)) image names bytes entries

@@ -4,8 +4,8 @@ ghost use Rattle.mode_table.specs.Moded.{Moded};
 ghost use Rattle.name_index.specs.Index.{Indexed};
 ghost use Rattle.parlog.specs.Load.{refusal};
 ghost use Rattle.parse.specs.Says.{fitted, ParseSays, Tells};
-ghost use Rattle.parse.specs.Ways.{askNumber, Behind, offset_of, stopAs};
-ghost use Rattle.read_names.specs.Tables.{modeNames, modesFrom, names_at};
+ghost use Rattle.parse.specs.Ways.{ask_number, Behind, offset_of, stop_as};
+ghost use Rattle.read_names.specs.Tables.{mode_names, modes_from, names_at};
 ghost use Rattle.text_names.specs.Entries.{entries};
 ghost use Rattle.text_program.specs.Parsing.{declared, sourced};
 ghost use Rattle.text_program.specs.Source.{source_of};
@@ -67,7 +67,7 @@ fn write(
     consts: &[usize],
 ) -> Parsed
     requires { m ≤ length s.now }
-    ensures { Tells (fitted image.old names.old bytes.now (entries (modeNames (modesFrom s.now m)) ++ entries (names_at s.now consts.now))) result image.new names.new }
+    ensures { Tells (fitted image.old names.old bytes.now (entries (mode_names (modes_from s.now m)) ++ entries (names_at s.now consts.now))) result image.new names.new }
 {
     let i = room_of(image);
     let j = room_of(names);
@@ -98,7 +98,7 @@ fn write_by(
     k: usize,
 ) -> Parsed
     requires { (m ≤ length s.now) × (n ≤ length out.now) × (k ≤ length table.now) }
-    ensures { Tells (fitted image.old names.old (take n out.now) (entries (modeNames (modesFrom s.now m)) ++ entries (names_at s.now (take k table.now)))) result image.new names.new }
+    ensures { Tells (fitted image.old names.old (take n out.now) (entries (mode_names (modes_from s.now m)) ++ entries (names_at s.now (take k table.now)))) result image.new names.new }
 {
     let bytes = &out[..n];
     let consts = &table[..k];
@@ -109,7 +109,7 @@ fn write_by(
 
 // 17 before 4 and 5 of the goal; 0 where all is right.
 fn ask_number(known: bool, right: bool, fits: bool) -> u8
-    ensures { result ≡ askNumber known right fits }
+    ensures { result ≡ ask_number known right fits }
 {
     if !known {
         return UNDECLARED;
@@ -129,7 +129,7 @@ fn offset_of(number: u8, at: usize) -> usize
 
 // A refusal with its number and its place, unless a call has no mode line.
 fn stopped(declared: bool, number: u8, at: usize) -> Parsed
-    ensures { result ≡ Unread (stopAs declared number at) }
+    ensures { result ≡ Unread (stop_as declared number at) }
 {
     if declared {
         return unread(number, at);

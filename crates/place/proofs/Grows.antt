@@ -4,7 +4,7 @@ use mathlib.Core.List.{List}
 use Prim.Native.Nat.{◌+◌, ◌-◌, ◌<◌, ◌≤◌, suc, zero, ℕ}
 use native.Mathlib.Omega.{arith}
 use Rattle.parlog.proofs.Along.{along-more}
-use Rattle.parlog.specs.Image.{byte_at, goalEnd, literalEnd, literalsEnd, stageEnd, stagesEnd}
+use Rattle.parlog.specs.Image.{byte_at, goal_end, literal_end, literals_end, stage_end, stages_end}
 use Rattle.parlog.specs.Scan.{along}
 
 -- ---- any row
@@ -24,30 +24,30 @@ module _ (next : ℕ → ℕ) (up : (x : ℕ) → x ≤ next x) where
 
 -- ---- literals, stages, goals
 
-pub literal-grows : (s : List ℕ) (at : ℕ) → at ≤ literalEnd s at
+pub literal-grows : (s : List ℕ) (at : ℕ) → at ≤ literal_end s at
 literal-grows s at = omega arith
 
-pub stage-grows : (s : List ℕ) (at : ℕ) → at + 1 ≤ stageEnd s at
-unfolding stageEnd
-stage-grows s at = along-grows (literalEnd s) (literal-grows s) (byte_at s at) (at + 1)
+pub stage-grows : (s : List ℕ) (at : ℕ) → at + 1 ≤ stage_end s at
+unfolding stage_end
+stage-grows s at = along-grows (literal_end s) (literal-grows s) (byte_at s at) (at + 1)
 
-pub stage-up : (s : List ℕ) (at : ℕ) → at ≤ stageEnd s at
+pub stage-up : (s : List ℕ) (at : ℕ) → at ≤ stage_end s at
 stage-up s at = let h = stage-grows s at in omega arith
 
-pub goal-grows : (s : List ℕ) (at : ℕ) → at + 1 ≤ goalEnd s at
-unfolding goalEnd
-goal-grows s at = along-grows (stageEnd s) (stage-up s) (byte_at s at) (at + 1)
+pub goal-grows : (s : List ℕ) (at : ℕ) → at + 1 ≤ goal_end s at
+unfolding goal_end
+goal-grows s at = along-grows (stage_end s) (stage-up s) (byte_at s at) (at + 1)
 
 -- no goal ends at 0
-pub goal-after : (s : List ℕ) (at : ℕ) → 0 < goalEnd s at
+pub goal-after : (s : List ℕ) (at : ℕ) → 0 < goal_end s at
 goal-after s at = let h = goal-grows s at in omega arith
 
 module _ (s : List ℕ) (at k to : ℕ) (e : k ≡ byte_at s at) where
   -- the literals of a stage that ends inside, the stages of a goal that does
-  pub stage-in : stageEnd s at ≤ to → literalsEnd s k (at + 1) ≤ to
-  unfolding stageEnd
+  pub stage-in : stage_end s at ≤ to → literals_end s k (at + 1) ≤ to
+  unfolding stage_end
   stage-in h = rw e h
 
-  pub goal-in : goalEnd s at ≤ to → stagesEnd s k (at + 1) ≤ to
-  unfolding goalEnd
+  pub goal-in : goal_end s at ≤ to → stages_end s k (at + 1) ≤ to
+  unfolding goal_end
   goal-in h = rw e h

@@ -1,6 +1,6 @@
 // Reads of an image by places, total: a byte past the end is 0, and a place is where the fields lead.
 ghost use Rattle.std.specs.Prelude.{◌≡◌, ◌+◌, ◌*◌, ◌≤◌, ◌<◌, length};
-ghost use Rattle.parlog.specs.Image.{byte_at, word_at, termOf, termAt, number_of, literalsEnd, stageEnd, stagesEnd, goalEnd};
+ghost use Rattle.parlog.specs.Image.{byte_at, word_at, term_of, term_at, number_of, literals_end, stage_end, stages_end, goal_end};
 
 use parlog::{Term, codes};
 
@@ -43,7 +43,7 @@ pub fn word_in(s: &[u8], i: usize) -> usize
 // The term that a number is.
 fn term_of(w: usize) -> Term
     requires { w ≤ 65535 }
-    ensures { (result ≡ termOf w) × (number_of result ≤ 32767) }
+    ensures { (result ≡ term_of w) × (number_of result ≤ 32767) }
 {
     let number = (w % codes::FIRST_VARIABLE) as u32;
     if w < codes::FIRST_VARIABLE {
@@ -56,7 +56,7 @@ fn term_of(w: usize) -> Term
 // The term at a place.
 pub fn term_at(s: &[u8], at: usize) -> Term
     requires { at ≤ 4294967296 }
-    ensures { (result ≡ termAt s.now at) × (number_of result ≤ 32767) }
+    ensures { (result ≡ term_at s.now at) × (number_of result ≤ 32767) }
 {
     term_of(word_at(s, at))
 }
@@ -64,7 +64,7 @@ pub fn term_at(s: &[u8], at: usize) -> Term
 // The same, of bytes that are there: no test.
 pub fn term_in(s: &[u8], at: usize) -> Term
     requires { (at ≤ 4294967296) × (at + 1 < length s.now) }
-    ensures { (result ≡ termAt s.now at) × (number_of result ≤ 32767) }
+    ensures { (result ≡ term_at s.now at) × (number_of result ≤ 32767) }
 {
     term_of(word_in(s, at))
 }
@@ -72,7 +72,7 @@ pub fn term_in(s: &[u8], at: usize) -> Term
 // The place after n literals.
 pub fn literals_end(s: &[u8], n: usize, from: usize) -> usize
     requires { (n ≤ 255) × (from ≤ 1073741824) }
-    ensures { (result ≡ literalsEnd s.now n from) × (result ≤ from + 512 * n) }
+    ensures { (result ≡ literals_end s.now n from) × (result ≤ from + 512 * n) }
 {
     let mut at = from;
     let mut left = n;
@@ -86,7 +86,7 @@ pub fn literals_end(s: &[u8], n: usize, from: usize) -> usize
 // The place after a stage: at most 130,561 bytes on.
 pub fn stage_end(s: &[u8], at: usize) -> usize
     requires { at ≤ 536870912 }
-    ensures { (result ≡ stageEnd s.now at) × (result ≤ at + 130561) }
+    ensures { (result ≡ stage_end s.now at) × (result ≤ at + 130561) }
 {
     let n = byte_at(s, at);
     literals_end(s, n, at + 1)
@@ -95,7 +95,7 @@ pub fn stage_end(s: &[u8], at: usize) -> usize
 // The place after n stages.
 pub fn stages_end(s: &[u8], n: usize, from: usize) -> usize
     requires { (n ≤ 255) × (from ≤ 268435456) }
-    ensures { (result ≡ stagesEnd s.now n from) × (result ≤ from + 130561 * n) }
+    ensures { (result ≡ stages_end s.now n from) × (result ≤ from + 130561 * n) }
 {
     let mut at = from;
     let mut left = n;
@@ -109,7 +109,7 @@ pub fn stages_end(s: &[u8], n: usize, from: usize) -> usize
 // The place after a goal.
 pub fn goal_end(s: &[u8], at: usize) -> usize
     requires { at ≤ 134217728 }
-    ensures { (result ≡ goalEnd s.now at) × (result ≤ at + 33293056) }
+    ensures { (result ≡ goal_end s.now at) × (result ≤ at + 33293056) }
 {
     let n = byte_at(s, at);
     stages_end(s, n, at + 1)

@@ -17,7 +17,7 @@ use Rattle.parlog.specs.Tables.{written}
 use Rattle.parlog.specs.declared.Loaded.TheVariants.{Accepted, Refused}
 use Rattle.parlog.specs.declared.Refusal.{Refusal}
 use Rattle.print.specs.Says.{PrintSays, Tells}
-use Rattle.text_program.specs.Printing.{nameable, PrintCall, printCall, programNamed, programText, unwritten}
+use Rattle.text_program.specs.Printing.{nameable, PrintCall, print_call, program_named, program_text, unwritten}
 use Rattle.text_program.specs.declared.Printed.{Printed}
 use Rattle.text_program.specs.declared.Printed.TheVariants.{Unwritten, Wrote}
 
@@ -50,12 +50,12 @@ pub tells : {call call' : PrintCall} → call ≡ call' → Tells call' call.ans
 tells e = record { answers = ap (λ (k : PrintCall). k.answer) e; leaves = ap (λ (k : PrintCall). k.text) e }
 
 pub print-loaded : (tx s nm : List ℕ) (r c : ℕ) {x : Printed} {q : List ℕ} → load_of s ≡ Accepted r c →
-    Tells (nameable tx (programNamed nm (program_of s r c)) (programText nm (program_of s r c))) x q → Tells (printCall tx s nm) x q
-unfolding printCall
+    Tells (nameable tx (program_named nm (program_of s r c)) (program_text nm (program_of s r c))) x q → Tells (print_call tx s nm) x q
+unfolding print_call
 print-loaded tx s nm r c e v = rw e v
 
-pub print-refused : (tx s nm : List ℕ) (f : Refusal) → load_of s ≡ Refused f → Tells (printCall tx s nm) (Unwritten f) tx
-unfolding printCall
+pub print-refused : (tx s nm : List ℕ) (f : Refusal) → load_of s ≡ Refused f → Tells (print_call tx s nm) (Unwritten f) tx
+unfolding print_call
 print-refused tx s nm f e = rw e (record { answers = refl; leaves = refl })
 
 -- a print has one answer and leaves one row

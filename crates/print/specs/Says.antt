@@ -1,6 +1,6 @@
 -- What a print answers and leaves.
 use Rattle.std.specs.Prelude.{List, ◌≡◌, ℕ}
-use Rattle.text_program.specs.Printing.{PrintCall, printCall}
+use Rattle.text_program.specs.Printing.{PrintCall, print_call}
 use Rattle.text_program.specs.declared.Printed.{Printed}
 
 -- the answer and the row afterwards are those of a call
@@ -10,4 +10,4 @@ pub record Tells (call : PrintCall) (answer : Printed) (after : List ℕ) : Type
 
 -- Text 28: and the call is that of the definitions
 abbrev pub PrintSays : List ℕ → List ℕ → List ℕ → Printed → List ℕ → Type 0
-PrintSays image names text answer after = Tells (printCall text image names) answer after
+PrintSays image names text answer after = Tells (print_call text image names) answer after

@@ -3,7 +3,7 @@ ghost use Rattle.std.specs.Prelude.{◌≡◌, ◌≤◌};
 ghost use Rattle.parlog.specs.Load.{refusal};
 ghost use Rattle.parlog.specs.Program.{program_of};
 ghost use Rattle.print.specs.Says.{PrintSays, Tells};
-ghost use Rattle.text_program.specs.Printing.{nameable, programNamed, programText};
+ghost use Rattle.text_program.specs.Printing.{nameable, program_named, program_text};
 ghost use Rattle.text_program.specs.declared.Printed.TheVariants.{Unwritten};
 
 use lay_text::To;
@@ -26,7 +26,7 @@ fn unwritten(number: u8) -> Printed
 // The text of an accepted image: measured over a byte that nobody sees, then written.
 fn accepted(text: &mut [u8], image: &[u8], names: &[u8], r: usize, c: usize) -> Printed
     requires { (r ≤ 32) × (c ≤ 64) }
-    ensures { Tells (nameable text.old (programNamed names.now (program_of image.now r c)) (programText names.now (program_of image.now r c))) result text.new }
+    ensures { Tells (nameable text.old (program_named names.now (program_of image.now r c)) (program_text names.now (program_of image.now r c))) result text.new }
 {
     let w = To { at: 0, named: true };
     let mut table = [0usize; entry_table::PLACES];

@@ -1,14 +1,14 @@
 // The blocks of a relation's clauses in an image: their number by the index, the rest in one pass over the relation's clauses.
 ghost use Rattle.std.specs.Prelude.{◌≡◌, ◌≤◌, length, get_or};
-ghost use Rattle.parlog.specs.Program.{program_of, blockCount, block_of};
-ghost use Rattle.program_block.specs.Parts.{opensBy};
+ghost use Rattle.parlog.specs.Program.{program_of, block_count, block_of};
+ghost use Rattle.program_block.specs.Parts.{opens_by};
 ghost use Rattle.program_index.specs.Indexed.{Behind, Early, Indexed};
 
 use parlog::codes;
 
 // Whether a clause opens a block of relation q: it is of q, and it comes after another relation's clause or has another mark than 0.
 pub fn opens(rel: usize, own: bool, mark: usize, q: usize) -> bool
-    ensures { result ≡ opensBy rel own mark q }
+    ensures { result ≡ opens_by rel own mark q }
 {
     basics::and(rel == q, !basics::and(own, mark == 0))
 }
@@ -60,7 +60,7 @@ fn block_scan(
     j: usize,
 ) -> Blocks
     requires { (rels ≤ 32) × (clauses ≤ 64) × Indexed s.now rels clauses ix.now }
-    ensures { (result.count ≡ blockCount (program_of s.now rels clauses) q) × (result.size ≡ length (block_of (program_of s.now rels clauses) q b)) × (result.clause ≡ get_or (block_of (program_of s.now rels clauses) q b) j 255) × (result.count ≤ 64) × (result.size ≤ 64) × (result.clause ≤ 255) }
+    ensures { (result.count ≡ block_count (program_of s.now rels clauses) q) × (result.size ≡ length (block_of (program_of s.now rels clauses) q b)) × (result.clause ≡ get_or (block_of (program_of s.now rels clauses) q b) j 255) × (result.count ≤ 64) × (result.size ≤ 64) × (result.clause ≤ 255) }
 {
     let next = basics::wide(b) + 1;
     let to = to_of(s, rels, clauses, ix, q);
@@ -97,7 +97,7 @@ pub fn block_count(
     q: usize,
 ) -> usize
     requires { (rels ≤ 32) × (clauses ≤ 64) × Indexed s.now rels clauses ix.now }
-    ensures { (result ≡ blockCount (program_of s.now rels clauses) q) × (result ≤ 64) }
+    ensures { (result ≡ block_count (program_of s.now rels clauses) q) × (result ≤ 64) }
 {
     if q < rels {
         return program_index::blocks_of(s, rels, clauses, ix, q);

@@ -3,9 +3,9 @@ ghost use Rattle.program_index.specs.Indexed.{Indexed};
 ghost use Rattle.std.specs.Prelude.{◌≡◌, [], ◌+◌, ◌≤◌, ◌&&◌, cond, eqb, length, get_or};
 ghost use Rattle.parlog.specs.declared.Term.TheVariants.{Const};
 ghost use Rattle.parlog.specs.Scan.{list_of, those};
-ghost use Rattle.parlog.specs.Image.{byte_at, termAt, termEnd, modeEnd, recordEnd};
-ghost use Rattle.parlog.specs.Program.{modesOf, program_of, clauseAt, modesAt, varsOf};
-ghost use Rattle.program_clause.specs.Parts.{isOut};
+ghost use Rattle.parlog.specs.Image.{byte_at, term_at, term_end, mode_end, record_end};
+ghost use Rattle.parlog.specs.Program.{modes_of, program_of, clause_at, modes_at, vars_of};
+ghost use Rattle.program_clause.specs.Parts.{is_out};
 
 use parlog::{Term, codes};
 
@@ -27,7 +27,7 @@ pub fn modes_of(
     q: usize,
 ) -> Row
     requires { (rels ≤ 32) × (clauses ≤ 64) × Indexed s.now rels clauses ix.now }
-    ensures { (list_of (byte_at s.now) modeEnd result.n result.at ≡ get_or (list_of (modesOf s.now) (recordEnd s.now) rels 0) q []) × (result.n ≤ 255) × (result.at ≤ 16777216) }
+    ensures { (list_of (byte_at s.now) mode_end result.n result.at ≡ get_or (list_of (modes_of s.now) (record_end s.now) rels 0) q []) × (result.n ≤ 255) × (result.at ≤ 16777216) }
 {
     if rels <= q {
         return Row { n: 0, at: 0 };
@@ -49,7 +49,7 @@ pub fn mode_count(
     q: usize,
 ) -> usize
     requires { (rels ≤ 32) × (clauses ≤ 64) × Indexed s.now rels clauses ix.now }
-    ensures { (result ≡ length (modesAt (program_of s.now rels clauses) q)) × (result ≤ 255) }
+    ensures { (result ≡ length (modes_at (program_of s.now rels clauses) q)) × (result ≤ 255) }
 {
     let ms = modes_of(s, rels, clauses, ix, q);
     ms.n
@@ -65,7 +65,7 @@ pub fn mode_of(
     i: usize,
 ) -> usize
     requires { (rels ≤ 32) × (clauses ≤ 64) × Indexed s.now rels clauses ix.now }
-    ensures { (result ≡ get_or (modesAt (program_of s.now rels clauses) q) i 0) × (result ≤ 255) }
+    ensures { (result ≡ get_or (modes_at (program_of s.now rels clauses) q) i 0) × (result ≤ 255) }
 {
     let ms = modes_of(s, rels, clauses, ix, q);
     let n = ms.n;
@@ -108,7 +108,7 @@ pub struct Outs {
 // The outputs among n modes at a place, and the number of output j.
 pub fn outs_of(s: &[u8], n: usize, at: usize, j: usize) -> Outs
     requires { (n ≤ 255) × (at ≤ 16777216) }
-    ensures { (result.count ≡ length (those (isOut s.now at) n)) × (result.number ≡ get_or (those (isOut s.now at) n) j 0) × (result.count ≤ n) × (result.number ≤ 255) }
+    ensures { (result.count ≡ length (those (is_out s.now at) n)) × (result.number ≡ get_or (those (is_out s.now at) n) j 0) × (result.count ≤ n) × (result.number ≤ 255) }
 {
     let mut count = 0;
     let mut number = 0;
@@ -133,7 +133,7 @@ pub fn clause_relation(
     k: usize,
 ) -> usize
     requires { (rels ≤ 32) × (clauses ≤ 64) × Indexed s.now rels clauses ix.now }
-    ensures { (result ≡ (clauseAt (program_of s.now rels clauses) k).rel) × (result ≤ 255) }
+    ensures { (result ≡ (clause_at (program_of s.now rels clauses) k).rel) × (result ≤ 255) }
 {
     if clauses <= k {
         return codes::EQUALITY;
@@ -151,7 +151,7 @@ pub fn clause_vars(
     k: usize,
 ) -> usize
     requires { (rels ≤ 32) × (clauses ≤ 64) × Indexed s.now rels clauses ix.now }
-    ensures { (result ≡ (clauseAt (program_of s.now rels clauses) k).vars) × (result ≤ 255) }
+    ensures { (result ≡ (clause_at (program_of s.now rels clauses) k).vars) × (result ≤ 255) }
 {
     if clauses <= k {
         return 0;
@@ -169,7 +169,7 @@ pub fn vars_of(
     k: usize,
 ) -> usize
     requires { (rels ≤ 32) × (clauses ≤ 64) × Indexed s.now rels clauses ix.now }
-    ensures { (result ≡ varsOf (program_of s.now rels clauses) k) × (result ≤ 510) }
+    ensures { (result ≡ vars_of (program_of s.now rels clauses) k) × (result ≤ 510) }
 {
     if clauses <= k {
         return 0;
@@ -180,7 +180,7 @@ pub fn vars_of(
 // Term k of n terms at a place.
 pub fn term_of(s: &[u8], n: usize, at: usize, k: usize) -> Term
     requires { (n ≤ 255) × (at ≤ 268435456) }
-    ensures { result ≡ get_or (list_of (termAt s.now) termEnd n at) k (Const 0) }
+    ensures { result ≡ get_or (list_of (term_at s.now) term_end n at) k (Const 0) }
 {
     if k < n {
         return place::term_at(s, at + codes::TERM_SIZE * k);
@@ -198,7 +198,7 @@ pub fn head_term(
     i: usize,
 ) -> Term
     requires { (rels ≤ 32) × (clauses ≤ 64) × Indexed s.now rels clauses ix.now }
-    ensures { result ≡ get_or (clauseAt (program_of s.now rels clauses) k).head i (Const 0) }
+    ensures { result ≡ get_or (clause_at (program_of s.now rels clauses) k).head i (Const 0) }
 {
     if clauses <= k {
         return Term::Const(0);
@@ -213,7 +213,7 @@ pub fn head_term(
 // The number of the goal's variables.
 pub fn goal_vars(s: &[u8], rels: usize, clauses: usize, ix: &[u16; program_index::SIZE]) -> usize
     requires { (rels ≤ 32) × (clauses ≤ 64) × Indexed s.now rels clauses ix.now }
-    ensures { (result ≡ (program_of s.now rels clauses).goalVars) × (result ≤ 255) }
+    ensures { (result ≡ (program_of s.now rels clauses).goal_vars) × (result ≤ 255) }
 {
     let at = program_index::record_at(s, rels, clauses, ix, rels + clauses);
     place::byte_at(s, at + codes::GOAL_VARS)

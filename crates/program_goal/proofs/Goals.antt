@@ -10,13 +10,13 @@ use borrow.Author.Tests.{leb-false, leb-true, ltb-false, ltb-true}
 use native.Mathlib.Omega.{arith}
 use Rattle.parlog.proofs.Bools.{or-false, split}
 use Rattle.parlog.specs.Codes.{kind_of}
-use Rattle.parlog.specs.Image.{byte_at, literalEnd, stageEnd}
-use Rattle.parlog.specs.Program.{before, equation, Goal, goalAt, goalBy, Literal, literalAt, literalOf, noLiteral, Program, stageAt}
+use Rattle.parlog.specs.Image.{byte_at, literal_end, stage_end}
+use Rattle.parlog.specs.Program.{before, equation, Goal, goal_at, goal_by, Literal, literal_at, literal_of, no_literal, Program, stage_at}
 use Rattle.parlog.specs.Scan.{along}
 use Rattle.parlog.specs.declared.Spot.{Spot}
 use Rattle.parlog.specs.declared.Term.{Term}
 use Rattle.program_goal.proofs.Rows.{in-here, in_size, stage-past, stages-length}
-use Rattle.program_goal.specs.Parts.{clauseOuts, front, goalIn, shown, stagesOf}
+use Rattle.program_goal.specs.Parts.{clause_outs, front, goal_in, shown, stages_of}
 use Rattle.program_goal.specs.declared.Home.{Home}
 use Rattle.program_goal.specs.declared.Lit.{Lit}
 
@@ -58,77 +58,77 @@ before-alone (x ∷ es) (st ∷ g) e ne = absurd (omega arith)
 stage-by : (b : Bool) (i : ℕ) (s : List ℕ) (r from : ℕ) (g : Goal) → get_or (before (front b 0 s r from) g) i [] ≡ front b i s r from ++ get_or g i []
 unfolding front before
 stage-by false i s r from g = refl
-stage-by true zero s r from g = before-first (clauseOuts s r from) g
-stage-by true (suc i) s r from g = before-later (clauseOuts s r from) g i
+stage-by true zero s r from g = before-first (clause_outs s r from) g
+stage-by true (suc i) s r from g = before-later (clause_outs s r from) g i
 
-second-part : (es ls : List Literal) (j : ℕ) → length es ≤ j → get_or (es ++ ls) j noLiteral ≡ get_or ls (j - length es) noLiteral
+second-part : (es ls : List Literal) (j : ℕ) → length es ≤ j → get_or (es ++ ls) j no_literal ≡ get_or ls (j - length es) no_literal
 second-part es ls j h =
     let e : j ≡ length es + (j - length es) = omega arith in
-    ap (λ (z : ℕ). get_or (es ++ ls) z noLiteral) e ∙ get_or-append-add es ls (j - length es) noLiteral
+    ap (λ (z : ℕ). get_or (es ++ ls) z no_literal) e ∙ get_or-append-add es ls (j - length es) no_literal
 
 module _ (s : List ℕ) (r : ℕ) (h : Home) where
   module _ (i : ℕ) {count : ℕ} (ec : count ≡ length (front h.body i s r h.clause)) where
-    stage-in : get_or (goalIn s r h) i [] ≡ front h.body i s r h.clause ++ get_or (stagesOf s h.stages h.at) i []
-    unfolding goalIn
-    stage-in = stage-by h.body i s r h.clause (stagesOf s h.stages h.at)
+    stage-in : get_or (goal_in s r h) i [] ≡ front h.body i s r h.clause ++ get_or (stages_of s h.stages h.at) i []
+    unfolding goal_in
+    stage-in = stage-by h.body i s r h.clause (stages_of s h.stages h.at)
 
-    pub lit-first : (j : ℕ) → j < count → {l : Literal} → l ≡ get_or (front h.body i s r h.clause) j noLiteral → shown l ≡ shown (get_or (get_or (goalIn s r h) i []) j noLiteral)
-    lit-first j g e = ap shown (e ∙ sym (ap (λ (ls : List Literal). get_or ls j noLiteral) stage-in ∙ get_or-append (front h.body i s r h.clause) (get_or (stagesOf s h.stages h.at) i []) noLiteral j (rw ec at g)))
+    pub lit-first : (j : ℕ) → j < count → {l : Literal} → l ≡ get_or (front h.body i s r h.clause) j no_literal → shown l ≡ shown (get_or (get_or (goal_in s r h) i []) j no_literal)
+    lit-first j g e = ap shown (e ∙ sym (ap (λ (ls : List Literal). get_or ls j no_literal) stage-in ∙ get_or-append (front h.body i s r h.clause) (get_or (stages_of s h.stages h.at) i []) no_literal j (rw ec at g)))
 
-    pub lit-second : (j : ℕ) → count ≤ j → shown (get_or (get_or (stagesOf s h.stages h.at) i []) (j - count) noLiteral) ≡ shown (get_or (get_or (goalIn s r h) i []) j noLiteral)
-    lit-second j g = rw (stage-in, ec) (ap shown (sym (second-part (front h.body i s r h.clause) (get_or (stagesOf s h.stages h.at) i []) j (rw ec at g))))
+    pub lit-second : (j : ℕ) → count ≤ j → shown (get_or (get_or (stages_of s h.stages h.at) i []) (j - count) no_literal) ≡ shown (get_or (get_or (goal_in s r h) i []) j no_literal)
+    lit-second j g = rw (stage-in, ec) (ap shown (sym (second-part (front h.body i s r h.clause) (get_or (stages_of s h.stages h.at) i []) j (rw ec at g))))
 
     -- the relation of literal j: of an equation, past the end, and where it stands
-    pub rel-first : (j : ℕ) → j < count → {t : Term} {v : ℕ} → equation t v ≡ get_or (front h.body i s r h.clause) j noLiteral → 255 ≡ (get_or (get_or (goalIn s r h) i []) j noLiteral).rel
+    pub rel-first : (j : ℕ) → j < count → {t : Term} {v : ℕ} → equation t v ≡ get_or (front h.body i s r h.clause) j no_literal → 255 ≡ (get_or (get_or (goal_in s r h) i []) j no_literal).rel
     unfolding shown
     rel-first j g e = ap (λ (x : Lit). x.rel) (lit-first j g e)
 
-    pub rel-past : (j : ℕ) → length (get_or (goalIn s r h) i []) ≤ j → 255 ≡ (get_or (get_or (goalIn s r h) i []) j noLiteral).rel
-    rel-past j g = sym (ap (λ (l : Literal). l.rel) (get_or-eq_default (get_or (goalIn s r h) i []) noLiteral g))
+    pub rel-past : (j : ℕ) → length (get_or (goal_in s r h) i []) ≤ j → 255 ≡ (get_or (get_or (goal_in s r h) i []) j no_literal).rel
+    rel-past j g = sym (ap (λ (l : Literal). l.rel) (get_or-eq_default (get_or (goal_in s r h) i []) no_literal g))
 
-    pub rel-own : (j : ℕ) → count ≤ j → i < h.stages → {st m : ℕ} → st ≡ along (stageEnd s) i h.at → m ≡ byte_at s st → j - count < m
-        → {l x : ℕ} → l ≡ along (literalEnd s) (j - count) (st + 1) → x ≡ byte_at s l → x ≡ (get_or (get_or (goalIn s r h) i []) j noLiteral).rel
-    unfolding shown literalOf
+    pub rel-own : (j : ℕ) → count ≤ j → i < h.stages → {st m : ℕ} → st ≡ along (stage_end s) i h.at → m ≡ byte_at s st → j - count < m
+        → {l x : ℕ} → l ≡ along (literal_end s) (j - count) (st + 1) → x ≡ byte_at s l → x ≡ (get_or (get_or (goal_in s r h) i []) j no_literal).rel
+    unfolding shown literal_of
     rel-own j g gi est em hm el ex = ex ∙ ap (λ (x : Lit). x.rel) (in-here s h.stages h.at i gi est em (j - count) hm el ∙ lit-second j g)
 
-    pub size-short : h.stages ≤ i → count ≡ length (get_or (goalIn s r h) i [])
+    pub size-short : h.stages ≤ i → count ≡ length (get_or (goal_in s r h) i [])
     size-short g = ec ∙ sym (ap length (stage-in ∙ ap (λ (l : List Literal). front h.body i s r h.clause ++ l) (stage-past s h.stages h.at i g)) ∙ length-append (front h.body i s r h.clause) [] ∙ omega arith)
 
     -- the ways through called_at
-    pub called-short : (j : ℕ) {t : Term} {v : ℕ} → (j < count → equation t v ≡ get_or (front h.body i s r h.clause) j noLiteral) → h.stages ≤ i → 255 ≡ (get_or (get_or (goalIn s r h) i []) j noLiteral).rel
+    pub called-short : (j : ℕ) {t : Term} {v : ℕ} → (j < count → equation t v ≡ get_or (front h.body i s r h.clause) j no_literal) → h.stages ≤ i → 255 ≡ (get_or (get_or (goal_in s r h) i []) j no_literal).rel
     called-short j e g = split (ltb j count) (λ b. let l = ltb-true j count b in rel-first j l (e l)) (λ b. rel-past j (let l = ltb-false j count b in omega (arith, size-short g)))
 
-    pub called-edge : (j : ℕ) {t : Term} {v : ℕ} → (j < count → equation t v ≡ get_or (front h.body i s r h.clause) j noLiteral) → {n : ℕ} → n ≡ length (get_or (goalIn s r h) i []) → {b : Bool} → b ≡ (ltb j count || leb n j) → b ≡ true → 255 ≡ (get_or (get_or (goalIn s r h) i []) j noLiteral).rel
+    pub called-edge : (j : ℕ) {t : Term} {v : ℕ} → (j < count → equation t v ≡ get_or (front h.body i s r h.clause) j no_literal) → {n : ℕ} → n ≡ length (get_or (goal_in s r h) i []) → {b : Bool} → b ≡ (ltb j count || leb n j) → b ≡ true → 255 ≡ (get_or (get_or (goal_in s r h) i []) j no_literal).rel
     called-edge j e {n} en eb et = split (ltb j count) (λ b. let l = ltb-true j count b in rel-first j l (e l)) (λ b. rel-past j (let l = leb-true n j (rw b at (sym eb ∙ et)) in omega arith))
 
-    pub size-both : i < h.stages → {st m : ℕ} → st ≡ along (stageEnd s) i h.at → m ≡ byte_at s st → count + m ≡ length (get_or (goalIn s r h) i [])
-    size-both g est em = rw (stage-in, length-append (front h.body i s r h.clause) (get_or (stagesOf s h.stages h.at) i []), ec, in_size s h.stages h.at i g est em)
+    pub size-both : i < h.stages → {st m : ℕ} → st ≡ along (stage_end s) i h.at → m ≡ byte_at s st → count + m ≡ length (get_or (goal_in s r h) i [])
+    size-both g est em = rw (stage-in, length-append (front h.body i s r h.clause) (get_or (stages_of s h.stages h.at) i []), ec, in_size s h.stages h.at i g est em)
 
-  pub goal-own : (h.stages ≡ 0 → ⊥) → h.stages ≡ length (goalIn s r h)
-  unfolding goalIn
+  pub goal-own : (h.stages ≡ 0 → ⊥) → h.stages ≡ length (goal_in s r h)
+  unfolding goal_in
   goal-own ne =
       let e = stages-length s h.stages h.at 0 in
-      sym (before-own (front h.body 0 s r h.clause) (stagesOf s h.stages h.at) (λ z. ne (sym e ∙ z)) ∙ e)
+      sym (before-own (front h.body 0 s r h.clause) (stages_of s h.stages h.at) (λ z. ne (sym e ∙ z)) ∙ e)
 
   module _ (z : h.stages ≡ 0) {count : ℕ} (ec : count ≡ length (front h.body 0 s r h.clause)) where
-    pub goal-empty : count ≡ 0 → 0 ≡ length (goalIn s r h)
-    unfolding goalIn
-    goal-empty e = sym (before-empty (front h.body 0 s r h.clause) (stagesOf s h.stages h.at) (stages-length s h.stages h.at 0 ∙ z) (sym ec ∙ e))
+    pub goal-empty : count ≡ 0 → 0 ≡ length (goal_in s r h)
+    unfolding goal_in
+    goal-empty e = sym (before-empty (front h.body 0 s r h.clause) (stages_of s h.stages h.at) (stages-length s h.stages h.at 0 ∙ z) (sym ec ∙ e))
 
-    pub goal-alone : (count ≡ 0 → ⊥) → 1 ≡ length (goalIn s r h)
-    unfolding goalIn
-    goal-alone ne = sym (before-alone (front h.body 0 s r h.clause) (stagesOf s h.stages h.at) (stages-length s h.stages h.at 0 ∙ z) (λ e. ne (ec ∙ e)))
+    pub goal-alone : (count ≡ 0 → ⊥) → 1 ≡ length (goal_in s r h)
+    unfolding goal_in
+    goal-alone ne = sym (before-alone (front h.body 0 s r h.clause) (stages_of s h.stages h.at) (stages-length s h.stages h.at 0 ∙ z) (λ e. ne (ec ∙ e)))
 
 -- by the spot
-module _ (pr : Program) (z : Spot) {g : Goal} (e : goalBy (kind_of z.kind) pr z.clause ≡ g) where
-  pub spot-stage : get_or g z.stage [] ≡ stageAt pr z
-  unfolding stageAt goalAt
+module _ (pr : Program) (z : Spot) {g : Goal} (e : goal_by (kind_of z.kind) pr z.clause ≡ g) where
+  pub spot-stage : get_or g z.stage [] ≡ stage_at pr z
+  unfolding stage_at goal_at
   spot-stage = ap (λ (w : Goal). get_or w z.stage []) (sym e)
 
-  pub spot-literal : shown (get_or (get_or g z.stage []) z.literal noLiteral) ≡ shown (literalAt pr z)
-  unfolding literalAt
-  spot-literal = ap (λ (st : List Literal). shown (get_or st z.literal noLiteral)) spot-stage
+  pub spot-literal : shown (get_or (get_or g z.stage []) z.literal no_literal) ≡ shown (literal_at pr z)
+  unfolding literal_at
+  spot-literal = ap (λ (st : List Literal). shown (get_or st z.literal no_literal)) spot-stage
 
-  pub spot-relation : (get_or (get_or g z.stage []) z.literal noLiteral).rel ≡ (literalAt pr z).rel
-  unfolding literalAt
-  spot-relation = ap (λ (st : List Literal). (get_or st z.literal noLiteral).rel) spot-stage
+  pub spot-relation : (get_or (get_or g z.stage []) z.literal no_literal).rel ≡ (literal_at pr z).rel
+  unfolding literal_at
+  spot-relation = ap (λ (st : List Literal). (get_or st z.literal no_literal).rel) spot-stage

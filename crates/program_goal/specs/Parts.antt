@@ -1,8 +1,8 @@
 -- A literal as the reads hand it on, and a goal where it stands.
 use Rattle.std.specs.Prelude.{◌&&◌, Bool, cond, false, true, [], List, ◌+◌, ◌≤◌, suc, zero, ℕ, eqb, ltb, get_or, length}
-use Rattle.parlog.specs.Codes.{equate, or-par, tagCode}
-use Rattle.parlog.specs.Image.{byte_at, equality, modeEnd, recordEnd, stageEnd, termAt, termEnd}
-use Rattle.parlog.specs.Program.{before, clauseAt, Goal, Literal, modesAt, modesOf, outCount, outputs, Program, stageOf}
+use Rattle.parlog.specs.Codes.{equate, or_par, tag_code}
+use Rattle.parlog.specs.Image.{byte_at, equality, mode_end, record_end, stage_end, term_at, term_end}
+use Rattle.parlog.specs.Program.{before, clause_at, Goal, Literal, modes_at, modes_of, out_count, outputs, Program, stage_of}
 use Rattle.parlog.specs.Scan.{list_of}
 use Rattle.parlog.specs.declared.Term.TheVariants.{Const}
 use Rattle.program_goal.specs.declared.Home.{Home}
@@ -20,35 +20,35 @@ shown l = record {
 }
 
 -- n stages at a place
-unfoldable pub stagesOf : List ℕ → ℕ → ℕ → Goal
-stagesOf s n at = list_of (stageOf s) (stageEnd s) n at
+unfoldable pub stages_of : List ℕ → ℕ → ℕ → Goal
+stages_of s n at = list_of (stage_of s) (stage_end s) n at
 
 -- the output equations of n modes and m head terms at their places
-unfoldable pub outsOf : List ℕ → ℕ → ℕ → ℕ → ℕ → ℕ → List Literal
-outsOf s n mat m tat v = outputs (list_of (byte_at s) modeEnd n mat) (list_of (termAt s) termEnd m tat) v
+unfoldable pub outs_of : List ℕ → ℕ → ℕ → ℕ → ℕ → ℕ → List Literal
+outs_of s n mat m tat v = outputs (list_of (byte_at s) mode_end n mat) (list_of (term_at s) term_end m tat) v
 
 -- those of the clause at a place
-unfoldable pub clauseOuts : List ℕ → ℕ → ℕ → List Literal
-clauseOuts s r at = outputs (get_or (list_of (modesOf s) (recordEnd s) r 0) (byte_at s (at + 4)) []) (list_of (termAt s) termEnd (byte_at s (at + 5)) (at + 8)) (byte_at s (at + 7))
+unfoldable pub clause_outs : List ℕ → ℕ → ℕ → List Literal
+clause_outs s r at = outputs (get_or (list_of (modes_of s) (record_end s) r 0) (byte_at s (at + 4)) []) (list_of (term_at s) term_end (byte_at s (at + 5)) (at + 8)) (byte_at s (at + 7))
 
 -- the output equations that come before stage i: those of the clause, before the first stage of a committed body
 unfoldable pub front : Bool → ℕ → List ℕ → ℕ → ℕ → List Literal
 front false i s r at = []
-front true zero s r at = clauseOuts s r at
+front true zero s r at = clause_outs s r at
 front true (suc i) s r at = []
 
 -- the goal that stands there
-unfoldable pub goalIn : List ℕ → ℕ → Home → Goal
-goalIn s r h = before (front h.body 0 s r h.clause) (stagesOf s h.stages h.at)
+unfoldable pub goal_in : List ℕ → ℕ → Home → Goal
+goal_in s r h = before (front h.body 0 s r h.clause) (stages_of s h.stages h.at)
 
 -- clause k has an output argument, and so many stages are more than one
-unfoldable pub splitsWith : Program → ℕ → ℕ → Bool
-splitsWith pr k n = ltb 0 (outCount (modesAt pr (clauseAt pr k).rel)) && ltb 1 n
+unfoldable pub splits_with : Program → ℕ → ℕ → Bool
+splits_with pr k n = ltb 0 (out_count (modes_at pr (clause_at pr k).rel)) && ltb 1 n
 
 -- bounds of its places
 abbrev pub Near : Home → Type 0
 Near h = (h.stages ≤ 255) × (h.at ≤ 134217728) × (h.clause ≤ 8388608)
 
 -- the tag of a literal of relation rel
-unfoldable pub relationTag : ℕ → ℕ
-relationTag rel = cond (eqb rel equality) (tagCode equate) (tagCode or-par)
+unfoldable pub relation_tag : ℕ → ℕ
+relation_tag rel = cond (eqb rel equality) (tag_code equate) (tag_code or_par)

@@ -1,10 +1,10 @@
 // The goals of an image, their stages and literals, read where they stand, and the tags that they call for.
 ghost use Rattle.program_index.specs.Indexed.{Indexed};
 ghost use Rattle.std.specs.Prelude.{◌≡◌, cond, [], ◌+◌, ◌*◌, ◌≤◌, ◌<◌, eqb, ltb, length, get_or};
-ghost use Rattle.parlog.specs.Codes.{kind_of, tagCode};
-ghost use Rattle.parlog.specs.Image.{body_at, byte_at, guardAt, recordAt, termAt};
-ghost use Rattle.parlog.specs.Program.{noLiteral, equation, literalOf, program_of, goalBy, stageAt, literalAt, tagOfLiteral, tagOfStage, tagOfGoal, bodyTag, clauseAt, committedBody, isSplit, splitBy};
-ghost use Rattle.program_goal.specs.Parts.{shown, front, goalIn, Near, stagesOf, relationTag, splitsWith};
+ghost use Rattle.parlog.specs.Codes.{kind_of, tag_code};
+ghost use Rattle.parlog.specs.Image.{body_at, byte_at, guard_at, record_at, term_at};
+ghost use Rattle.parlog.specs.Program.{no_literal, equation, literal_of, program_of, goal_by, stage_at, literal_at, tag_of_literal, tag_of_stage, tag_of_goal, body_tag, clause_at, committed_body, is_split, split_by};
+ghost use Rattle.program_goal.specs.Parts.{shown, front, goal_in, Near, stages_of, relation_tag, splits_with};
 
 use parlog::{Spot, Term, codes};
 use program_clause::Outs;
@@ -24,7 +24,7 @@ pub struct Lit {
 
 // What stands past the end.
 fn none() -> Lit
-    ensures { (result ≡ shown noLiteral) × (result.rel ≤ 255) }
+    ensures { (result ≡ shown no_literal) × (result.rel ≤ 255) }
 {
     Lit {
         rel: codes::EQUALITY,
@@ -39,7 +39,7 @@ fn none() -> Lit
 // The literal at a place.
 fn literal_here(s: &[u8], at: usize) -> Lit
     requires { at ≤ 268435000 }
-    ensures { (result ≡ shown (literalOf s.now at)) × (result.rel ≤ 255) }
+    ensures { (result ≡ shown (literal_of s.now at)) × (result.rel ≤ 255) }
 {
     let rel = place::byte_at(s, at);
     let n = place::byte_at(s, at + codes::LITERAL_ARITY);
@@ -61,7 +61,7 @@ fn literal_here(s: &[u8], at: usize) -> Lit
 // Literal j of stage i of n stages at a place.
 fn literal_in(s: &[u8], n: usize, at: usize, i: usize, j: usize) -> Lit
     requires { (n ≤ 255) × (at ≤ 134217728) }
-    ensures { (result ≡ shown (get_or (get_or (stagesOf s.now n at) i []) j noLiteral)) × (result.rel ≤ 255) }
+    ensures { (result ≡ shown (get_or (get_or (stages_of s.now n at) i []) j no_literal)) × (result.rel ≤ 255) }
 {
     if n <= i {
         return none();
@@ -111,8 +111,8 @@ fn part_place(
     clause: usize,
     kind: u8,
 ) -> usize
-    requires { (rels ≤ 32) × (clauses ≤ 64) × (k < clauses) × (clause ≡ recordAt s.now (rels + k)) × (clause ≤ 65535) × Indexed s.now rels clauses ix.now }
-    ensures { (result ≡ cond (eqb kind 1) (guardAt s.now clause) (body_at s.now clause)) × (result ≤ 67108864) }
+    requires { (rels ≤ 32) × (clauses ≤ 64) × (k < clauses) × (clause ≡ record_at s.now (rels + k)) × (clause ≤ 65535) × Indexed s.now rels clauses ix.now }
+    ensures { (result ≡ cond (eqb kind 1) (guard_at s.now clause) (body_at s.now clause)) × (result ≤ 67108864) }
 {
     if kind == codes::THE_GUARD {
         let arity = place::byte_at(s, clause + codes::CLAUSE_ARITY);
@@ -131,8 +131,8 @@ fn splits(
     clause: usize,
     stages: usize,
 ) -> bool
-    requires { (rels ≤ 32) × (clauses ≤ 64) × (k < clauses) × (clause ≡ recordAt s.now (rels + k)) × (clause ≤ 65535) × Indexed s.now rels clauses ix.now }
-    ensures { result ≡ splitsWith (program_of s.now rels clauses) k stages }
+    requires { (rels ≤ 32) × (clauses ≤ 64) × (k < clauses) × (clause ≡ record_at s.now (rels + k)) × (clause ≤ 65535) × Indexed s.now rels clauses ix.now }
+    ensures { result ≡ splits_with (program_of s.now rels clauses) k stages }
 {
     let vars = program_index::vars_at(s, rels, clauses, ix, k);
     let own = place::byte_at(s, clause + codes::CLAUSE_VARS);
@@ -149,7 +149,7 @@ pub fn split_by(
     k: u8,
 ) -> bool
     requires { (rels ≤ 32) × (clauses ≤ 64) × Indexed s.now rels clauses ix.now }
-    ensures { result ≡ splitBy (kind_of kind) (program_of s.now rels clauses) k }
+    ensures { result ≡ split_by (kind_of kind) (program_of s.now rels clauses) k }
 {
     let number = k as usize;
     if basics::or(kind != codes::THE_BODY, clauses <= number) {
@@ -178,7 +178,7 @@ fn goal_home(
     k: u8,
 ) -> Home
     requires { (rels ≤ 32) × (clauses ≤ 64) × Indexed s.now rels clauses ix.now }
-    ensures { (goalBy (kind_of kind) (program_of s.now rels clauses) k ≡ goalIn s.now rels result) × Near result }
+    ensures { (goal_by (kind_of kind) (program_of s.now rels clauses) k ≡ goal_in s.now rels result) × Near result }
 {
     if kind == codes::THE_GOAL {
         let at = program_index::record_at(s, rels, clauses, ix, rels + clauses) + codes::GOAL_AT;
@@ -229,7 +229,7 @@ fn outs_before(
     j: usize,
 ) -> Outs
     requires { (rels ≤ 32) × (clauses ≤ 64) × Near h × Indexed s.now rels clauses ix.now }
-    ensures { (result.count ≡ length (front h.body i s.now rels h.clause)) × ((j < result.count) → equation (termAt s.now (h.clause + 8 + 2 * result.number)) (byte_at s.now (h.clause + 7) + j) ≡ get_or (front h.body i s.now rels h.clause) j noLiteral) × (result.count ≤ 255) × (result.number ≤ 255) }
+    ensures { (result.count ≡ length (front h.body i s.now rels h.clause)) × ((j < result.count) → equation (term_at s.now (h.clause + 8 + 2 * result.number)) (byte_at s.now (h.clause + 7) + j) ≡ get_or (front h.body i s.now rels h.clause) j no_literal) × (result.count ≤ 255) × (result.number ≤ 255) }
 {
     let clause = h.clause;
     if !basics::and(h.body, i == 0) {
@@ -260,7 +260,7 @@ fn literal_at(
     j: usize,
 ) -> Lit
     requires { (rels ≤ 32) × (clauses ≤ 64) × Near h × Indexed s.now rels clauses ix.now }
-    ensures { (result ≡ shown (get_or (get_or (goalIn s.now rels h) i []) j noLiteral)) × (result.rel ≤ 255) }
+    ensures { (result ≡ shown (get_or (get_or (goal_in s.now rels h) i []) j no_literal)) × (result.rel ≤ 255) }
 {
     let outs = outs_before(s, rels, clauses, ix, h, i, j);
     let count = outs.count;
@@ -286,7 +286,7 @@ fn stage_size_at(
     i: usize,
 ) -> usize
     requires { (rels ≤ 32) × (clauses ≤ 64) × Near h × Indexed s.now rels clauses ix.now }
-    ensures { (result ≡ length (get_or (goalIn s.now rels h) i [])) × (result ≤ 510) }
+    ensures { (result ≡ length (get_or (goal_in s.now rels h) i [])) × (result ≤ 510) }
 {
     let outs = outs_before(s, rels, clauses, ix, h, i, 0);
     let count = outs.count;
@@ -317,7 +317,7 @@ fn called_at(
     j: usize,
 ) -> Call
     requires { (rels ≤ 32) × (clauses ≤ 64) × Near h × (j ≤ 255) × Indexed s.now rels clauses ix.now }
-    ensures { (result.size ≡ length (get_or (goalIn s.now rels h) i [])) × (result.rel ≡ (get_or (get_or (goalIn s.now rels h) i []) j noLiteral).rel) × (result.size ≤ 510) × (result.rel ≤ 255) }
+    ensures { (result.size ≡ length (get_or (goal_in s.now rels h) i [])) × (result.rel ≡ (get_or (get_or (goal_in s.now rels h) i []) j no_literal).rel) × (result.size ≤ 510) × (result.rel ≤ 255) }
 {
     let outs = outs_before(s, rels, clauses, ix, h, i, j);
     let count = outs.count;
@@ -351,7 +351,7 @@ fn goal_size_at(
     h: Home,
 ) -> usize
     requires { (rels ≤ 32) × (clauses ≤ 64) × Near h × Indexed s.now rels clauses ix.now }
-    ensures { (result ≡ length (goalIn s.now rels h)) × (result ≤ 255) }
+    ensures { (result ≡ length (goal_in s.now rels h)) × (result ≤ 255) }
 {
     let stages = h.stages;
     if stages != 0 {
@@ -364,7 +364,7 @@ fn goal_size_at(
 
 // The tag of a literal of relation rel.
 fn relation_tag(rel: usize) -> u8
-    ensures { (result ≡ relationTag rel) × (result ≤ 8) }
+    ensures { (result ≡ relation_tag rel) × (result ≤ 8) }
 {
     if rel == codes::EQUALITY {
         codes::EQUATE
@@ -383,7 +383,7 @@ fn stage_tag(
     i: usize,
 ) -> u8
     requires { (rels ≤ 32) × (clauses ≤ 64) × Near h × Indexed s.now rels clauses ix.now }
-    ensures { (result ≡ tagCode (tagOfStage (get_or (goalIn s.now rels h) i []))) × (result ≤ 8) }
+    ensures { (result ≡ tag_code (tag_of_stage (get_or (goal_in s.now rels h) i []))) × (result ≤ 8) }
 {
     let n = stage_size_at(s, rels, clauses, ix, h, i);
     if n != 1 {
@@ -406,7 +406,7 @@ pub fn goal_size(
     k: u8,
 ) -> usize
     requires { (rels ≤ 32) × (clauses ≤ 64) × Indexed s.now rels clauses ix.now }
-    ensures { (result ≡ length (goalBy (kind_of kind) (program_of s.now rels clauses) k)) × (result ≤ 255) }
+    ensures { (result ≡ length (goal_by (kind_of kind) (program_of s.now rels clauses) k)) × (result ≤ 255) }
 {
     let h = goal_home(s, rels, clauses, ix, kind, k);
     goal_size_at(s, rels, clauses, ix, h)
@@ -422,7 +422,7 @@ pub fn tag_of_goal(
     k: u8,
 ) -> u8
     requires { (rels ≤ 32) × (clauses ≤ 64) × Indexed s.now rels clauses ix.now }
-    ensures { (result ≡ tagCode (tagOfGoal (goalBy (kind_of kind) (program_of s.now rels clauses) k))) × (result ≤ 8) }
+    ensures { (result ≡ tag_code (tag_of_goal (goal_by (kind_of kind) (program_of s.now rels clauses) k))) × (result ≤ 8) }
 {
     let h = goal_home(s, rels, clauses, ix, kind, k);
     let n = goal_size_at(s, rels, clauses, ix, h);
@@ -441,7 +441,7 @@ pub fn tag_of_body(
     k: u8,
 ) -> u8
     requires { (rels ≤ 32) × (clauses ≤ 64) × Indexed s.now rels clauses ix.now }
-    ensures { (result ≡ tagCode (bodyTag (isSplit (program_of s.now rels clauses) (clauseAt (program_of s.now rels clauses) k)) (committedBody (program_of s.now rels clauses) (clauseAt (program_of s.now rels clauses) k)))) × (result ≤ 8) }
+    ensures { (result ≡ tag_code (body_tag (is_split (program_of s.now rels clauses) (clause_at (program_of s.now rels clauses) k)) (committed_body (program_of s.now rels clauses) (clause_at (program_of s.now rels clauses) k)))) × (result ≤ 8) }
 {
     if split_by(s, rels, clauses, ix, codes::THE_BODY, k) {
         return codes::AND_PAR;
@@ -460,7 +460,7 @@ pub fn stage_size(
     z: Spot,
 ) -> usize
     requires { (rels ≤ 32) × (clauses ≤ 64) × Indexed s.now rels clauses ix.now }
-    ensures { (result ≡ length (stageAt (program_of s.now rels clauses) z)) × (result ≤ 510) }
+    ensures { (result ≡ length (stage_at (program_of s.now rels clauses) z)) × (result ≤ 510) }
 {
     let h = goal_home(s, rels, clauses, ix, z.kind, z.clause);
     stage_size_at(s, rels, clauses, ix, h, z.stage as usize)
@@ -475,7 +475,7 @@ pub fn called(
     z: Spot,
 ) -> Call
     requires { (rels ≤ 32) × (clauses ≤ 64) × Indexed s.now rels clauses ix.now }
-    ensures { (result.size ≡ length (stageAt (program_of s.now rels clauses) z)) × (result.rel ≡ (literalAt (program_of s.now rels clauses) z).rel) × (result.rel ≤ 255) }
+    ensures { (result.size ≡ length (stage_at (program_of s.now rels clauses) z)) × (result.rel ≡ (literal_at (program_of s.now rels clauses) z).rel) × (result.rel ≤ 255) }
 {
     let h = goal_home(s, rels, clauses, ix, z.kind, z.clause);
     let stage = z.stage as usize;
@@ -492,7 +492,7 @@ pub fn tag_of_stage(
     z: Spot,
 ) -> u8
     requires { (rels ≤ 32) × (clauses ≤ 64) × Indexed s.now rels clauses ix.now }
-    ensures { (result ≡ tagCode (tagOfStage (stageAt (program_of s.now rels clauses) z))) × (result ≤ 8) }
+    ensures { (result ≡ tag_code (tag_of_stage (stage_at (program_of s.now rels clauses) z))) × (result ≤ 8) }
 {
     let h = goal_home(s, rels, clauses, ix, z.kind, z.clause);
     stage_tag(s, rels, clauses, ix, h, z.stage as usize)
@@ -507,7 +507,7 @@ pub fn literal(
     z: Spot,
 ) -> Lit
     requires { (rels ≤ 32) × (clauses ≤ 64) × Indexed s.now rels clauses ix.now }
-    ensures { (result ≡ shown (literalAt (program_of s.now rels clauses) z)) × (result.rel ≤ 255) }
+    ensures { (result ≡ shown (literal_at (program_of s.now rels clauses) z)) × (result.rel ≤ 255) }
 {
     let h = goal_home(s, rels, clauses, ix, z.kind, z.clause);
     literal_at(
@@ -530,7 +530,7 @@ pub fn tag_of_literal(
     z: Spot,
 ) -> u8
     requires { (rels ≤ 32) × (clauses ≤ 64) × Indexed s.now rels clauses ix.now }
-    ensures { (result ≡ tagCode (tagOfLiteral (literalAt (program_of s.now rels clauses) z))) × (result ≤ 8) }
+    ensures { (result ≡ tag_code (tag_of_literal (literal_at (program_of s.now rels clauses) z))) × (result ≤ 8) }
 {
     let l = literal(s, rels, clauses, ix, z);
     let rel = l.rel;

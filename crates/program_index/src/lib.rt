@@ -1,7 +1,7 @@
 // The index of an image's program: a row of words on the caller's stack, filled once a call and lent to every read of the program.
 ghost use Rattle.std.specs.Prelude.{◌≡◌, ◌+◌, ◌≤◌, ◌<◌};
-ghost use Rattle.parlog.specs.Image.{body_at, recordAt};
-ghost use Rattle.parlog.specs.Program.{blockCount, program_of, varsOf};
+ghost use Rattle.parlog.specs.Image.{body_at, record_at};
+ghost use Rattle.parlog.specs.Program.{block_count, program_of, vars_of};
 ghost use Rattle.program_index.specs.Indexed.{Behind, Early, Indexed};
 
 // ---- its parts: a word for each record from 0 on, then a word for each clause, then a word for each relation
@@ -29,7 +29,7 @@ pub const SIZE: usize = 321;
 // Where record k begins.
 pub fn record_at(s: &[u8], rels: usize, clauses: usize, ix: &[u16; SIZE], k: usize) -> usize
     requires { (rels ≤ 32) × (clauses ≤ 64) × (k ≤ rels + clauses) × Indexed s.now rels clauses ix.now }
-    ensures { (result ≡ recordAt s.now k) × (result ≤ 65535) }
+    ensures { (result ≡ record_at s.now k) × (result ≤ 65535) }
 {
     basics::wide_u16(ix[k])
 }
@@ -37,7 +37,7 @@ pub fn record_at(s: &[u8], rels: usize, clauses: usize, ix: &[u16; SIZE], k: usi
 // The new variables of clause k.
 pub fn vars_at(s: &[u8], rels: usize, clauses: usize, ix: &[u16; SIZE], k: usize) -> usize
     requires { (rels ≤ 32) × (clauses ≤ 64) × (k < clauses) × Indexed s.now rels clauses ix.now }
-    ensures { (result ≡ varsOf (program_of s.now rels clauses) k) × (result ≤ 510) }
+    ensures { (result ≡ vars_of (program_of s.now rels clauses) k) × (result ≤ 510) }
 {
     basics::wide_u16(ix[VARS + k])
 }
@@ -45,7 +45,7 @@ pub fn vars_at(s: &[u8], rels: usize, clauses: usize, ix: &[u16; SIZE], k: usize
 // Where the body of clause k begins.
 pub fn body_at(s: &[u8], rels: usize, clauses: usize, ix: &[u16; SIZE], k: usize) -> usize
     requires { (rels ≤ 32) × (clauses ≤ 64) × (k < clauses) × Indexed s.now rels clauses ix.now }
-    ensures { (result ≡ body_at s.now (recordAt s.now (rels + k))) × (result ≤ 65535) }
+    ensures { (result ≡ body_at s.now (record_at s.now (rels + k))) × (result ≤ 65535) }
 {
     basics::wide_u16(ix[BODIES + k])
 }
@@ -53,7 +53,7 @@ pub fn body_at(s: &[u8], rels: usize, clauses: usize, ix: &[u16; SIZE], k: usize
 // The blocks of relation q.
 pub fn blocks_of(s: &[u8], rels: usize, clauses: usize, ix: &[u16; SIZE], q: usize) -> usize
     requires { (rels ≤ 32) × (clauses ≤ 64) × (q < rels) × Indexed s.now rels clauses ix.now }
-    ensures { (result ≡ blockCount (program_of s.now rels clauses) q) × (result ≤ 64) }
+    ensures { (result ≡ block_count (program_of s.now rels clauses) q) × (result ≤ 64) }
 {
     basics::wide_u16(ix[BLOCKS + q])
 }

@@ -8,11 +8,11 @@ use native.Mathlib.Omega.{arith}
 use Rattle.entry.proofs.Held.{cells_fit, put-over, rows_fit}
 use Rattle.parlog.proofs.Assume.{sizes-full}
 use Rattle.parlog.proofs.Repeated.{run-reached}
-use Rattle.parlog.specs.Demands.{at-start, by_number, by-supply, Reached}
+use Rattle.parlog.specs.Demands.{at_start, by_number, by_supply, Reached}
 use Rattle.parlog.specs.Limits.{Limits, Usable}
 use Rattle.parlog.specs.Program.{Program, program_of}
-use Rattle.parlog.specs.TableRules.{fullSize}
-use Rattle.parlog.specs.Tables.{cellSize, fresh, freshTables, headSize, Lent, lent, putTables, rowSize, startedLent, Tables, tablesIn, zeros}
+use Rattle.parlog.specs.TableRules.{full_size}
+use Rattle.parlog.specs.Tables.{cell_size, fresh, fresh_tables, head_size, Lent, lent, put_tables, row_size, started_lent, Tables, tables_in, zeros}
 use Rattle.parlog.specs.declared.Binding.TheVariants.{Free}
 use Rattle.promises.proofs.Demand2.{begun-at, demand-2-start, goal-few}
 use Rattle.promises.proofs.Entry.{let-ok, let-tables}
@@ -25,40 +25,40 @@ use Rattle.resume.proofs.Copied.{copied, copied-put}
 use Rattle.rows.proofs.Laws.{zeros-length}
 
 -- a fresh start written over itself
-module _ (lim : Limits) (usable : Usable lim) (pr : Program) (few : pr.goalVars ≤ 255) where
+module _ (lim : Limits) (usable : Usable lim) (pr : Program) (few : pr.goal_vars ≤ 255) where
   abbrev blank : Lent
-  blank = lent (zeros headSize) (zeros (lim.procs * rowSize)) (zeros (lim.vars * cellSize))
+  blank = lent (zeros head_size) (zeros (lim.procs * row_size)) (zeros (lim.vars * cell_size))
 
-  one-row : length (freshTables pr).state.procs * rowSize ≤ length (zeros (lim.procs * rowSize))
-  unfolding freshTables fresh
-  one-row = omega (arith, zeros-length (lim.procs * rowSize), usable.goal)
+  one-row : length (fresh_tables pr).state.procs * row_size ≤ length (zeros (lim.procs * row_size))
+  unfolding fresh_tables fresh
+  one-row = omega (arith, zeros-length (lim.procs * row_size), usable.goal)
 
-  few-cells : length (freshTables pr).state.vars * cellSize ≤ length (zeros (lim.vars * cellSize))
-  unfolding freshTables fresh
-  few-cells = omega (arith, zeros-length (lim.vars * cellSize), length-replicate pr.goalVars Free, usable.goal-vars, few)
+  few-cells : length (fresh_tables pr).state.vars * cell_size ≤ length (zeros (lim.vars * cell_size))
+  unfolding fresh_tables fresh
+  few-cells = omega (arith, zeros-length (lim.vars * cell_size), length-replicate pr.goal_vars Free, usable.goal-vars, few)
 
-  started-twice : putTables (startedLent lim pr) (freshTables pr) ≡ startedLent lim pr
-  unfolding startedLent
-  started-twice = put-over blank (freshTables pr) (freshTables pr) (omega arith) (omega arith) one-row few-cells
+  started-twice : put_tables (started_lent lim pr) (fresh_tables pr) ≡ started_lent lim pr
+  unfolding started_lent
+  started-twice = put-over blank (fresh_tables pr) (fresh_tables pr) (omega arith) (omega arith) one-row few-cells
 
 -- ---- a run read back, written over itself
 
 -- rows of zeros
-abbrev pub noBytes : Limits → Lent
-noBytes lim = lent (zeros headSize) (zeros (lim.procs * rowSize)) (zeros (lim.vars * cellSize))
+abbrev pub no_bytes : Limits → Lent
+no_bytes lim = lent (zeros head_size) (zeros (lim.procs * row_size)) (zeros (lim.vars * cell_size))
 
-pub no-bytes-full : (lim : Limits) → fullSize lim (noBytes lim) ≡ true
-no-bytes-full lim = sizes-full lim (noBytes lim) (zeros-length headSize) (zeros-length (lim.procs * rowSize)) (zeros-length (lim.vars * cellSize))
+pub no-bytes-full : (lim : Limits) → full_size lim (no_bytes lim) ≡ true
+no-bytes-full lim = sizes-full lim (no_bytes lim) (zeros-length head_size) (zeros-length (lim.procs * row_size)) (zeros-length (lim.vars * cell_size))
 
 module _ (lim : Limits) (s : List ℕ) {r c : ℕ} {m : Lent} (i : LetIn lim s m r c) where
   -- tables over zeros, written again
-  pub zeros-twice : putTables (putTables (noBytes lim) (tablesIn m)) (tablesIn m) ≡ putTables (noBytes lim) (tablesIn m)
+  pub zeros-twice : put_tables (put_tables (no_bytes lim) (tables_in m)) (tables_in m) ≡ put_tables (no_bytes lim) (tables_in m)
   zeros-twice =
       let ok = let-ok lim s m i in
       let full = no-bytes-full lim in
-      put-over (noBytes lim) (tablesIn m) (tablesIn m) (omega arith) (omega arith) (rows_fit lim (program_of s r c) (noBytes lim) (tablesIn m) full ok) (cells_fit lim (program_of s r c) (noBytes lim) (tablesIn m) full ok)
+      put-over (no_bytes lim) (tables_in m) (tables_in m) (omega arith) (omega arith) (rows_fit lim (program_of s r c) (no_bytes lim) (tables_in m) full ok) (cells_fit lim (program_of s r c) (no_bytes lim) (tables_in m) full ok)
 
-  pub copied-again : putTables m (tablesIn m) ≡ m → {m' : Lent} → m' ≡ copied lim m → tablesIn m' ≡ tablesIn m → putTables m' (tablesIn m') ≡ m'
+  pub copied-again : put_tables m (tables_in m) ≡ m → {m' : Lent} → m' ≡ copied lim m → tables_in m' ≡ tables_in m → put_tables m' (tables_in m') ≡ m'
   copied-again same e h =
       let k = e ∙ copied-put lim (program_of s r c) m (let-tables i) same in
       rw (h, k) zeros-twice
@@ -68,25 +68,25 @@ module _ (lim : Limits) (s : List ℕ) (r c : ℕ) where
   pr = program_of s r c
 
   record Going (l : Lent) : Type 0 where
-    same : putTables l (tablesIn l) ≡ l
-    reached : Reached lim pr (tablesIn l)
+    same : put_tables l (tables_in l) ≡ l
+    reached : Reached lim pr (tables_in l)
 
   pub record Arrived (l : Lent) : Type 0 where
     pub enters : LetIn lim s l r c
-    pub same : putTables l (tablesIn l) ≡ l
-    pub reached : Reached lim pr (tablesIn l)
+    pub same : put_tables l (tables_in l) ≡ l
+    pub reached : Reached lim pr (tables_in l)
 
   reached-goes : {t u : Tables} → Reached lim pr t → Goes lim pr t u → Reached lim pr u
   reached-goes a (goes_step p e) = by_number p a e
   reached-goes a (goes-run limit) = run-reached lim pr limit a
-  reached-goes a (goes-supply v k e) = by-supply v k a e
+  reached-goes a (goes-supply v k e) = by_supply v k a e
   reached-goes a goes_none = a
   reached-goes a (goes_then g h) = reached-goes (reached-goes a g) h
 
-  going : (m : Lent) → LetIn lim s m r c → Going m → (t : Tables) → Goes lim pr (tablesIn m) t → tablesIn (putTables m t) ≡ t → Going (putTables m t)
+  going : (m : Lent) → LetIn lim s m r c → Going m → (t : Tables) → Goes lim pr (tables_in m) t → tables_in (put_tables m t) ≡ t → Going (put_tables m t)
   going m i q t g e = record { same = goes_twice lim s m i t g; reached = rw e (reached-goes q.reached g) }
 
-  nights : (m m' : Lent) → LetIn lim s m r c → Going m → m' ≡ copied lim m → tablesIn m' ≡ tablesIn m → Going m'
+  nights : (m m' : Lent) → LetIn lim s m r c → Going m → m' ≡ copied lim m → tables_in m' ≡ tables_in m → Going m'
   nights m m' i q e h = record { same = copied-again lim s i q.same e h; reached = rw h q.reached }
 
   pub arrive-later : {l m : Lent} → Arrived l → Later lim s l m → Arrived m
@@ -97,8 +97,8 @@ module _ (lim : Limits) (s : List ℕ) (r c : ℕ) where
   came-arrived usable right (from_start {l} {l'} {w = w} meets z k) =
       let e = (accepted-right s).1 right in
       let b = begun-at lim usable s l w l' meets z e in
-      let t : putTables l' (tablesIn l') ≡ l' = rw (b.0, b.1) (started-twice lim usable pr (goal-few s e)) in
-      arrive-later (record { enters = kept-start lim usable s l w l' meets z right; same = t; reached = rw b.0 at-start }) k
+      let t : put_tables l' (tables_in l') ≡ l' = rw (b.0, b.1) (started-twice lim usable pr (goal-few s e)) in
+      arrive-later (record { enters = kept-start lim usable s l w l' meets z right; same = t; reached = rw b.0 at_start }) k
 
 -- and the image of what came was accepted
 pub came-accepted : (lim : Limits) → Usable lim → (s : List ℕ) {l : Lent} → Came lim s l → (r : ℕ) × (c : ℕ) × RightImage s r c

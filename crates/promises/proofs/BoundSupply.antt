@@ -8,9 +8,9 @@ use lib.ListN.{length}
 use borrow.Author.Tests.{eqb-false, eqb-true, leb-false, leb-true}
 use native.Mathlib.Omega.{arith}
 use Rattle.bound.proofs.Rows.{tell-fits, tell-short}
-use Rattle.bound.specs.Calls.{RowCall, supplyBoundCall, tellIn}
+use Rattle.bound.specs.Calls.{RowCall, supply_bound_call, tell_in}
 use Rattle.bound_row.proofs.Rows.{bytes-length}
-use Rattle.bound_row.specs.Row.{boundBytes}
+use Rattle.bound_row.specs.Row.{bound_bytes}
 use Rattle.capi.specs.Tells.{RowTells}
 use Rattle.entry.proofs.Held.{same-lent, tables-state}
 use Rattle.lay.specs.Lay.{laid}
@@ -18,14 +18,14 @@ use Rattle.parlog.proofs.Bools.{split}
 use Rattle.parlog.proofs.Good.{state-good}
 use Rattle.parlog.proofs.Keeps.{state-facts}
 use Rattle.parlog.proofs.Values.{Falling, leads-is}
-use Rattle.parlog.specs.Calls.{supplyCall}
+use Rattle.parlog.specs.Calls.{supply_call}
 use Rattle.parlog.specs.Limits.{Limits}
 use Rattle.parlog.specs.Load.{refusal}
 use Rattle.parlog.specs.Notions.{Leads, onward, unbound}
-use Rattle.parlog.specs.Numbers.{Numbers, refusedAs, word}
+use Rattle.parlog.specs.Numbers.{Numbers, refused_as, word}
 use Rattle.parlog.specs.Program.{program_of}
 use Rattle.parlog.specs.Run.{supplied, Supplying}
-use Rattle.parlog.specs.Tables.{bindingOf, Lent, putTables, Tables, tablesIn}
+use Rattle.parlog.specs.Tables.{binding_of, Lent, put_tables, Tables, tables_in}
 use Rattle.parlog.specs.declared.Binding.{Binding}
 use Rattle.parlog.specs.declared.Binding.TheVariants.{Bound, Free}
 use Rattle.parlog.specs.declared.Supplied.{Supplied}
@@ -39,85 +39,85 @@ use Rattle.promises.proofs.Entry.{away, Door, door, inside, let-ok}
 use Rattle.promises.proofs.Giving.{is-constant, is-taken, not_there, Offer, offer, supply-gives, too_large}
 use Rattle.promises.proofs.Newly.{supply-binds}
 use Rattle.promises.proofs.Words.{given-told}
-use Rattle.promises.specs.Bound.{as-supply, bytesFor, NewlyBound, RefusingRow, StepBoundMeets, SupplyBoundMeets, SupplyBoundRefused, SupplyTold, SupplyUntold, TurnBoundMeets, untold-step, untold-supply, untold-turn}
-use Rattle.promises.specs.Outcomes.{refusalIn, SupplyMeets}
-use Rattle.promises.specs.Reach.{Later, then-step, then-supply, then-turn}
-use Rattle.promises.specs.Refusals.{has-constant, LetIn, no-constant, no-variable, stateIn, supply-away, SupplyRefused}
+use Rattle.promises.specs.Bound.{as_supply, bytes_for, NewlyBound, RefusingRow, StepBoundMeets, SupplyBoundMeets, SupplyBoundRefused, SupplyTold, SupplyUntold, TurnBoundMeets, untold_step, untold_supply, untold_turn}
+use Rattle.promises.specs.Outcomes.{refusal_in, SupplyMeets}
+use Rattle.promises.specs.Reach.{Later, then_step, then_supply, then_turn}
+use Rattle.promises.specs.Refusals.{has_constant, LetIn, no_constant, no_variable, state_in, supply_away, SupplyRefused}
 
 -- where a variable leads is no higher
 lower : (vs : List Binding) → Falling vs → {t : Term} {u : ℕ} → Leads vs t (Var u) → (x : ℕ) → t ≡ Var x → u ≤ x
 lower vs fall (unbound {v} e) x q = let z : v ≡ x = cc in omega arith
 lower vs fall {u = u} (onward {v} {t} e d) x q = by t e (λ j f. lower vs fall d j f) d
   where
-    by : (y : Term) → bindingOf vs v ≡ Bound y → ((j : ℕ) → y ≡ Var j → u ≤ j) → Leads vs y (Var u) → u ≤ x
+    by : (y : Term) → binding_of vs v ≡ Bound y → ((j : ℕ) → y ≡ Var j → u ≤ j) → Leads vs y (Var u) → u ≤ x
     by (Var j) b rec g = let z : v ≡ x = cc in let h = rec j refl in let f = fall v j b in omega arith
 
 -- one variable is bound
-given-newly : (l l' : Lent) (u k : ℕ) → tablesIn l' ≡ supplied (tablesIn l) u k → u < length (stateIn l).vars → bindingOf (stateIn l).vars u ≡ Free
-    → NewlyBound (stateIn l).vars (stateIn l').vars (u ∷ [])
+given-newly : (l l' : Lent) (u k : ℕ) → tables_in l' ≡ supplied (tables_in l) u k → u < length (state_in l).vars → binding_of (state_in l).vars u ≡ Free
+    → NewlyBound (state_in l).vars (state_in l').vars (u ∷ [])
 unfolding supplied
 given-newly l l' u k e h f =
-    subst (λ (x : List Binding). NewlyBound (stateIn l).vars x (u ∷ [])) (sym (ap (λ (t : Tables). t.state.vars) e)) (supply-binds (stateIn l).vars u k h f)
+    subst (λ (x : List Binding). NewlyBound (state_in l).vars x (u ∷ [])) (sym (ap (λ (t : Tables). t.state.vars) e)) (supply-binds (state_in l).vars u k h f)
 
 module _ (lim : Limits) (s : List ℕ) (l : Lent) (row : List ℕ) (v k : ℕ) where
-  supply-plainly : {n o : ℕ} → SupplyRefused lim s l v k n o → supplyBoundCall lim s l row v k ≡ record { answer = Ungiven (refusal n o); lent = l; row = row }
-  unfolding supplyBoundCall
+  supply-plainly : {n o : ℕ} → SupplyRefused lim s l v k n o → supply_bound_call lim s l row v k ≡ record { answer = Ungiven (refusal n o); lent = l; row = row }
+  unfolding supply_bound_call
   supply-plainly y = rw (supply-refused lim s l v k y)
 
-  module _ {r c : ℕ} (i : LetIn lim s l r c) (h : v < (program_of s r c).goalVars) (g : k ≤ 32767) {u : ℕ} (x : Leads (stateIn l).vars (Var v) (Var u)) where
-    given-call : supplyCall lim s l v k ≡ record { answer = Given u; lent = putTables l (supplied (tablesIn l) u k) }
-    given-call = supply-as lim s l v k i (supply-gives lim (program_of s r c) (tablesIn l) (let-ok lim s l i) v k h g x)
+  module _ {r c : ℕ} (i : LetIn lim s l r c) (h : v < (program_of s r c).goal_vars) (g : k ≤ 32767) {u : ℕ} (x : Leads (state_in l).vars (Var v) (Var u)) where
+    given-call : supply_call lim s l v k ≡ record { answer = Given u; lent = put_tables l (supplied (tables_in l) u k) }
+    given-call = supply-as lim s l v k i (supply-gives lim (program_of s r c) (tables_in l) (let-ok lim s l i) v k h g x)
 
-    supply-call : supplyBoundCall lim s l row v k ≡ tellIn (Ungiven (refusal 11 0)) (Given u) (putTables l (supplied (tablesIn l) u k)) l row (boundBytes (u ∷ []))
-    unfolding supplyBoundCall
+    supply-call : supply_bound_call lim s l row v k ≡ tell_in (Ungiven (refusal 11 0)) (Given u) (put_tables l (supplied (tables_in l) u k)) l row (bound_bytes (u ∷ []))
+    unfolding supply_bound_call
     supply-call = rw given-call
 
-    supply-short : length row < bytesFor 1 → supplyBoundCall lim s l row v k ≡ record { answer = Ungiven (refusal 11 0); lent = l; row = row }
-    supply-short e = supply-call ∙ tell-short _ _ _ l row (boundBytes (u ∷ [])) (rw (bytes-length (u ∷ [])) e)
+    supply-short : length row < bytes_for 1 → supply_bound_call lim s l row v k ≡ record { answer = Ungiven (refusal 11 0); lent = l; row = row }
+    supply-short e = supply-call ∙ tell-short _ _ _ l row (bound_bytes (u ∷ [])) (rw (bytes-length (u ∷ [])) e)
 
-    supply-fits-in : bytesFor 1 ≤ length row → supplyBoundCall lim s l row v k ≡ record { answer = Given u; lent = putTables l (supplied (tablesIn l) u k); row = laid row 0 (boundBytes (u ∷ [])) }
-    supply-fits-in e = supply-call ∙ tell-fits (Ungiven (refusal 11 0)) (Given u) (putTables l (supplied (tablesIn l) u k)) l row (boundBytes (u ∷ [])) (rw (bytes-length (u ∷ [])) e)
+    supply-fits-in : bytes_for 1 ≤ length row → supply_bound_call lim s l row v k ≡ record { answer = Given u; lent = put_tables l (supplied (tables_in l) u k); row = laid row 0 (bound_bytes (u ∷ [])) }
+    supply-fits-in e = supply-call ∙ tell-fits (Ungiven (refusal 11 0)) (Given u) (put_tables l (supplied (tables_in l) u k)) l row (bound_bytes (u ∷ [])) (rw (bytes-length (u ∷ [])) e)
 
-  supply-refused-call : {n o : ℕ} → SupplyBoundRefused lim s l row v k n o → supplyBoundCall lim s l row v k ≡ record { answer = Ungiven (refusal n o); lent = l; row = row }
-  supply-refused-call (as-supply y) = supply-plainly y
-  supply-refused-call (untold-supply y) = supply-short y.inside y.variable y.constant y.value y.short
+  supply-refused-call : {n o : ℕ} → SupplyBoundRefused lim s l row v k n o → supply_bound_call lim s l row v k ≡ record { answer = Ungiven (refusal n o); lent = l; row = row }
+  supply-refused-call (as_supply y) = supply-plainly y
+  supply-refused-call (untold_supply y) = supply-short y.inside y.variable y.constant y.value y.short
 
   data SupplyView : RowCall Supplied → Type 0 where
     view-ungiven : {n o : ℕ} → SupplyBoundRefused lim s l row v k n o → SupplyView (record { answer = Ungiven (refusal n o); lent = l; row = row })
-    view-given : {r c u : ℕ} (i : LetIn lim s l r c) → v < (program_of s r c).goalVars → k ≤ 32767 → Leads (stateIn l).vars (Var v) (Var u) → bytesFor 1 ≤ length row
-        → SupplyView (record { answer = Given u; lent = putTables l (supplied (tablesIn l) u k); row = laid row 0 (boundBytes (u ∷ [])) })
+    view-given : {r c u : ℕ} (i : LetIn lim s l r c) → v < (program_of s r c).goal_vars → k ≤ 32767 → Leads (state_in l).vars (Var v) (Var u) → bytes_for 1 ≤ length row
+        → SupplyView (record { answer = Given u; lent = put_tables l (supplied (tables_in l) u k); row = laid row 0 (bound_bytes (u ∷ [])) })
 
-  supply-view : SupplyView (supplyBoundCall lim s l row v k)
+  supply-view : SupplyView (supply_bound_call lim s l row v k)
   supply-view = go (door lim s l)
     where
-      plain : {n o : ℕ} → SupplyRefused lim s l v k n o → SupplyView (supplyBoundCall lim s l row v k)
-      plain y = rw (supply-plainly y) (view-ungiven (as-supply y))
+      plain : {n o : ℕ} → SupplyRefused lim s l v k n o → SupplyView (supply_bound_call lim s l row v k)
+      plain y = rw (supply-plainly y) (view-ungiven (as_supply y))
 
-      by : {r c : ℕ} (i : LetIn lim s l r c) {a : Supplying} → Offer lim (program_of s r c) (tablesIn l) (let-ok lim s l i) v k a → SupplyView (supplyBoundCall lim s l row v k)
-      by i (not_there h) = plain (no-variable i h)
-      by i (too_large h g) = plain (no-constant i h g)
-      by i (is-constant h g x) = plain (has-constant i h g x)
-      by {r} {c} i (is-taken {u} h g x f) = split (leb (bytesFor 1) (length row))
-          (λ e. let z : bytesFor 1 ≤ length row = leb-true (bytesFor 1) (length row) e in rw (supply-fits-in i h g x z) (view-given i h g x z))
-          (λ e. let z : length row < bytesFor 1 = leb-false (bytesFor 1) (length row) e in
-          rw (supply-short i h g x z) (view-ungiven (untold-supply (record { relations = r; clauses = c; inside = i; variable = h; constant = g; unbound = u; value = x; short = z }))))
+      by : {r c : ℕ} (i : LetIn lim s l r c) {a : Supplying} → Offer lim (program_of s r c) (tables_in l) (let-ok lim s l i) v k a → SupplyView (supply_bound_call lim s l row v k)
+      by i (not_there h) = plain (no_variable i h)
+      by i (too_large h g) = plain (no_constant i h g)
+      by i (is-constant h g x) = plain (has_constant i h g x)
+      by {r} {c} i (is-taken {u} h g x f) = split (leb (bytes_for 1) (length row))
+          (λ e. let z : bytes_for 1 ≤ length row = leb-true (bytes_for 1) (length row) e in rw (supply-fits-in i h g x z) (view-given i h g x z))
+          (λ e. let z : length row < bytes_for 1 = leb-false (bytes_for 1) (length row) e in
+          rw (supply-short i h g x z) (view-ungiven (untold_supply (record { relations = r; clauses = c; inside = i; variable = h; constant = g; unbound = u; value = x; short = z }))))
 
-      go : Door lim s l → SupplyView (supplyBoundCall lim s l row v k)
-      go (away a) = plain (supply-away a)
-      go (inside {r} {c} i) = by i (offer lim (program_of s r c) (tablesIn l) (let-ok lim s l i) v k)
+      go : Door lim s l → SupplyView (supply_bound_call lim s l row v k)
+      go (away a) = plain (supply_away a)
+      go (inside {r} {c} i) = by i (offer lim (program_of s r c) (tables_in l) (let-ok lim s l i) v k)
 
   supply-bound-numbered : {n o : ℕ} → SupplyBoundRefused lim s l row v k n o → (1 ≤ n) × (n ≤ 14)
-  supply-bound-numbered (as-supply y) = supply-numbered y
-  supply-bound-numbered (untold-supply u) = (omega arith, omega arith)
+  supply-bound-numbered (as_supply y) = supply-numbered y
+  supply-bound-numbered (untold_supply u) = (omega arith, omega arith)
 
   module _ (w : ℕ) (l' : Lent) (row' : List ℕ) (meets : SupplyBoundMeets lim s l row v k w l' row') where
-    supply-word : (n o : ℕ) → SupplyBoundRefused lim s l row v k n o → w ≡ word (refusedAs (refusal n o))
+    supply-word : (n o : ℕ) → SupplyBoundRefused lim s l row v k n o → w ≡ word (refused_as (refusal n o))
     supply-word n o y = let e = supply-refused-call {n = n} {o = o} y in meets.contract.answer ∙ rw e
 
     supply-bound-answered : Answered (SupplyBoundRefused lim s l row v k) w
     supply-bound-answered = go supply-view refl
       where
-        go : {x : RowCall Supplied} → SupplyView x → supplyBoundCall lim s l row v k ≡ x → Answered (SupplyBoundRefused lim s l row v k) w
+        go : {x : RowCall Supplied} → SupplyView x → supply_bound_call lim s l row v k ≡ x → Answered (SupplyBoundRefused lim s l row v k) w
         go (view-ungiven y) e = a-refusal y
         go (view-given {u = u} i h g x f) e = no-refusal (given-told w u (meets.contract.answer ∙ rw e))
 
@@ -128,7 +128,7 @@ module _ (lim : Limits) (s : List ℕ) (l : Lent) (row : List ℕ) (v k : ℕ) w
       row_kept = kept_of w supply-bound-answered (λ n o y. let e = supply-refused-call {n = n} {o = o} y in meets.contract.row ∙ rw e);
     }
 
-    same-supply : {a : Supplied} {m : Lent} {q : List ℕ} → supplyBoundCall lim s l row v k ≡ record { answer = a; lent = m; row = q } → supplyCall lim s l v k ≡ record { answer = a; lent = m } → SupplyMeets lim s l v k w l'
+    same-supply : {a : Supplied} {m : Lent} {q : List ℕ} → supply_bound_call lim s l row v k ≡ record { answer = a; lent = m; row = q } → supply_call lim s l v k ≡ record { answer = a; lent = m } → SupplyMeets lim s l v k w l'
     same-supply e d =
         record { contract = record { answer = meets.contract.answer ∙ rw (e, d); head = meets.contract.head ∙ rw (e, d); procs = meets.contract.procs ∙ rw (e, d); vars = meets.contract.vars ∙ rw (e, d) } }
 
@@ -136,22 +136,22 @@ module _ (lim : Limits) (s : List ℕ) (l : Lent) (row : List ℕ) (v k : ℕ) w
     pub plain-supply : (SupplyUntold lim s l row v k → ⊥) → SupplyMeets lim s l v k w l'
     plain-supply n = go supply-view refl
       where
-        go : {x : RowCall Supplied} → SupplyView x → supplyBoundCall lim s l row v k ≡ x → SupplyMeets lim s l v k w l'
-        go (view-ungiven (as-supply y)) e = same-supply e (supply-refused lim s l v k y)
-        go (view-ungiven (untold-supply u)) e = absurd (n u)
+        go : {x : RowCall Supplied} → SupplyView x → supply_bound_call lim s l row v k ≡ x → SupplyMeets lim s l v k w l'
+        go (view-ungiven (as_supply y)) e = same-supply e (supply-refused lim s l v k y)
+        go (view-ungiven (untold_supply u)) e = absurd (n u)
         go (view-given i h g x f) e = same-supply e (given-call i h g x)
 
-    given_so : {r c u : ℕ} (i : LetIn lim s l r c) (h : v < (program_of s r c).goalVars) (g : k ≤ 32767) (x : Leads (stateIn l).vars (Var v) (Var u)) → bytesFor 1 ≤ length row → refusalIn w ≡ 0
+    given_so : {r c u : ℕ} (i : LetIn lim s l r c) (h : v < (program_of s r c).goal_vars) (g : k ≤ 32767) (x : Leads (state_in l).vars (Var v) (Var u)) → bytes_for 1 ≤ length row → refusal_in w ≡ 0
         → SupplyTold l row v k w l' row'
     given_so {r} {c} {u} i h g x f z =
         let e = supply-fits-in i h g x f in
-        let vs : List Binding = (stateIn l).vars in
-        let ok = tables-state lim (program_of s r c) (tablesIn l) (let-ok lim s l i) in
-        let fall = (state-good lim (program_of s r c) (stateIn l) ok).falls in
+        let vs : List Binding = (state_in l).vars in
+        let ok = tables-state lim (program_of s r c) (tables_in l) (let-ok lim s l i) in
+        let fall = (state-good lim (program_of s r c) (state_in l) ok).falls in
         let y = demand-2-supply lim s l i v k w l' (same-supply e (given-call i h g x)) z in
         let a : Var y.unbound ≡ Var u = sym (leads-is vs fall y.value) ∙ leads-is vs fall x in
         let q : y.unbound ≡ u = cc in
-        let there : y.unbound < length vs = omega (arith, lower vs fall y.value v refl, h, (state-facts lim (program_of s r c) (stateIn l) ok).goal) in
+        let there : y.unbound < length vs = omega (arith, lower vs fall y.value v refl, h, (state-facts lim (program_of s r c) (state_in l) ok).goal) in
         record {
           supplies = y;
           exactly = given-newly l l' y.unbound k y.tables.read there y.free;
@@ -159,10 +159,10 @@ module _ (lim : Limits) (s : List ℕ) (l : Lent) (row : List ℕ) (v k : ℕ) w
         }
 
     -- demand 2: a supply that is not refused binds the value of its variable, and tells it
-    pub demand-2-supply-bound : {r c : ℕ} → LetIn lim s l r c → refusalIn w ≡ 0 → SupplyTold l row v k w l' row'
+    pub demand-2-supply-bound : {r c : ℕ} → LetIn lim s l r c → refusal_in w ≡ 0 → SupplyTold l row v k w l' row'
     demand-2-supply-bound j z = go supply-view refl
       where
-        go : {x : RowCall Supplied} → SupplyView x → supplyBoundCall lim s l row v k ≡ x → SupplyTold l row v k w l' row'
+        go : {x : RowCall Supplied} → SupplyView x → supply_bound_call lim s l row v k ≡ x → SupplyTold l row v k w l' row'
         go (view-ungiven y) e = let b = demand-1-supply-bound.by in let a = (b.given y).0 in let d = (b.numbered y).0 in absurd (omega arith)
         go (view-given i h g x f) e = given_so i h g x f z
 
@@ -185,21 +185,21 @@ module _ (lim : Limits) (s : List ℕ) (l : Lent) (row : List ℕ) {w w' : ℕ} 
 -- ---- demand 3 reads on across them: what they leave is left by plain calls too
 
 -- refused, or the plain call
-later-by : {lim : Limits} {s : List ℕ} {l m m' : Lent} (w : ℕ) → (refusalIn w ≢ 0 → m' ≡ m) → (refusalIn w ≡ 0 → Later lim s l m') → Later lim s l m → Later lim s l m'
-later-by w kept done d = split (eqb (refusalIn w) 0) (λ e. done (eqb-true (refusalIn w) 0 e)) (λ e. rw (kept (eqb-false (refusalIn w) 0 e)) d)
+later-by : {lim : Limits} {s : List ℕ} {l m m' : Lent} (w : ℕ) → (refusal_in w ≢ 0 → m' ≡ m) → (refusal_in w ≡ 0 → Later lim s l m') → Later lim s l m → Later lim s l m'
+later-by w kept done d = split (eqb (refusal_in w) 0) (λ e. done (eqb-true (refusal_in w) 0 e)) (λ e. rw (kept (eqb-false (refusal_in w) 0 e)) d)
 
 module _ (lim : Limits) (s : List ℕ) {l m m' : Lent} {row row' : List ℕ} {w : ℕ} where
   pub later-step-bound : {p : ℕ} → Later lim s l m → StepBoundMeets lim s m row p w m' row' → Later lim s l m'
   later-step-bound {p} d meets =
       let b = demand-1-step-bound lim s m row p w m' row' meets in
-      later-by w b.kept (λ z. then-step p d (plain_step lim s m row p w m' row' meets (λ u. let g = (b.by.given (untold-step u)).0 in absurd (omega arith)))) d
+      later-by w b.kept (λ z. then_step p d (plain_step lim s m row p w m' row' meets (λ u. let g = (b.by.given (untold_step u)).0 in absurd (omega arith)))) d
 
   pub later-turn-bound : Later lim s l m → TurnBoundMeets lim s m row w m' row' → Later lim s l m'
   later-turn-bound d meets =
       let b = demand-1-turn-bound lim s m row w m' row' meets in
-      later-by w b.kept (λ z. then-turn d (plain_turn lim s m row w m' row' meets (λ u. let g = (b.by.given (untold-turn u)).0 in absurd (omega arith)))) d
+      later-by w b.kept (λ z. then_turn d (plain_turn lim s m row w m' row' meets (λ u. let g = (b.by.given (untold_turn u)).0 in absurd (omega arith)))) d
 
   pub later-supply-bound : {v k : ℕ} → Later lim s l m → SupplyBoundMeets lim s m row v k w m' row' → Later lim s l m'
   later-supply-bound {v} {k} d meets =
       let b = demand-1-supply-bound lim s m row v k w m' row' meets in
-      later-by w b.kept (λ z. then-supply v k d (plain-supply lim s m row v k w m' row' meets (λ u. let g = (b.by.given (untold-supply u)).0 in absurd (omega arith)))) d
+      later-by w b.kept (λ z. then_supply v k d (plain-supply lim s m row v k w m' row' meets (λ u. let g = (b.by.given (untold_supply u)).0 in absurd (omega arith)))) d

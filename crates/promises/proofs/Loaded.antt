@@ -6,11 +6,11 @@ use Rattle.load.proofs.Accepted.{accepted}
 use Rattle.load.proofs.Inside.{ask-fields}
 use Rattle.parlog.specs.Load.{load_of}
 use Rattle.parlog.specs.Program.{program_of}
-use Rattle.parlog.specs.Records.{recordAt}
+use Rattle.parlog.specs.Records.{record_at}
 use Rattle.parlog.specs.declared.Loaded.TheVariants.{Accepted}
 
 module _ (s : List ℕ) where
   -- the counts of an accepted image
-  pub accepted-few : {r c : ℕ} → load_of s ≡ Accepted r c → (r ≤ 32) × (c ≤ 64) × ((program_of s r c).goalVars ≤ 16)
+  pub accepted-few : {r c : ℕ} → load_of s ≡ Accepted r c → (r ≤ 32) × (c ≤ 64) × ((program_of s r c).goal_vars ≤ 16)
   unfolding program_of
-  accepted-few {r} {c} e = let a = accepted s r c e in (a.relations, a.clauses, (ask-fields s (recordAt s (r + c)) a.goal.body).vars)
+  accepted-few {r} {c} e = let a = accepted s r c e in (a.relations, a.clauses, (ask-fields s (record_at s (r + c)) a.goal.body).vars)

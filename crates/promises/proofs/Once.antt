@@ -10,7 +10,7 @@ use Rattle.parlog.specs.declared.Marker.{Marker}
 use Rattle.parlog.specs.declared.Process.{Process}
 use Rattle.parlog.specs.declared.Stepped.{Stepped}
 use Rattle.promises.specs.Outcomes.{LoadMeets, MarkerMeets, RecordsMeet, ReplayMeets, ResumeMeets, RunMeets, SaveMeets, StartMeets, StepMeets, SupplyMeets, TurnMeets, ValueMeets, ValuesMeets, WatchMeets}
-use Rattle.turn_forms.specs.Turned.{turnedFrom}
+use Rattle.turn_forms.specs.Turned.{turned_from}
 use Rattle.turn_forms.specs.declared.Turned.{Turned}
 
 module _ (s : List ℕ) where
@@ -61,7 +61,7 @@ module _ (lim : Limits) (s cs ps vs : List ℕ) (m : Marker) {a b : Stepped} {cs
   pub once-marker : MarkerMeets lim s cs ps vs m a cs' ps' vs' m' → MarkerMeets lim s cs ps vs m b cs'' ps'' vs'' m''
       → (a ≡ b) × (cs' ≡ cs'') × (ps' ≡ ps'') × (vs' ≡ vs'') × (m' ≡ m'')
   once-marker x y =
-      let e : turnedFrom m' a ≡ turnedFrom m'' b = x.contract.turned ∙ sym y.contract.turned in (
+      let e : turned_from m' a ≡ turned_from m'' b = x.contract.turned ∙ sym y.contract.turned in (
         ap (λ (t : Turned). t.answer) e,
         x.contract.counts ∙ sym y.contract.counts,
         x.contract.procs ∙ sym y.contract.procs,

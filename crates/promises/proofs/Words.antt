@@ -2,7 +2,7 @@
 use mathlib.Core.Path.{◌∙◌, ◌≡◌, ap, sym}
 use Prim.Native.Nat.{◌≤◌, ℕ}
 use native.Mathlib.Omega.{arith}
-use Rattle.parlog.specs.Numbers.{endNumber, loadNumbers, Numbers, refusedAs, ruleNumber, runNumbers, startNumbers, stepNumbers, supplyNumbers, termNumbers, touched, variable, word}
+use Rattle.parlog.specs.Numbers.{end_number, load_numbers, Numbers, refused_as, rule_number, run_numbers, start_numbers, step_numbers, supply_numbers, term_numbers, touched, variable, word}
 use Rattle.parlog.specs.declared.End.{End}
 use Rattle.parlog.specs.declared.End.TheVariants.{Budget, Failure, Room, Success, Waiting}
 use Rattle.parlog.specs.declared.Loaded.TheVariants.{Accepted}
@@ -16,32 +16,32 @@ use Rattle.parlog.specs.declared.Supplied.TheVariants.{Given}
 use Rattle.parlog.specs.declared.Term.{Term}
 use Rattle.parlog.specs.declared.Term.TheVariants.{Const, Var}
 use Rattle.promises.specs.Moves.{MoveTold}
-use Rattle.promises.specs.Outcomes.{firstIn, largeIn, refusalIn, secondIn}
-use Rattle.values.specs.Values.{valuesNumbers}
+use Rattle.promises.specs.Outcomes.{first_in, large_in, refusal_in, second_in}
+use Rattle.values.specs.Values.{values_numbers}
 use Rattle.values.specs.declared.Gathered.TheVariants.{Values}
 
 -- ---- the parts of a word
 
 module _ (n : Numbers) (r : n.refused ≤ 255) (a : n.a ≤ 255) (b : n.b ≤ 255) where
-  pub refusal-of : refusalIn (word n) ≡ n.refused
+  pub refusal-of : refusal_in (word n) ≡ n.refused
   unfolding word
   refusal-of = omega arith
 
-  pub first_of : firstIn (word n) ≡ n.a
+  pub first_of : first_in (word n) ≡ n.a
   unfolding word
   first_of = omega arith
 
-  pub second-of : secondIn (word n) ≡ n.b
+  pub second-of : second_in (word n) ≡ n.b
   unfolding word
   second-of = omega arith
 
-  pub large-of : largeIn (word n) ≡ n.c
+  pub large-of : large_in (word n) ≡ n.c
   unfolding word
   large-of = omega arith
 
 -- ---- every part has its room
 
-pub rule-small : (m : Move) → ruleNumber m ≤ 255
+pub rule-small : (m : Move) → rule_number m ≤ 255
 rule-small (Ready p) = omega arith
 rule-small (Wake p) = omega arith
 rule-small (Stop p) = omega arith
@@ -123,7 +123,7 @@ sort-small (EquateSuccess p) = omega arith
 sort-small (EquateFailure p) = omega arith
 sort-small (EquateSuspend t) = variable-sort t
 
-end-small : (e : End) → endNumber e ≤ 255
+end-small : (e : End) → end_number e ≤ 255
 end-small Success = omega arith
 end-small Failure = omega arith
 end-small Waiting = omega arith
@@ -133,12 +133,12 @@ end-small Budget = omega arith
 -- ---- what a word tells
 
 module _ (w : ℕ) where
-  pub refused-told : (f : Refusal) → f.number ≤ 255 → w ≡ word (refusedAs f) → (refusalIn w ≡ f.number) × (largeIn w ≡ f.offset)
-  refused-told f h e = rw e (refusal-of (refusedAs f) h (omega arith) (omega arith), large-of (refusedAs f) h (omega arith) (omega arith))
+  pub refused-told : (f : Refusal) → f.number ≤ 255 → w ≡ word (refused_as f) → (refusal_in w ≡ f.number) × (large_in w ≡ f.offset)
+  refused-told f h e = rw e (refusal-of (refused_as f) h (omega arith) (omega arith), large-of (refused_as f) h (omega arith) (omega arith))
 
-  pub moved_told : (m : Move) → w ≡ word (stepNumbers (Moved m)) → MoveTold m w
+  pub moved_told : (m : Move) → w ≡ word (step_numbers (Moved m)) → MoveTold m w
   moved_told m e =
-      let n : Numbers = stepNumbers (Moved m) in
+      let n : Numbers = step_numbers (Moved m) in
       rw e (record {
         accepted = refusal-of n (omega arith) (rule-small m) (sort-small m);
         rule = first_of n (omega arith) (rule-small m) (sort-small m);
@@ -146,33 +146,33 @@ module _ (w : ℕ) where
         number = large-of n (omega arith) (rule-small m) (sort-small m);
       })
 
-  pub ended-told : (e : End) (k : ℕ) → w ≡ word (runNumbers (Ended e k)) → (refusalIn w ≡ 0) × (firstIn w ≡ endNumber e) × (largeIn w ≡ k)
+  pub ended-told : (e : End) (k : ℕ) → w ≡ word (run_numbers (Ended e k)) → (refusal_in w ≡ 0) × (first_in w ≡ end_number e) × (large_in w ≡ k)
   ended-told e k q =
-      let n : Numbers = runNumbers (Ended e k) in
+      let n : Numbers = run_numbers (Ended e k) in
       rw q (refusal-of n (omega arith) (end-small e) (omega arith), first_of n (omega arith) (end-small e) (omega arith), large-of n (omega arith) (end-small e) (omega arith))
 
-  pub accepted-told : (r c : ℕ) → r ≤ 255 → c ≤ 255 → w ≡ word (loadNumbers (Accepted r c)) → (refusalIn w ≡ 0) × (firstIn w ≡ r) × (secondIn w ≡ c)
+  pub accepted-told : (r c : ℕ) → r ≤ 255 → c ≤ 255 → w ≡ word (load_numbers (Accepted r c)) → (refusal_in w ≡ 0) × (first_in w ≡ r) × (second_in w ≡ c)
   accepted-told r c hr hc q =
-      let n : Numbers = loadNumbers (Accepted r c) in
+      let n : Numbers = load_numbers (Accepted r c) in
       rw q (refusal-of n (omega arith) hr hc, first_of n (omega arith) hr hc, second-of n (omega arith) hr hc)
 
-  pub begun-told : w ≡ word (startNumbers Begun) → refusalIn w ≡ 0
-  begun-told q = rw q (refusal-of (startNumbers Begun) (omega arith) (omega arith) (omega arith))
+  pub begun-told : w ≡ word (start_numbers Begun) → refusal_in w ≡ 0
+  begun-told q = rw q (refusal-of (start_numbers Begun) (omega arith) (omega arith) (omega arith))
 
-  pub given-told : (v : ℕ) → w ≡ word (supplyNumbers (Given v)) → refusalIn w ≡ 0
-  given-told v q = rw q (refusal-of (supplyNumbers (Given v)) (omega arith) (omega arith) (omega arith))
+  pub given-told : (v : ℕ) → w ≡ word (supply_numbers (Given v)) → refusal_in w ≡ 0
+  given-told v q = rw q (refusal-of (supply_numbers (Given v)) (omega arith) (omega arith) (omega arith))
 
-  pub values-told : (k : ℕ) → w ≡ word (valuesNumbers (Values k)) → (refusalIn w ≡ 0) × (largeIn w ≡ k)
+  pub values-told : (k : ℕ) → w ≡ word (values_numbers (Values k)) → (refusal_in w ≡ 0) × (large_in w ≡ k)
   values-told k q =
-      let n : Numbers = valuesNumbers (Values k) in
+      let n : Numbers = values_numbers (Values k) in
       rw q (refusal-of n (omega arith) (omega arith) (omega arith), large-of n (omega arith) (omega arith) (omega arith))
 
-  pub term_told : (t : Term) → w ≡ word (termNumbers t) → (refusalIn w ≡ 0) × (firstIn w ≡ (termNumbers t).a) × (largeIn w ≡ (termNumbers t).c)
+  pub term_told : (t : Term) → w ≡ word (term_numbers t) → (refusal_in w ≡ 0) × (first_in w ≡ (term_numbers t).a) × (large_in w ≡ (term_numbers t).c)
   term_told (Const c) q =
-      let n : Numbers = termNumbers (Const c) in
+      let n : Numbers = term_numbers (Const c) in
       rw q (refusal-of n (omega arith) (omega arith) (omega arith), first_of n (omega arith) (omega arith) (omega arith), large-of n (omega arith) (omega arith) (omega arith))
   term_told (Var v) q =
-      let n : Numbers = termNumbers (Var v) in
+      let n : Numbers = term_numbers (Var v) in
       rw q (refusal-of n (omega arith) (omega arith) (omega arith), first_of n (omega arith) (omega arith) (omega arith), large-of n (omega arith) (omega arith) (omega arith))
 
 -- ---- two answers of a call that look the same are the same, as far as the document tells them apart
@@ -180,8 +180,8 @@ module _ (w : ℕ) where
 -- one part after the other
 pub same_parts : (n m : Numbers) → n.refused ≤ 255 → n.a ≤ 255 → n.b ≤ 255 → m.refused ≤ 255 → m.a ≤ 255 → m.b ≤ 255 → word n ≡ word m → n ≡ m
 same_parts n m r a b r' a' b' e =
-    let x : n.refused ≡ m.refused = sym (refusal-of n r a b) ∙ ap refusalIn e ∙ refusal-of m r' a' b' in
-    let y : n.a ≡ m.a = sym (first_of n r a b) ∙ ap firstIn e ∙ first_of m r' a' b' in
-    let z : n.b ≡ m.b = sym (second-of n r a b) ∙ ap secondIn e ∙ second-of m r' a' b' in
-    let u : n.c ≡ m.c = sym (large-of n r a b) ∙ ap largeIn e ∙ large-of m r' a' b' in
+    let x : n.refused ≡ m.refused = sym (refusal-of n r a b) ∙ ap refusal_in e ∙ refusal-of m r' a' b' in
+    let y : n.a ≡ m.a = sym (first_of n r a b) ∙ ap first_in e ∙ first_of m r' a' b' in
+    let z : n.b ≡ m.b = sym (second-of n r a b) ∙ ap second_in e ∙ second-of m r' a' b' in
+    let u : n.c ≡ m.c = sym (large-of n r a b) ∙ ap large_in e ∙ large-of m r' a' b' in
     λ i. record { refused = x i; a = y i; b = z i; c = u i }

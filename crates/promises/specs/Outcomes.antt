@@ -2,31 +2,31 @@
 use Rattle.std.specs.Prelude.{◌≡◌, List, ◌%◌, ◌/◌, ℕ}
 use Rattle.capi.specs.Tells.{LoadTells, ReplayTells, ResumeTells, RunTells, SaveTells, StartTells, StepTells, SupplyTells, TurnTells, ValuesTells, ValueTells, WatchTells}
 use Rattle.parlog.specs.Limits.{Limits}
-use Rattle.parlog.specs.Run.{watchOf}
+use Rattle.parlog.specs.Run.{watch_of}
 use Rattle.parlog.specs.Tables.{Lent}
 use Rattle.parlog.specs.declared.Found.{Found}
 use Rattle.parlog.specs.declared.Marker.{Marker}
 use Rattle.parlog.specs.declared.Process.{Process}
 use Rattle.parlog.specs.declared.Stepped.{Stepped}
-use Rattle.turn_forms.specs.Turned.{turnedFrom, TurnedSays}
+use Rattle.turn_forms.specs.Turned.{turned_from, TurnedSays}
 
 -- ---- a word taken apart: bits 0 to 7, 8 to 15, 16 to 23, and 32 to 63
 
 -- the refusal, 0 where there is none
-abbrev pub refusalIn : ℕ → ℕ
-refusalIn w = w % 256
+abbrev pub refusal_in : ℕ → ℕ
+refusal_in w = w % 256
 
 -- the first small value
-abbrev pub firstIn : ℕ → ℕ
-firstIn w = w / 256 % 256
+abbrev pub first_in : ℕ → ℕ
+first_in w = w / 256 % 256
 
 -- the second small value
-abbrev pub secondIn : ℕ → ℕ
-secondIn w = w / 65536 % 256
+abbrev pub second_in : ℕ → ℕ
+second_in w = w / 65536 % 256
 
 -- the large value; of a refusal, the offset
-abbrev pub largeIn : ℕ → ℕ
-largeIn w = w / 4294967296
+abbrev pub large_in : ℕ → ℕ
+large_in w = w / 4294967296
 
 -- ---- an outcome meets the contract of the exported call: s is the image, l what is lent, w the word, l' the lent bytes afterwards
 
@@ -82,8 +82,8 @@ pub record ReplayMeets (lim : Limits) (s : List ℕ) (l : Lent) (x : List ℕ) (
 
 -- of turn_forms::turn, lent the counts cs, the rows ps and vs and the marker m: the answer a, and what is lent afterwards
 pub record MarkerMeets (lim : Limits) (s cs ps vs : List ℕ) (m : Marker) (a : Stepped) (cs' ps' vs' : List ℕ) (m' : Marker) : Type 0 where
-  pub contract : TurnedSays lim s cs ps vs m (turnedFrom m' a) cs' ps' vs'
+  pub contract : TurnedSays lim s cs ps vs m (turned_from m' a) cs' ps' vs'
 
 -- of watch_records::watch, over records of processes, with the answer f
 pub record RecordsMeet (rows : List Process) (f : Found) : Type 0 where
-  pub contract : f ≡ watchOf rows
+  pub contract : f ≡ watch_of rows

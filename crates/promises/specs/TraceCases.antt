@@ -9,37 +9,37 @@ use Rattle.parlog.specs.declared.Ran.TheVariants.{Ended}
 use Rattle.parlog.specs.declared.Stepped.TheVariants.{Unmoved}
 use Rattle.parlog.specs.declared.Supplied.{Supplied}
 use Rattle.parlog.specs.declared.Supplied.TheVariants.{Given, Ungiven}
-use Rattle.replay.specs.Instances.{asked, begun, same, sameLent, ten, tiny, trace, turned}
-use Rattle.run_traced.specs.Traced.{runTracedCall}
-use Rattle.traced.specs.Traced.{stepTracedCall, supplyTracedCall}
+use Rattle.replay.specs.Instances.{asked, begun, same, same_lent, ten, tiny, trace, turned}
+use Rattle.run_traced.specs.Traced.{run_traced_call}
+use Rattle.traced.specs.Traced.{step_traced_call, supply_traced_call}
 
 -- a run into a row with room for more records than it makes moves, and into one with room for two
-abbrev pub ranWide : RowCall Ran
-ranWide = runTracedCall tiny asked begun (zeros 100) 65535 65533
+abbrev pub ran_wide : RowCall Ran
+ran_wide = run_traced_call tiny asked begun (zeros 100) 65535 65533
 
-abbrev pub ranShort : RowCall Ran
-ranShort = runTracedCall tiny asked begun (zeros 29) 65535 65533
+abbrev pub ran_short : RowCall Ran
+ran_short = run_traced_call tiny asked begun (zeros 29) 65535 65533
 
 -- the supply behind the nine moves
 abbrev pub gave : RowCall Supplied
-gave = supplyTracedCall tiny asked (turned 9) (zeros 12) 0 1 6
+gave = supply_traced_call tiny asked (turned 9) (zeros 12) 0 1 6
 
 -- Traces 9, 11, 12: the bytes of the trace, and behind them what was there
 abbrev pub RecordedSo : Type 0
 RecordedSo =
-    (ranWide.answer ≡ Ended Waiting 9)
-    × (same ranWide.row (take 90 trace ++ zeros 10) ≡ true)
-    × (sameLent ranWide.lent (turned 9) ≡ true)
-    × (ranShort.answer ≡ Ended Budget 2)
-    × (same ranShort.row (take 20 trace ++ zeros 9) ≡ true)
+    (ran_wide.answer ≡ Ended Waiting 9)
+    × (same ran_wide.row (take 90 trace ++ zeros 10) ≡ true)
+    × (same_lent ran_wide.lent (turned 9) ≡ true)
+    × (ran_short.answer ≡ Ended Budget 2)
+    × (same ran_short.row (take 20 trace ++ zeros 9) ≡ true)
     × (gave.answer ≡ Given 0)
     × (same gave.row (ten 90 ++ zeros 2) ≡ true)
-    × (same (stepTracedCall tiny asked (turned 7) (zeros 10) 4 4).row (ten 70) ≡ true)
+    × (same (step_traced_call tiny asked (turned 7) (zeros 10) 4 4).row (ten 70) ≡ true)
 
 -- Traces 10, 11: rows of nine bytes; NODE comes before the row
 abbrev pub UnrecordedSo : Type 0
 UnrecordedSo =
-    ((stepTracedCall tiny asked begun (zeros 9) 0 65533).answer ≡ Unmoved (refusal 11 0))
-    × ((stepTracedCall tiny asked begun (zeros 9) 1 65533).answer ≡ Unmoved (refusal 9 0))
-    × ((supplyTracedCall tiny asked (turned 9) (zeros 9) 0 1 6).answer ≡ Ungiven (refusal 11 0))
-    × ((runTracedCall tiny asked begun (zeros 9) 65535 65533).answer ≡ Ended Budget 0)
+    ((step_traced_call tiny asked begun (zeros 9) 0 65533).answer ≡ Unmoved (refusal 11 0))
+    × ((step_traced_call tiny asked begun (zeros 9) 1 65533).answer ≡ Unmoved (refusal 9 0))
+    × ((supply_traced_call tiny asked (turned 9) (zeros 9) 0 1 6).answer ≡ Ungiven (refusal 11 0))
+    × ((run_traced_call tiny asked begun (zeros 9) 65535 65533).answer ≡ Ended Budget 0)

@@ -1,7 +1,7 @@
 // Clauses where they stand in a text: the places of their head's terms, guard and body.
 ghost use Rattle.std.specs.Prelude.{◌≡◌, ◌≤◌, drop, length};
 ghost use Rattle.read_clause.specs.Parts.{ClauseIn, PartsIn};
-ghost use Rattle.text_program.specs.Source.{behindArrow, readClause, readHalves};
+ghost use Rattle.text_program.specs.Source.{behind_arrow, read_clause, read_halves};
 
 // Marks of a clause.
 const ARROW: usize = 60;
@@ -46,7 +46,7 @@ pub struct ClauseAt {
 // The place behind `<-` and the blanks there.
 pub fn behind_arrow(s: &[u8], at: usize) -> usize
     requires { at ≤ length s.now }
-    ensures { (drop result s.now ≡ behindArrow (drop at s.now)) × (result ≤ length s.now) }
+    ensures { (drop result s.now ≡ behind_arrow (drop at s.now)) × (result ≤ length s.now) }
 {
     if s.len() - at < ARROW_SIZE {
         return s.len();
@@ -57,7 +57,7 @@ pub fn behind_arrow(s: &[u8], at: usize) -> usize
 // Guard and body of the clause whose head ends at a place.
 fn halves(s: &[u8], at: usize) -> Parts
     requires { at ≤ length s.now }
-    ensures { PartsIn s.now (readHalves (drop at s.now)) result }
+    ensures { PartsIn s.now (read_halves (drop at s.now)) result }
 {
     if place::byte_at(s, at) != ARROW {
         return Parts {
@@ -97,7 +97,7 @@ fn halves(s: &[u8], at: usize) -> Parts
 // The clause at a place.
 pub fn clause(s: &[u8], at: usize) -> ClauseAt
     requires { at ≤ length s.now }
-    ensures { ClauseIn s.now at (readClause (drop at s.now)) result }
+    ensures { ClauseIn s.now at (read_clause (drop at s.now)) result }
 {
     let terms = read_goal::past_name(s, at);
     let head = read_goal::terms(s, terms);

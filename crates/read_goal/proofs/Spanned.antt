@@ -7,13 +7,13 @@ use lib.Dec.{eqb, leb}
 use lib.ListN.{drop, get_or, length}
 use borrow.Author.Tests.{eq-eqb, le-leb, leb-false, leb-true, lt-leb, ne_eqb}
 use native.Mathlib.Omega.{arith}
-use Rattle.read_goal.specs.Spans.{goalRight, literalRight, literalsIn, Spans, stageRight, stagesRight}
+use Rattle.read_goal.specs.Spans.{goal_right, literal_right, literals_in, Spans, stage_right, stages_right}
 use Rattle.read_goal.specs.declared.Span.{Span}
 use Rattle.text_names.proofs.Rest.{first-at}
 use Rattle.text_names.specs.Bytes.{next, past}
-use Rattle.text_program.specs.Numbered.{saidTerms}
+use Rattle.text_program.specs.Numbered.{said_terms}
 use Rattle.text_program.specs.Parsing.{all_of}
-use Rattle.text_program.specs.Source.{consGot, Got, got, read_body, readBrackets, Reader, readGoal, readLiteral, readTerm, row, Said}
+use Rattle.text_program.specs.Source.{cons_got, Got, got, read_body, read_brackets, Reader, read_goal, read_literal, read_term, row, Said}
 
 -- of the row W there is left Y, behind n items and at place q; `was` is what the whole passes, `now` what is known and what is left
 pub record SpanLeft {A : Type 0} (s : List ℕ) (W Y : Got (List A)) (was now : Bool) (q n left : ℕ) : Type 0 where
@@ -29,7 +29,7 @@ module _ {A : Type 0} (s : List ℕ) where
       let c = ap (λ (g : Got (List A)). length g.value) e in
       record { rest = ap (λ (g : Got (List A)). g.rest) e; count = omega arith; right = f; inside = h; budget = omega arith }
 
-  pub span-on : {W Y Y' : Got (List A)} {was now now' : Bool} {q n left f : ℕ} (x : A) → Y ≡ consGot x Y' → now' ≡ now → 0 < left → f ≤ length s →
+  pub span-on : {W Y Y' : Got (List A)} {was now now' : Bool} {q n left f : ℕ} (x : A) → Y ≡ cons_got x Y' → now' ≡ now → 0 < left → f ≤ length s →
       SpanLeft s W Y was now q n left → SpanLeft s W Y' was now' f (n + 1) (left - 1)
   span-on {n = n} x e g h i l =
       let z = l.count in
@@ -89,79 +89,79 @@ spend c m budget a b = go a b (leb c budget) refl
     go true false false e = rw e
     go false b d e = refl
 
-pub stages-done : (r : Bool) (budget : ℕ) → r ≡ (r && stagesRight budget [])
-unfolding stagesRight all_of literalsIn
+pub stages-done : (r : Bool) (budget : ℕ) → r ≡ (r && stages_right budget [])
+unfolding stages_right all_of literals_in
 stages-done r budget = rw (le-leb 0 budget (omega arith)) (sym (true-right r))
 
-module _ (r t : Bool) (c budget : ℕ) (x : List Said) (e : t ≡ stageRight x) (n : c ≡ length x) where
-  pub stages-on : (xs : List (List Said)) → ((r && (t && leb c budget)) && stagesRight (budget - c) xs) ≡ (r && stagesRight budget (x ∷ xs))
-  unfolding stagesRight all_of literalsIn
-  stages-on xs = rw (← e, ← n, spend c (literalsIn xs) budget t (all_of stageRight xs)) (and_assoc r (t && leb c budget) (all_of stageRight xs && leb (literalsIn xs) (budget - c)))
+module _ (r t : Bool) (c budget : ℕ) (x : List Said) (e : t ≡ stage_right x) (n : c ≡ length x) where
+  pub stages-on : (xs : List (List Said)) → ((r && (t && leb c budget)) && stages_right (budget - c) xs) ≡ (r && stages_right budget (x ∷ xs))
+  unfolding stages_right all_of literals_in
+  stages-on xs = rw (← e, ← n, spend c (literals_in xs) budget t (all_of stage_right xs)) (and_assoc r (t && leb c budget) (all_of stage_right xs && leb (literals_in xs) (budget - c)))
 
-  pub stages-last : (r && (t && leb c budget)) ≡ (r && stagesRight budget (x ∷ []))
+  pub stages-last : (r && (t && leb c budget)) ≡ (r && stages_right budget (x ∷ []))
   stages-last = stages-done (r && (t && leb c budget)) (budget - c) ∙ stages-on []
 
 -- ---- one item
 
 module _ (s : List ℕ) (at e : ℕ) where
-  pub term-rest : drop e s ≡ past (drop at s) → drop e s ≡ (readTerm (drop at s)).rest
-  unfolding readTerm
+  pub term-rest : drop e s ≡ past (drop at s) → drop e s ≡ (read_term (drop at s)).rest
+  unfolding read_term
   term-rest h = h
 
-  pub no-brackets : {A : Type 0} (read : Reader A) (b : ℕ) → at ≤ length s → b ≡ get_or s at 0 → (b ≡ 40 → ⊥) →
-      Spans s (readBrackets read (drop at s)).rest (length (readBrackets read (drop at s)).value) true (record { end = at; count = 0; right = true })
-  unfolding readBrackets
-  no-brackets read b i h n = rw (first-at s at, ← h, ne_eqb b 40 n) (record { end = refl; inside = i; count = refl; right = refl })
+  pub no_brackets : {A : Type 0} (read : Reader A) (b : ℕ) → at ≤ length s → b ≡ get_or s at 0 → (b ≡ 40 → ⊥) →
+      Spans s (read_brackets read (drop at s)).rest (length (read_brackets read (drop at s)).value) true (record { end = at; count = 0; right = true })
+  unfolding read_brackets
+  no_brackets read b i h n = rw (first-at s at, ← h, ne_eqb b 40 n) (record { end = refl; inside = i; count = refl; right = refl })
 
-  pub in-brackets : {A : Type 0} (read : Reader A) (b from : ℕ) (r : Span) → b ≡ get_or s at 0 → b ≡ 40 → drop from s ≡ next (drop at s) →
+  pub in_brackets : {A : Type 0} (read : Reader A) (b from : ℕ) (r : Span) → b ≡ get_or s at 0 → b ≡ 40 → drop from s ≡ next (drop at s) →
       Spans s (row read 44 (drop from s)).rest (length (row read 44 (drop from s)).value) true r → drop e s ≡ next (drop r.end s) → e ≤ length s →
-      Spans s (readBrackets read (drop at s)).rest (length (readBrackets read (drop at s)).value) true (record { end = e; count = r.count; right = true })
-  unfolding readBrackets
-  in-brackets read b from r h n f v g i =
+      Spans s (read_brackets read (drop at s)).rest (length (read_brackets read (drop at s)).value) true (record { end = e; count = r.count; right = true })
+  unfolding read_brackets
+  in_brackets read b from r h n f v g i =
       rw (first-at s at, ← h, eq-eqb b 40 n, ← f) (record { end = g ∙ ap next v.end; inside = i; count = v.count; right = refl })
 
 module _ (s : List ℕ) (at p b : ℕ) (behind : drop p s ≡ past (drop at s)) (is : b ≡ get_or s p 0) where
   pub equality-span : (from e : ℕ) → b ≡ 61 → drop from s ≡ next (drop p s) → drop e s ≡ past (drop from s) → e ≤ length s →
-      Spans s (readLiteral (drop at s)).rest (length (saidTerms (readLiteral (drop at s)).value)) (literalRight (readLiteral (drop at s)).value) (record { end = e; count = 2; right = true })
-  unfolding readLiteral readTerm literalRight
+      Spans s (read_literal (drop at s)).rest (length (said_terms (read_literal (drop at s)).value)) (literal_right (read_literal (drop at s)).value) (record { end = e; count = 2; right = true })
+  unfolding read_literal read_term literal_right
   equality-span from e m f g i = rw (← behind, first-at s p, ← is, eq-eqb b 61 m) (record { end = g ∙ ap past (f ∙ ap next behind); inside = i; count = refl; right = refl })
 
-  pub call-span : (t : Span) → (b ≡ 61 → ⊥) → Spans s (readBrackets readTerm (drop p s)).rest (length (readBrackets readTerm (drop p s)).value) true t →
-      Spans s (readLiteral (drop at s)).rest (length (saidTerms (readLiteral (drop at s)).value)) (literalRight (readLiteral (drop at s)).value) (record { end = t.end; count = t.count; right = leb t.count 4 })
-  unfolding readLiteral literalRight
+  pub call-span : (t : Span) → (b ≡ 61 → ⊥) → Spans s (read_brackets read_term (drop p s)).rest (length (read_brackets read_term (drop p s)).value) true t →
+      Spans s (read_literal (drop at s)).rest (length (said_terms (read_literal (drop at s)).value)) (literal_right (read_literal (drop at s)).value) (record { end = t.end; count = t.count; right = leb t.count 4 })
+  unfolding read_literal literal_right
   call-span t m v =
       rw (← behind, first-at s p, ← is, ne_eqb b 61 m)
       (record {
-        end = v.end ∙ ap (λ (z : List ℕ). (readBrackets readTerm z).rest) behind;
+        end = v.end ∙ ap (λ (z : List ℕ). (read_brackets read_term z).rest) behind;
         inside = v.inside;
-        count = v.count ∙ ap (λ (z : List ℕ). length (readBrackets readTerm z).value) behind;
-        right = ap (λ (n : ℕ). leb n 4) v.count ∙ ap (λ (z : List ℕ). leb (length (readBrackets readTerm z).value) 4) behind;
+        count = v.count ∙ ap (λ (z : List ℕ). length (read_brackets read_term z).value) behind;
+        right = ap (λ (n : ℕ). leb n 4) v.count ∙ ap (λ (z : List ℕ). leb (length (read_brackets read_term z).value) 4) behind;
       })
 
 -- ---- stages and goals
 
-pub stage-span : (s rest : List ℕ) (st : List Said) (t : Span) (r : Bool) → r ≡ (leb 1 t.count && t.right) → Spans s rest (length st) (all_of literalRight st) t →
-    Spans s rest (length st) (stageRight st) (record { end = t.end; count = t.count; right = r })
-unfolding stageRight
+pub stage-span : (s rest : List ℕ) (st : List Said) (t : Span) (r : Bool) → r ≡ (leb 1 t.count && t.right) → Spans s rest (length st) (all_of literal_right st) t →
+    Spans s rest (length st) (stage_right st) (record { end = t.end; count = t.count; right = r })
+unfolding stage_right
 stage-span s rest st t r e v = record { end = v.end; inside = v.inside; count = v.count; right = e ∙ rw (v.count, v.right) refl }
 
-pub goal-span : (s rest : List ℕ) (g : List (List Said)) (t : Span) (r : Bool) → r ≡ (leb t.count 8 && t.right) → Spans s rest (length g) (stagesRight 8 g) t →
-    Spans s rest (length g) (goalRight g) (record { end = t.end; count = t.count; right = r })
-unfolding goalRight
+pub goal-span : (s rest : List ℕ) (g : List (List Said)) (t : Span) (r : Bool) → r ≡ (leb t.count 8 && t.right) → Spans s rest (length g) (stages_right 8 g) t →
+    Spans s rest (length g) (goal_right g) (record { end = t.end; count = t.count; right = r })
+unfolding goal_right
 goal-span s rest g t r e v = record { end = v.end; inside = v.inside; count = v.count; right = e ∙ rw (v.count, v.right) refl }
 
 -- readGoal is a row of rows
-pub goal-row : (s : List ℕ) → readGoal s ≡ row (row readLiteral 44) 38 s
-unfolding readGoal
+pub goal-row : (s : List ℕ) → read_goal s ≡ row (row read_literal 44) 38 s
+unfolding read_goal
 goal-row s = refl
 
 module _ (s : List ℕ) (at b : ℕ) (is : b ≡ get_or s at 0) (r : Bool) (told : r ≡ (eqb b 46 || eqb b 59)) where
   pub body-none : at ≤ length s → r ≡ true →
-      Spans s (read_body (drop at s)).rest (length (read_body (drop at s)).value) (goalRight (read_body (drop at s)).value) (record { end = at; count = 0; right = true })
-  unfolding read_body goalRight stagesRight all_of literalsIn
+      Spans s (read_body (drop at s)).rest (length (read_body (drop at s)).value) (goal_right (read_body (drop at s)).value) (record { end = at; count = 0; right = true })
+  unfolding read_body goal_right stages_right all_of literals_in
   body-none i m = rw (first-at s at, ← is, ← told, m) (record { end = refl; inside = i; count = refl; right = refl })
 
-  pub body-some : (t : Span) → r ≡ false → Spans s (readGoal (drop at s)).rest (length (readGoal (drop at s)).value) (goalRight (readGoal (drop at s)).value) t →
-      Spans s (read_body (drop at s)).rest (length (read_body (drop at s)).value) (goalRight (read_body (drop at s)).value) t
+  pub body-some : (t : Span) → r ≡ false → Spans s (read_goal (drop at s)).rest (length (read_goal (drop at s)).value) (goal_right (read_goal (drop at s)).value) t →
+      Spans s (read_body (drop at s)).rest (length (read_body (drop at s)).value) (goal_right (read_body (drop at s)).value) t
   unfolding read_body
   body-some t m v = rw (first-at s at, ← is, ← told, m) v

@@ -1,10 +1,10 @@
 // Terms, literals and goals where they stand in a text: the place behind them, how many there are, and whether an image may have so many.
 ghost use Rattle.std.specs.Prelude.{true, ◌≡◌, ◌-◌, ◌≤◌, drop, length};
-ghost use Rattle.read_goal.specs.Spans.{goalRight, literalRight, Spans, stageRight, stagesRight};
+ghost use Rattle.read_goal.specs.Spans.{goal_right, literal_right, Spans, stage_right, stages_right};
 ghost use Rattle.text_names.specs.Bytes.{past};
-ghost use Rattle.text_program.specs.Numbered.{saidTerms};
+ghost use Rattle.text_program.specs.Numbered.{said_terms};
 ghost use Rattle.text_program.specs.Parsing.{all_of};
-ghost use Rattle.text_program.specs.Source.{read_body, readBrackets, readGoal, readLiteral, readTerm, row};
+ghost use Rattle.text_program.specs.Source.{read_body, read_brackets, read_goal, read_literal, read_term, row};
 
 use parlog::codes;
 
@@ -51,7 +51,7 @@ pub fn past_name(s: &[u8], at: usize) -> usize
 // Names with a comma between them.
 fn names(s: &[u8], at: usize) -> Span
     requires { at ≤ length s.now }
-    ensures { Spans s.now (row readTerm 44 (drop at s.now)).rest (length (row readTerm 44 (drop at s.now)).value) true result }
+    ensures { Spans s.now (row read_term 44 (drop at s.now)).rest (length (row read_term 44 (drop at s.now)).value) true result }
 {
     let mut q = at;
     let mut n = 0;
@@ -79,7 +79,7 @@ fn names(s: &[u8], at: usize) -> Span
 // Terms in brackets, or no brackets.
 pub fn terms(s: &[u8], at: usize) -> Span
     requires { at ≤ length s.now }
-    ensures { Spans s.now (readBrackets readTerm (drop at s.now)).rest (length (readBrackets readTerm (drop at s.now)).value) true result }
+    ensures { Spans s.now (read_brackets read_term (drop at s.now)).rest (length (read_brackets read_term (drop at s.now)).value) true result }
 {
     if place::byte_at(s, at) != OPEN {
         return Span {
@@ -101,7 +101,7 @@ pub fn terms(s: &[u8], at: usize) -> Span
 // A literal; its items are its terms.
 fn literal(s: &[u8], at: usize) -> Span
     requires { at ≤ length s.now }
-    ensures { Spans s.now (readLiteral (drop at s.now)).rest (length (saidTerms (readLiteral (drop at s.now)).value)) (literalRight (readLiteral (drop at s.now)).value) result }
+    ensures { Spans s.now (read_literal (drop at s.now)).rest (length (said_terms (read_literal (drop at s.now)).value)) (literal_right (read_literal (drop at s.now)).value) result }
 {
     let behind = past_name(s, at);
     if place::byte_at(s, behind) == EQUALS {
@@ -123,7 +123,7 @@ fn literal(s: &[u8], at: usize) -> Span
 // Literals with a comma between them.
 fn literals(s: &[u8], at: usize) -> Span
     requires { at ≤ length s.now }
-    ensures { Spans s.now (row readLiteral 44 (drop at s.now)).rest (length (row readLiteral 44 (drop at s.now)).value) (all_of literalRight (row readLiteral 44 (drop at s.now)).value) result }
+    ensures { Spans s.now (row read_literal 44 (drop at s.now)).rest (length (row read_literal 44 (drop at s.now)).value) (all_of literal_right (row read_literal 44 (drop at s.now)).value) result }
 {
     let mut q = at;
     let mut n = 0;
@@ -154,7 +154,7 @@ fn literals(s: &[u8], at: usize) -> Span
 // A stage: its literals, at least one.
 fn stage(s: &[u8], at: usize) -> Span
     requires { at ≤ length s.now }
-    ensures { Spans s.now (row readLiteral 44 (drop at s.now)).rest (length (row readLiteral 44 (drop at s.now)).value) (stageRight (row readLiteral 44 (drop at s.now)).value) result }
+    ensures { Spans s.now (row read_literal 44 (drop at s.now)).rest (length (row read_literal 44 (drop at s.now)).value) (stage_right (row read_literal 44 (drop at s.now)).value) result }
 {
     let inner = literals(s, at);
     Span {
@@ -174,7 +174,7 @@ pub fn less(a: usize, b: usize) -> usize
 // Stages with `&` between them, and all their literals counted.
 fn stages(s: &[u8], at: usize) -> Span
     requires { at ≤ length s.now }
-    ensures { Spans s.now (readGoal (drop at s.now)).rest (length (readGoal (drop at s.now)).value) (stagesRight 8 (readGoal (drop at s.now)).value) result }
+    ensures { Spans s.now (read_goal (drop at s.now)).rest (length (read_goal (drop at s.now)).value) (stages_right 8 (read_goal (drop at s.now)).value) result }
 {
     let mut q = at;
     let mut n = 0;
@@ -207,7 +207,7 @@ fn stages(s: &[u8], at: usize) -> Span
 // A goal.
 pub fn goal(s: &[u8], at: usize) -> Span
     requires { at ≤ length s.now }
-    ensures { Spans s.now (readGoal (drop at s.now)).rest (length (readGoal (drop at s.now)).value) (goalRight (readGoal (drop at s.now)).value) result }
+    ensures { Spans s.now (read_goal (drop at s.now)).rest (length (read_goal (drop at s.now)).value) (goal_right (read_goal (drop at s.now)).value) result }
 {
     let inner = stages(s, at);
     Span {
@@ -220,7 +220,7 @@ pub fn goal(s: &[u8], at: usize) -> Span
 // A goal, or nothing where the line ends.
 pub fn body(s: &[u8], at: usize) -> Span
     requires { at ≤ length s.now }
-    ensures { Spans s.now (read_body (drop at s.now)).rest (length (read_body (drop at s.now)).value) (goalRight (read_body (drop at s.now)).value) result }
+    ensures { Spans s.now (read_body (drop at s.now)).rest (length (read_body (drop at s.now)).value) (goal_right (read_body (drop at s.now)).value) result }
 {
     let mark = place::byte_at(s, at);
     if basics::or(mark == DOT, mark == SEMICOLON) {

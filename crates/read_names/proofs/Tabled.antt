@@ -13,10 +13,10 @@ use Rattle.read_names.specs.Tables.{Adds, names_at, sorted}
 use Rattle.spell.specs.Forms.{in_span}
 use Rattle.text_names.proofs.Added.{adds-append, cap-adds, full-add}
 use Rattle.text_names.proofs.Rest.{first-at}
-use Rattle.text_names.specs.Bytes.{first, front, isCapital, isName, isSmall}
-use Rattle.text_names.specs.Names.{add, adds, look, Name, sameName}
+use Rattle.text_names.specs.Bytes.{first, front, is_capital, is_name, is_small}
+use Rattle.text_names.specs.Names.{add, adds, look, Name, same_name}
 use Rattle.text_program.proofs.Joined.{lowers-append, uppers-append}
-use Rattle.text_program.specs.Numbered.{isUpper, lowers, uppers}
+use Rattle.text_program.specs.Numbered.{is_upper, lowers, uppers}
 
 -- ---- lists
 
@@ -43,13 +43,13 @@ adds_then {s} {t} {n} {u} {m} {v} {k} xs zs f g =
       inside = g.inside;
     }
 
-pub names-fit : (s t : List ℕ) (n : ℕ) → n ≤ length t → length (names_at s (take n t)) ≡ n
-names-fit s t n h = names-length s (take n t) ∙ length-take-le n t h
+pub names_fit : (s t : List ℕ) (n : ℕ) → n ≤ length t → length (names_at s (take n t)) ≡ n
+names_fit s t n h = names-length s (take n t) ∙ length-take-le n t h
 
 pub adds_none : (s t : List ℕ) (n : ℕ) → n ≤ length t → Adds s t n t n []
 unfolding adds
 adds_none s t n h =
-    let l = names-fit s t n h in
+    let l = names_fit s t n h in
     record { names = sym (take_all (length t) (names_at s (take n t)) (omega arith)); size = refl; inside = h }
 
 -- names told otherwise
@@ -62,11 +62,11 @@ module _ (s t : List ℕ) (x : Name) (i n : ℕ) (l : n ≤ length t) where
   find-cons : i < n → drop i (take n t) ≡ get_or t i 0 ∷ drop (i + 1) (take n t)
   find-cons h = let k = length-take-le n t l in rw add-one (drop-cons (take n t) i 0 (omega arith) ∙ rw (get_or-take n t i 0 h))
 
-  pub find-here : (p : ℕ) (b : Bool) → i < n → drop p s ≡ drop (get_or t i 0) s → b ≡ sameName (front (drop p s)) x → b ≡ true → look (names_at s (drop i (take n t))) x ≡ 0
+  pub find-here : (p : ℕ) (b : Bool) → i < n → drop p s ≡ drop (get_or t i 0) s → b ≡ same_name (front (drop p s)) x → b ≡ true → look (names_at s (drop i (take n t))) x ≡ 0
   unfolding names_at look
   find-here p b h e f g = rw (find-cons h, ← e, ← f, g)
 
-  pub find-on : (p : ℕ) (b : Bool) → i < n → drop p s ≡ drop (get_or t i 0) s → b ≡ sameName (front (drop p s)) x → b ≡ false →
+  pub find-on : (p : ℕ) (b : Bool) → i < n → drop p s ≡ drop (get_or t i 0) s → b ≡ same_name (front (drop p s)) x → b ≡ false →
       look (names_at s (drop i (take n t))) x ≡ suc (look (names_at s (drop (i + 1) (take n t))) x)
   unfolding names_at look
   find-on p b h e f g = rw (find-cons h, ← e, ← f, g)
@@ -81,7 +81,7 @@ module _ (s t : List ℕ) (n q k : ℕ) (x : Name) (h : n ≤ length t) (found :
   pub add-known : k < n → Adds s t n t n (x ∷ [])
   unfolding adds add
   add-known g =
-      let l = names-fit s t n h in
+      let l = names_fit s t n h in
       record {
         names = rw (← found, l, lt-ltb k n g) (sym (take_all (length t) (names_at s (take n t)) (omega arith)));
         size = refl;
@@ -91,7 +91,7 @@ module _ (s t : List ℕ) (n q k : ℕ) (x : Name) (h : n ≤ length t) (found :
   pub add-new : n ≤ k → n < length t → front (drop q s) ≡ x → Adds s t n (set t n q) (n + 1) (x ∷ [])
   unfolding adds add names_at
   add-new g r e =
-      let l = names-fit s t n h in
+      let l = names_fit s t n h in
       let z = length-append (names_at s (take n t)) (x ∷ []) in
       record {
         names =
@@ -104,7 +104,7 @@ module _ (s t : List ℕ) (n q k : ℕ) (x : Name) (h : n ≤ length t) (found :
   pub add-full : length t ≤ n → Adds s t n t n (x ∷ [])
   unfolding adds
   add-full g =
-      let l = names-fit s t n h in
+      let l = names_fit s t n h in
       record {
         names = sym (full-add (length t) (names_at s (take n t)) x (omega arith) ∙ take_all (length t) (names_at s (take n t)) (omega arith));
         size = refl;
@@ -124,8 +124,8 @@ sorted-append true xs ys = uppers-append xs ys
 sorted-append false xs ys = lowers-append xs ys
 
 -- a name begins with the byte at its place, or is none
-pub upper-at : (s : List ℕ) (q : ℕ) → isUpper (front (drop q s)) ≡ isCapital (get_or s q 0)
-unfolding front isName isCapital
+pub upper-at : (s : List ℕ) (q : ℕ) → is_upper (front (drop q s)) ≡ is_capital (get_or s q 0)
+unfolding front is_name is_capital
 upper-at s q = rw (← first-at s q) (go (drop q s))
   where
     middle : (a c d : Bool) → (a || (c || d)) ≡ false → c ≡ false
@@ -133,17 +133,17 @@ upper-at s q = rw (← first-at s q) (go (drop q s))
     middle false true d e = e
     middle false false d e = refl
 
-    turn : (b : ℕ) (r : List ℕ) (t : Bool) → isName b ≡ t → isUpper (cond t (b ∷ front r) []) ≡ isCapital b
+    turn : (b : ℕ) (r : List ℕ) (t : Bool) → is_name b ≡ t → is_upper (cond t (b ∷ front r) []) ≡ is_capital b
     turn b r true e = refl
-    turn b r false e = sym (middle (isSmall b) (isCapital b) (in_span 48 9 b || eqb b 95) e)
+    turn b r false e = sym (middle (is_small b) (is_capital b) (in_span 48 9 b || eqb b 95) e)
 
-    go : (r : List ℕ) → isUpper (front r) ≡ isCapital (first r)
+    go : (r : List ℕ) → is_upper (front r) ≡ is_capital (first r)
     go [] = refl
-    go (b ∷ r) = turn b r (isName b) refl
+    go (b ∷ r) = turn b r (is_name b) refl
 
-module _ (s : List ℕ) (q b : ℕ) (c r up : Bool) (is : b ≡ get_or s q 0) (capital : c ≡ isCapital b) (chosen : r ≡ cond up c (not c)) where
-  told : isUpper (front (drop q s)) ≡ c
-  told = upper-at s q ∙ ap isCapital (sym is) ∙ sym capital
+module _ (s : List ℕ) (q b : ℕ) (c r up : Bool) (is : b ≡ get_or s q 0) (capital : c ≡ is_capital b) (chosen : r ≡ cond up c (not c)) where
+  told : is_upper (front (drop q s)) ≡ c
+  told = upper-at s q ∙ ap is_capital (sym is) ∙ sym capital
 
   pub note-is : r ≡ true → front (drop q s) ∷ [] ≡ sorted up (front (drop q s) ∷ [])
   unfolding sorted uppers lowers

@@ -2,9 +2,9 @@
 use Rattle.std.specs.Prelude.{Bool, cond, false, true, [], ◌∷◌, List, map, ◌≡◌, ◌≤◌, ℕ, drop, length, take}
 use Rattle.read_names.specs.declared.Entry.{Entry}
 use Rattle.text_names.specs.Bytes.{front}
-use Rattle.text_names.specs.Names.{adds, known, look, Name, sameName}
+use Rattle.text_names.specs.Names.{adds, known, look, Name, same_name}
 use Rattle.text_program.specs.Numbered.{lowers, uppers}
-use Rattle.text_program.specs.Source.{isModeLine, lines, ModeLine, readModeLine}
+use Rattle.text_program.specs.Source.{is_mode_line, lines, ModeLine, read_mode_line}
 
 -- the names at some places of a text
 unfoldable pub names_at : List ℕ → List ℕ → List Name
@@ -23,20 +23,20 @@ pub record Adds (s t : List ℕ) (n : ℕ) (u : List ℕ) (m : ℕ) (xs : List N
   pub inside : m ≤ length u
 
 -- the mode lines from a place on
-abbrev pub modesFrom : List ℕ → ℕ → List ModeLine
-modesFrom s at = (lines isModeLine readModeLine (drop at s)).value
+abbrev pub modes_from : List ℕ → ℕ → List ModeLine
+modes_from s at = (lines is_mode_line read_mode_line (drop at s)).value
 
 -- their names
-abbrev pub modeNames : List ModeLine → List Name
-modeNames ms = map (λ (m : ModeLine). m.name) ms
+abbrev pub mode_names : List ModeLine → List Name
+mode_names ms = map (λ (m : ModeLine). m.name) ms
 
 -- how many modes the relation of a name has
-unfoldable pub arityFor : List ModeLine → Name → ℕ
-arityFor [] x = 0
-arityFor (m ∷ ms) x = cond (sameName m.name x) (length m.modes) (arityFor ms x)
+unfoldable pub arity_for : List ModeLine → Name → ℕ
+arity_for [] x = 0
+arity_for (m ∷ ms) x = cond (same_name m.name x) (length m.modes) (arity_for ms x)
 
 -- the number of a relation, how many modes it has, and whether it has a line
 pub record Finds (ms : List ModeLine) (x : Name) (r : Entry) : Type 0 where
-  pub number : r.number ≡ look (modeNames ms) x
-  pub arity : r.arity ≡ arityFor ms x
-  pub known : r.known ≡ known (modeNames ms) x
+  pub number : r.number ≡ look (mode_names ms) x
+  pub arity : r.arity ≡ arity_for ms x
+  pub known : r.known ≡ known (mode_names ms) x

@@ -1,10 +1,10 @@
 // Names of a text by their numbers: relations by mode line, variables by a table of the places where they first stand.
 ghost use Rattle.std.specs.Prelude.{true, ◌≡◌, ◌≤◌, leb, drop, length, take};
 ghost use Rattle.read_goal.specs.Spans.{Spans};
-ghost use Rattle.read_names.specs.Tables.{Finds, modesFrom, names_at};
+ghost use Rattle.read_names.specs.Tables.{Finds, modes_from, names_at};
 ghost use Rattle.text_names.specs.Bytes.{front};
-ghost use Rattle.text_names.specs.Names.{look, sameName};
-ghost use Rattle.text_program.specs.Source.{isModeLine, lines, modeWord, readBrackets, readMode, readModeLine, row};
+ghost use Rattle.text_names.specs.Names.{look, same_name};
+ghost use Rattle.text_program.specs.Source.{is_mode_line, lines, mode_word, read_brackets, read_mode, read_mode_line, row};
 
 use read_goal::Span;
 
@@ -57,7 +57,7 @@ pub fn find(s: &[u8], table: &[usize], n: usize, q: usize) -> usize
 // The name at a place is `mode`.
 fn is_mode(s: &[u8], at: usize) -> bool
     requires { at ≤ length s.now }
-    ensures { result ≡ sameName (front (drop at s.now)) modeWord }
+    ensures { result ≡ same_name (front (drop at s.now)) mode_word }
 {
     let end = text_names::name_end(s, at);
     if read_goal::less(end, at) != LETTERS {
@@ -74,7 +74,7 @@ fn is_mode(s: &[u8], at: usize) -> bool
 // A mode line begins at a place.
 pub fn is_mode_line(s: &[u8], at: usize) -> bool
     requires { at ≤ length s.now }
-    ensures { result ≡ isModeLine (drop at s.now) }
+    ensures { result ≡ is_mode_line (drop at s.now) }
 {
     let word = is_mode(s, at);
     let behind = read_goal::past_name(s, at);
@@ -84,7 +84,7 @@ pub fn is_mode_line(s: &[u8], at: usize) -> bool
 // Modes with a comma between them.
 fn marks(s: &[u8], at: usize) -> Span
     requires { at ≤ length s.now }
-    ensures { Spans s.now (row readMode 44 (drop at s.now)).rest (length (row readMode 44 (drop at s.now)).value) true result }
+    ensures { Spans s.now (row read_mode 44 (drop at s.now)).rest (length (row read_mode 44 (drop at s.now)).value) true result }
 {
     let mut q = at;
     let mut n = 0;
@@ -112,7 +112,7 @@ fn marks(s: &[u8], at: usize) -> Span
 // Modes in brackets, or no brackets.
 fn modes(s: &[u8], at: usize) -> Span
     requires { at ≤ length s.now }
-    ensures { Spans s.now (readBrackets readMode (drop at s.now)).rest (length (readBrackets readMode (drop at s.now)).value) true result }
+    ensures { Spans s.now (read_brackets read_mode (drop at s.now)).rest (length (read_brackets read_mode (drop at s.now)).value) true result }
 {
     if place::byte_at(s, at) != read_goal::OPEN {
         return Span {
@@ -134,7 +134,7 @@ fn modes(s: &[u8], at: usize) -> Span
 // A mode line: its items are its modes, of which an image may have four.
 pub fn mode_line(s: &[u8], at: usize) -> Span
     requires { at ≤ length s.now }
-    ensures { Spans s.now (readModeLine (drop at s.now)).rest (length (readModeLine (drop at s.now)).value.modes) (leb (length (readModeLine (drop at s.now)).value.modes) 4) result }
+    ensures { Spans s.now (read_mode_line (drop at s.now)).rest (length (read_mode_line (drop at s.now)).value.modes) (leb (length (read_mode_line (drop at s.now)).value.modes) 4) result }
 {
     let name = read_goal::past_name(s, at);
     let open = read_goal::past_name(s, name);
@@ -150,7 +150,7 @@ pub fn mode_line(s: &[u8], at: usize) -> Span
 // All mode lines.
 pub fn mode_lines(s: &[u8], at: usize) -> Span
     requires { at ≤ length s.now }
-    ensures { Spans s.now (lines isModeLine readModeLine (drop at s.now)).rest (length (modesFrom s.now at)) true result }
+    ensures { Spans s.now (lines is_mode_line read_mode_line (drop at s.now)).rest (length (modes_from s.now at)) true result }
 {
     let mut p = at;
     let mut n = 0;
@@ -178,7 +178,7 @@ pub fn mode_lines(s: &[u8], at: usize) -> Span
 // The relation of the name at q, by the mode lines from a place on.
 pub fn relation(s: &[u8], from: usize, q: usize) -> Entry
     requires { (from ≤ length s.now) × (q ≤ length s.now) }
-    ensures { Finds (modesFrom s.now from) (front (drop q s.now)) result }
+    ensures { Finds (modes_from s.now from) (front (drop q s.now)) result }
 {
     let mut p = from;
     let mut n = 0;

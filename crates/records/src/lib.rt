@@ -1,13 +1,13 @@
 // Records one after the other, whatever they hold: what each begins with, and whether it is cut.
 ghost use Rattle.std.specs.Prelude.{◌≡◌, ◌+◌, ◌≤◌};
-ghost use Rattle.parlog.specs.Records.{recordEnd, kindAt, cut};
+ghost use Rattle.parlog.specs.Records.{record_end, kind_at, cut};
 
 use parlog::codes;
 
 // Where the record ends.
 pub fn end_at(s: &[u8], at: usize) -> usize
     requires { at ≤ 2147483648 }
-    ensures { (result ≡ recordEnd s.now at) × (result ≤ at + 65535) }
+    ensures { (result ≡ record_end s.now at) × (result ≤ at + 65535) }
 {
     at + place::word_at(s, at)
 }
@@ -15,7 +15,7 @@ pub fn end_at(s: &[u8], at: usize) -> usize
 // What the record is.
 pub fn kind_at(s: &[u8], at: usize) -> usize
     requires { at ≤ 2147483648 }
-    ensures { (result ≡ kindAt s.now at) × (result ≤ 65535) }
+    ensures { (result ≡ kind_at s.now at) × (result ≤ 65535) }
 {
     place::word_at(s, at + codes::RECORD_KIND)
 }

@@ -1,31 +1,31 @@
 -- Refusals and limits that are computed: their statements stand in specs/Instances and specs/CallInstances.
 use mathlib.Core.Path.{refl}
 use Rattle.parlog.proofs.Opened.{opened}
-use Rattle.parlog.specs.Cases.{emptyGoal}
+use Rattle.parlog.specs.Cases.{empty_goal}
 use Rattle.refusals.specs.CallInstances.{BytesShown, CountsTested, ImageFirst, NumbersTested, PlacesTested, RoomTold, RowsTested, SizesTested, SplitTested, StepsTold, SuppliesTold, WordsShown}
 use Rattle.refusals.specs.Instances.{BodiesRefused, CutsAndKindsRefused, LongsRefused, ManyRefused, NamesRefused, OrderOfTests, times}
 
 -- ---- refusals 1 to 7
 
-pub cutsAndKinds : CutsAndKindsRefused
-unfolding opened emptyGoal
-cutsAndKinds = (refl, refl, refl, refl, refl, refl, refl, refl, refl, refl)
+pub cuts_and_kinds : CutsAndKindsRefused
+unfolding opened empty_goal
+cuts_and_kinds = (refl, refl, refl, refl, refl, refl, refl, refl, refl, refl)
 
 pub bodies : BodiesRefused
-unfolding opened emptyGoal times
+unfolding opened empty_goal times
 bodies = (refl, refl, refl, refl, refl, refl, refl, refl, refl, refl, refl, refl, refl, refl, refl, refl, refl, refl, refl, refl, refl, refl, refl, refl, refl)
 
 pub names : NamesRefused
-unfolding opened emptyGoal times
+unfolding opened empty_goal times
 names = (refl, refl, refl, refl, refl, refl, refl, refl, refl, refl, refl, refl, refl, refl)
 
 pub many : ManyRefused
-unfolding opened emptyGoal times
+unfolding opened empty_goal times
 many = (refl, refl, refl, refl, refl, refl, refl, refl)
 
-pub testOrder : OrderOfTests
+pub test_order : OrderOfTests
 unfolding opened times
-testOrder = (refl, refl, refl, refl, refl, refl, refl)
+test_order = (refl, refl, refl, refl, refl, refl, refl)
 
 pub longs : LongsRefused
 unfolding opened

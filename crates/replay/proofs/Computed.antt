@@ -2,27 +2,27 @@
 use mathlib.Core.Path.{refl}
 use Prim.Native.Nat.{ℕ}
 use Rattle.parlog.proofs.Opened.{opened}
-use Rattle.replay.specs.Instances.{Disagrees, ReplayedSo, same, TraceBytes, traceFrom, TraceRefused}
-use Rattle.replay.specs.Replay.{playFrom, playRecord, replayCall}
-use Rattle.trace.specs.Trace.{firstFault, firstGap, recordBytes, recordFault, traceTested}
+use Rattle.replay.specs.Instances.{Disagrees, ReplayedSo, same, TraceBytes, trace_from, TraceRefused}
+use Rattle.replay.specs.Replay.{play_from, play_record, replay_call}
+use Rattle.trace.specs.Trace.{first_fault, first_gap, record_bytes, record_fault, trace_tested}
 
 -- opens the definitions of a replay
-unfoldable alsoOpened : ℕ
-unfolding same traceFrom recordBytes recordFault firstFault firstGap traceTested playRecord playFrom replayCall
-alsoOpened = 0
+unfoldable also_opened : ℕ
+unfolding same trace_from record_bytes record_fault first_fault first_gap trace_tested play_record play_from replay_call
+also_opened = 0
 
-pub traceBytes : TraceBytes
-unfolding opened alsoOpened
-traceBytes = (refl, refl, refl, refl, refl, refl)
+pub trace_bytes : TraceBytes
+unfolding opened also_opened
+trace_bytes = (refl, refl, refl, refl, refl, refl)
 
-pub replayedSo : ReplayedSo
-unfolding opened alsoOpened
-replayedSo = ((refl, refl), (refl, refl), (refl, refl))
+pub replayed_so : ReplayedSo
+unfolding opened also_opened
+replayed_so = ((refl, refl), (refl, refl), (refl, refl))
 
-pub disagreesSo : Disagrees
-unfolding opened alsoOpened
-disagreesSo = ((refl, refl), refl, refl, (refl, refl), (refl, refl), (refl, refl))
+pub disagrees_so : Disagrees
+unfolding opened also_opened
+disagrees_so = ((refl, refl), refl, refl, (refl, refl), (refl, refl), (refl, refl))
 
-pub traceRefused : TraceRefused
-unfolding opened alsoOpened
-traceRefused = ((refl, refl), (refl, refl), (refl, refl), (refl, refl), (refl, refl), refl, refl)
+pub trace_refused : TraceRefused
+unfolding opened also_opened
+trace_refused = ((refl, refl), (refl, refl), (refl, refl), (refl, refl), (refl, refl), refl, refl)

@@ -10,22 +10,22 @@ use native.Mathlib.Omega.{arith}
 use Rattle.entry.proofs.Entering.{lent-inside}
 use Rattle.entry.proofs.Held.{count-procs, put-good, put-read, same-lent}
 use Rattle.entry.specs.Entered.{EnterSays, Inside}
-use Rattle.load.specs.Fields.{refusalOf}
+use Rattle.load.specs.Fields.{refusal_of}
 use Rattle.machine.proofs.Giving.{decided-asked, supply-given}
-use Rattle.machine.specs.Supplying.{asked_of, DecidedSays, givenBy}
+use Rattle.machine.specs.Supplying.{asked_of, DecidedSays, given_by}
 use Rattle.parlog.proofs.Assume.{sizes-full}
 use Rattle.parlog.proofs.Bools.{and-true, never}
 use Rattle.parlog.proofs.Kept.{supply-keeps}
 use Rattle.parlog.specs.Calls.{enter}
 use Rattle.parlog.specs.Limits.{Limits, Usable}
 use Rattle.parlog.specs.Load.{refusal}
-use Rattle.parlog.specs.Numbers.{refusedAs, ruleNumber, word}
+use Rattle.parlog.specs.Numbers.{refused_as, rule_number, word}
 use Rattle.parlog.specs.Program.{Program, program_of}
-use Rattle.parlog.specs.Records.{kindAt}
-use Rattle.parlog.specs.Run.{given, made, procsIn, stepTables, supplied, Supplying, supplyTables, supplyValue, ungiven}
+use Rattle.parlog.specs.Records.{kind_at}
+use Rattle.parlog.specs.Run.{given, made, procs_in, step_tables, supplied, Supplying, supply_tables, supply_value, ungiven}
 use Rattle.parlog.specs.Scan.{every}
-use Rattle.parlog.specs.TableRules.{cellKnown, fullSize, lentOk, tablesOk}
-use Rattle.parlog.specs.Tables.{at, Lent, lent, procCount, putTables, Tables, tablesIn, varCount, varsIn}
+use Rattle.parlog.specs.TableRules.{cell_known, full_size, lent_ok, tables_ok}
+use Rattle.parlog.specs.Tables.{at, Lent, lent, proc_count, put_tables, Tables, tables_in, var_count, vars_in}
 use Rattle.parlog.specs.Unify.{value}
 use Rattle.parlog.specs.declared.Binding.TheVariants.{Bound}
 use Rattle.parlog.specs.declared.Loaded.{Loaded}
@@ -37,30 +37,30 @@ use Rattle.parlog.specs.declared.Supplied.{Supplied}
 use Rattle.parlog.specs.declared.Supplied.TheVariants.{Given, Ungiven}
 use Rattle.parlog.specs.declared.Term.{Term}
 use Rattle.parlog.specs.declared.Term.TheVariants.{Const, Var}
-use Rattle.replay.specs.Replay.{agreed_by, disagrees, faultOf, isPlayed, PlayedSays, playFrom, PlayGoing, Playing, playOn, playRecord, plays, PlaysSay, playStep, playSupply, replayCall, replayNumbers, ReplaySays, replayTested, replayTold, tablesPlayed}
+use Rattle.replay.specs.Replay.{agreed_by, disagrees, fault_of, is_played, PlayedSays, play_from, PlayGoing, Playing, play_on, play_record, plays, PlaysSay, play_step, play_supply, replay_call, replay_numbers, ReplaySays, replay_tested, replay_told, tables_played}
 use Rattle.replay.specs.declared.Replayed.{Replayed}
 use Rattle.replay.specs.declared.Replayed.TheVariants.{Replays, Unreplayed}
 use Rattle.rows.proofs.Tables.{procs-four}
 use Rattle.rows.specs.Rows.{Bytes, Four}
 use Rattle.run.proofs.Runs.{grown-same, grown-then, one_less}
 use Rattle.run.specs.Running.{Grown}
-use Rattle.step.specs.Stepping.{PlannedSays, stepIn, step_of, SteppedSays}
+use Rattle.step.specs.Stepping.{PlannedSays, step_in, step_of, SteppedSays}
 use Rattle.step.specs.declared.Planning.{Planning}
-use Rattle.trace.specs.Trace.{stepKind, TestedSays, traceSize, whatAt, whoAt}
+use Rattle.trace.specs.Trace.{step_kind, TestedSays, trace_size, what_at, who_at}
 use Rattle.trace.specs.declared.Tested.{Tested}
 use Rattle.trace.specs.declared.Tested.TheVariants.{Faulty, Records}
 use Rattle.vars.specs.Cells.{Cells}
 use Rattle.words.proofs.Fitting.{step-within}
 use Rattle.words.specs.Fits.{MoveWithin}
-use Rattle.words.specs.Nights.{toldOffset, toldRefusal}
+use Rattle.words.specs.Nights.{told_offset, told_refusal}
 
 -- ---- one record
 
-played-so : (p : Playing) (t : Tables) → isPlayed p ≡ true → p ≡ plays (tablesPlayed p t)
+played-so : (p : Playing) (t : Tables) → is_played p ≡ true → p ≡ plays (tables_played p t)
 played-so disagrees t e = never e
 played-so (plays t') t e = refl
 
-played-not : (p : Playing) → isPlayed p ≡ false → p ≡ disagrees
+played-not : (p : Playing) → is_played p ≡ false → p ≡ disagrees
 played-not disagrees e = refl
 played-not (plays t) e = never (sym e)
 
@@ -69,7 +69,7 @@ pub agreed-not : (k : ℕ) (m : Move) (rule : ℕ) → (k ≡ 0 → ⊥) → fal
 agreed-not zero m rule h = absurd (h refl)
 agreed-not (suc k) m rule h = refl
 
-pub agreed-by : (k : ℕ) (m : Move) (rule : ℕ) → k ≡ 0 → {w : ℕ} → w ≡ ruleNumber m → eqb w rule ≡ agreed_by k m rule
+pub agreed-by : (k : ℕ) (m : Move) (rule : ℕ) → k ≡ 0 → {w : ℕ} → w ≡ rule_number m → eqb w rule ≡ agreed_by k m rule
 agreed-by k m rule z e = rw (z, e)
 
 module _ (lim : Limits) (s : List ℕ) (r c : ℕ) (l : Lent) (i : Inside lim s r c l) where
@@ -78,47 +78,47 @@ module _ (lim : Limits) (s : List ℕ) (r c : ℕ) (l : Lent) (i : Inside lim s 
   plays-not hs ps vs e = record { answer = rw e; tables = rw e; inside = i; holds = grown-same l i hs ps vs }
 
   -- one that agrees leaves its tables
-  plays-so : {p : Playing} {l' : Lent} → p ≡ plays (tablesIn l') → Inside lim s r c l' → Grown l l' → PlaysSay lim s r c l p true l'
+  plays-so : {p : Playing} {l' : Lent} → p ≡ plays (tables_in l') → Inside lim s r c l' → Grown l l' → PlaysSay lim s r c l p true l'
   plays-so e j g = record { answer = rw e; tables = rw e; inside = j; holds = g }
 
   -- ---- a step
 
   -- there is no such process
-  pub step-nobody : (p rule : ℕ) {n : ℕ} → n ≡ procCount l.head → n ≤ p → playStep (stepTables lim (program_of s r c) (tablesIn l) p) rule ≡ disagrees
-  unfolding stepTables
-  step-nobody p rule en h = let past = le-ltb p (procsIn (tablesIn l)) (omega (arith, count-procs l, en)) in rw past
+  pub step-nobody : (p rule : ℕ) {n : ℕ} → n ≡ proc_count l.head → n ≤ p → play_step (step_tables lim (program_of s r c) (tables_in l) p) rule ≡ disagrees
+  unfolding step_tables
+  step-nobody p rule en h = let past = le-ltb p (procs_in (tables_in l)) (omega (arith, count-procs l, en)) in rw past
 
   module _ (p rule : ℕ) {d : Planning} (says : PlannedSays lim s r c l p d) where
     -- the move of a step that is made touched a process that can be told
     pub step-told : Usable lim → d.number ≡ 0 → MoveWithin 4294967295 d.plan.mv
-    step-told ok z = let w = step-within lim ok (program_of s r c) (tablesIn l) (omega (arith, count-procs l, i.procs-most)) p in rw (says.step, z) at w
+    step-told ok z = let w = step-within lim ok (program_of s r c) (tables_in l) (omega (arith, count-procs l, i.procs_most)) p in rw (says.step, z) at w
 
     module _ {b : Bool} (eb : b ≡ agreed_by d.number d.plan.mv rule) where
-      pub step-not : b ≡ false → playStep (stepTables lim (program_of s r c) (tablesIn l) p) rule ≡ disagrees
+      pub step-not : b ≡ false → play_step (step_tables lim (program_of s r c) (tables_in l) p) rule ≡ disagrees
       step-not e = rw says.step (go d.number (sym eb ∙ e))
         where
-          go : (k : ℕ) → agreed_by k d.plan.mv rule ≡ false → playStep (step_of k d.plan (tablesIn l) p) rule ≡ disagrees
+          go : (k : ℕ) → agreed_by k d.plan.mv rule ≡ false → play_step (step_of k d.plan (tables_in l) p) rule ≡ disagrees
           go zero q = rw q
           go (suc k) q = refl
 
-      pub step-agreed : b ≡ true → (d.number ≡ 0) × (eqb (ruleNumber d.plan.mv) rule ≡ true)
+      pub step-agreed : b ≡ true → (d.number ≡ 0) × (eqb (rule_number d.plan.mv) rule ≡ true)
       step-agreed e = go d.number (sym eb ∙ e)
         where
-          go : (k : ℕ) → agreed_by k d.plan.mv rule ≡ true → (k ≡ 0) × (eqb (ruleNumber d.plan.mv) rule ≡ true)
+          go : (k : ℕ) → agreed_by k d.plan.mv rule ≡ true → (k ≡ 0) × (eqb (rule_number d.plan.mv) rule ≡ true)
           go zero q = (refl, q)
           go (suc k) q = never q
 
       pub step-plays : b ≡ true → {h ps vs : List ℕ} → SteppedSays lim s r c l p (Moved d.plan.mv) h ps vs
-          → PlaysSay lim s r c l (playStep (stepTables lim (program_of s r c) (tablesIn l) p) rule) true (lent h ps vs)
+          → PlaysSay lim s r c l (play_step (step_tables lim (program_of s r c) (tables_in l) p) rule) true (lent h ps vs)
       step-plays e {h} {ps} {vs} x =
           let a = step-agreed e in
-          let z = says.step ∙ ap (λ (k : ℕ). step_of k d.plan (tablesIn l) p) a.0 in
+          let z = says.step ∙ ap (λ (k : ℕ). step_of k d.plan (tables_in l) p) a.0 in
           let t = rw z at x.tables in
-          let y : stepIn lim s r c l p ≡ made d.plan.mv (tablesIn (lent h ps vs)) = rw t z in
-          let eh : h ≡ (putTables l (tablesIn (lent h ps vs))).head = rw y at x.head in
-          let ep : ps ≡ (putTables l (tablesIn (lent h ps vs))).procs = rw y at x.procs in
-          let ev : vs ≡ (putTables l (tablesIn (lent h ps vs))).vars = rw y at x.vars in
-          plays-so (rw (y, a.1)) x.inside (record { head = eh; procs = ep; vars = ev; more-procs = x.more-procs; more-vars = x.more-vars })
+          let y : step_in lim s r c l p ≡ made d.plan.mv (tables_in (lent h ps vs)) = rw t z in
+          let eh : h ≡ (put_tables l (tables_in (lent h ps vs))).head = rw y at x.head in
+          let ep : ps ≡ (put_tables l (tables_in (lent h ps vs))).procs = rw y at x.procs in
+          let ev : vs ≡ (put_tables l (tables_in (lent h ps vs))).vars = rw y at x.vars in
+          plays-so (rw (y, a.1)) x.inside (record { head = eh; procs = ep; vars = ev; more_procs = x.more_procs; more_vars = x.more_vars })
 
   -- ---- a supply
 
@@ -128,86 +128,86 @@ module _ (lim : Limits) (s : List ℕ) (r c : ℕ) (l : Lent) (i : Inside lim s 
 
 -- what is asked is what is supplied
 abbrev As : Supplied → Supplying → Tables → ℕ → Type 0
-As (Ungiven f) x t k = playSupply x ≡ disagrees
+As (Ungiven f) x t k = play_supply x ≡ disagrees
 As (Given w) x t k = x ≡ given w (supplied t w k)
 
-as-asked : (pr : Program) (t : Tables) (v k : ℕ) → As (asked_of pr t.state.vars v k) (supplyTables pr t v k) t k
-unfolding asked_of supplyTables
-as-asked pr t v k = by (ltb v pr.goalVars) (leb k 32767)
+as-asked : (pr : Program) (t : Tables) (v k : ℕ) → As (asked_of pr t.state.vars v k) (supply_tables pr t v k) t k
+unfolding asked_of supply_tables
+as-asked pr t v k = by (ltb v pr.goal_vars) (leb k 32767)
   where
-    term : (u : Term) → As (givenBy u) (supplyValue u t k) t k
-    term (Const j) = unfold supplyValue in refl
-    term (Var w) = unfold supplyValue in refl
+    term : (u : Term) → As (given_by u) (supply_value u t k) t k
+    term (Const j) = unfold supply_value in refl
+    term (Var w) = unfold supply_value in refl
 
-    by : (x y : Bool) → As (cond x (cond y (givenBy (value t.state.vars (Var v))) (Ungiven (refusal 14 0))) (Ungiven (refusal 12 0))) (cond x (cond y (supplyValue (value t.state.vars (Var v)) t k) (ungiven 14)) (ungiven 12)) t k
+    by : (x y : Bool) → As (cond x (cond y (given_by (value t.state.vars (Var v))) (Ungiven (refusal 14 0))) (Ungiven (refusal 12 0))) (cond x (cond y (supply_value (value t.state.vars (Var v)) t k) (ungiven 14)) (ungiven 12)) t k
     by false y = refl
     by true false = refl
     by true true = term (value t.state.vars (Var v))
 
-module _ (lim : Limits) (s : List ℕ) (r c : ℕ) (l : Lent) (i : Inside lim s r c l) (v k : ℕ) {a : Supplied} (ea : a ≡ asked_of (program_of s r c) (varsIn l.vars (varCount l.head)) v k) where
+module _ (lim : Limits) (s : List ℕ) (r c : ℕ) (l : Lent) (i : Inside lim s r c l) (v k : ℕ) {a : Supplied} (ea : a ≡ asked_of (program_of s r c) (vars_in l.vars (var_count l.head)) v k) where
   abbrev pr : Program
   pr = program_of s r c
 
-  asked_here : As a (supplyTables (program_of s r c) (tablesIn l) v k) (tablesIn l) k
-  unfolding tablesIn
-  asked_here = rw ea (as-asked pr (tablesIn l) v k)
+  asked_here : As a (supply_tables (program_of s r c) (tables_in l) v k) (tables_in l) k
+  unfolding tables_in
+  asked_here = rw ea (as-asked pr (tables_in l) v k)
 
-  pub supply-not : {f : Refusal} → a ≡ Ungiven f → playSupply (supplyTables (program_of s r c) (tablesIn l) v k) ≡ disagrees
+  pub supply-not : {f : Refusal} → a ≡ Ungiven f → play_supply (supply_tables (program_of s r c) (tables_in l) v k) ≡ disagrees
   supply-not e = rw e at asked_here
 
   pub supply-decided : DecidedSays lim s l v k a
   supply-decided = decided-asked lim s l v k (enters lim s r c l i) refl ea
 
-  kept : tablesOk lim pr (tablesIn l) ≡ true
-  unfolding lentOk
+  kept : tables_ok lim pr (tables_in l) ≡ true
+  unfolding lent_ok
   kept =
-      let x = and-true (fullSize lim l) (every (cellKnown l.vars) (varCount l.head) && tablesOk lim pr (tablesIn l)) i.good in
-      (and-true (every (cellKnown l.vars) (varCount l.head)) (tablesOk lim pr (tablesIn l)) x.1).1
+      let x = and-true (full_size lim l) (every (cell_known l.vars) (var_count l.head) && tables_ok lim pr (tables_in l)) i.good in
+      (and-true (every (cell_known l.vars) (var_count l.head)) (tables_ok lim pr (tables_in l)) x.1).1
 
   module _ {w : ℕ} (e : a ≡ Given w) where
     abbrev after : Tables
-    after = supplied (tablesIn l) w k
+    after = supplied (tables_in l) w k
 
-    given_so : supplyTables pr (tablesIn l) v k ≡ given w after
+    given_so : supply_tables pr (tables_in l) v k ≡ given w after
     given_so = rw e at asked_here
 
     fours : (j : ℕ) → j < length after.state.procs → Four (at after.state.procs j)
-    unfolding supplied tablesIn
-    fours j h = procs-four l.procs (procCount l.head) j
+    unfolding supplied tables_in
+    fours j h = procs-four l.procs (proc_count l.head) j
 
-    full : fullSize lim l ≡ true
-    full = sizes-full lim l i.head i.procs-size i.vars-size
+    full : full_size lim l ≡ true
+    full = sizes-full lim l i.head i.procs_size i.vars_size
 
-    after-ok : tablesOk lim pr after ≡ true
-    after-ok = supply-keeps lim pr (tablesIn l) after v k w kept given_so
+    after-ok : tables_ok lim pr after ≡ true
+    after-ok = supply-keeps lim pr (tables_in l) after v k w kept given_so
 
-    pub supply-plays : {n : ℕ} {m : List ℕ} → n ≡ varCount l.head → Cells n l.vars m (set (varsIn l.vars n) w (Bound (Const k)))
-        → Bytes l.head → Bytes l.procs → Bytes m → PlaysSay lim s r c l (playSupply (supplyTables (program_of s r c) (tablesIn l) v k)) true (lent l.head l.procs m)
+    pub supply-plays : {n : ℕ} {m : List ℕ} → n ≡ var_count l.head → Cells n l.vars m (set (vars_in l.vars n) w (Bound (Const k)))
+        → Bytes l.head → Bytes l.procs → Bytes m → PlaysSay lim s r c l (play_supply (supply_tables (program_of s r c) (tables_in l) v k)) true (lent l.head l.procs m)
     supply-plays {n} {m} en t hs ps ms =
         let x = supply-given lim s l v k supply-decided e en t hs ps ms in
         let q = rw e at supply-decided.call in
-        let eh : l.head ≡ (putTables l after).head = rw q at x.head in
-        let ep : l.procs ≡ (putTables l after).procs = rw q at x.procs in
-        let ev : m ≡ (putTables l after).vars = rw q at x.vars in
-        let is : lent l.head l.procs m ≡ putTables l after = same-lent (lent l.head l.procs m) (putTables l after) eh ep ev in
-        let read : tablesIn (lent l.head l.procs m) ≡ after = ap tablesIn is ∙ put-read lim pr l after full after-ok fours in
-        let good : lentOk lim pr (lent l.head l.procs m) ≡ true = ap (λ (y : Lent). lentOk lim pr y) is ∙ put-good lim pr l after full after-ok fours in
-        let so : playSupply (supplyTables pr (tablesIn l) v k) ≡ plays (tablesIn (lent l.head l.procs m)) = rw (given_so, read) in
+        let eh : l.head ≡ (put_tables l after).head = rw q at x.head in
+        let ep : l.procs ≡ (put_tables l after).procs = rw q at x.procs in
+        let ev : m ≡ (put_tables l after).vars = rw q at x.vars in
+        let is : lent l.head l.procs m ≡ put_tables l after = same-lent (lent l.head l.procs m) (put_tables l after) eh ep ev in
+        let read : tables_in (lent l.head l.procs m) ≡ after = ap tables_in is ∙ put-read lim pr l after full after-ok fours in
+        let good : lent_ok lim pr (lent l.head l.procs m) ≡ true = ap (λ (y : Lent). lent_ok lim pr y) is ∙ put-good lim pr l after full after-ok fours in
+        let so : play_supply (supply_tables pr (tables_in l) v k) ≡ plays (tables_in (lent l.head l.procs m)) = rw (given_so, read) in
         plays-so lim s r c l i so (lent-inside lim s r c (lent l.head l.procs m) i.loaded i.relations i.clauses good)
-        (record { head = rw read eh; procs = rw read ep; vars = rw read ev; more-procs = omega arith; more-vars = omega arith })
+        (record { head = rw read eh; procs = rw read ep; vars = rw read ev; more_procs = omega arith; more_vars = omega arith })
 
 -- ---- the record
 
-module _ (lim : Limits) (s : List ℕ) (r c : ℕ) (l : Lent) (trace : List ℕ) (place : ℕ) {kind who what : ℕ} (ek : kind ≡ kindAt trace place) (ew : who ≡ whoAt trace place) (et : what ≡ whatAt trace place) where
-  pub record-step : kind ≡ stepKind → {b : Bool} {l' : Lent} → PlaysSay lim s r c l (playStep (stepTables lim (program_of s r c) (tablesIn l) who) what) b l'
-      → PlaysSay lim s r c l (playRecord lim (program_of s r c) trace place (tablesIn l)) b l'
-  unfolding playRecord
-  record-step e x = let q = eq-eqb (kindAt trace place) stepKind (sym ek ∙ e) in rw q (rw (ew, et) at x)
+module _ (lim : Limits) (s : List ℕ) (r c : ℕ) (l : Lent) (trace : List ℕ) (place : ℕ) {kind who what : ℕ} (ek : kind ≡ kind_at trace place) (ew : who ≡ who_at trace place) (et : what ≡ what_at trace place) where
+  pub record-step : kind ≡ step_kind → {b : Bool} {l' : Lent} → PlaysSay lim s r c l (play_step (step_tables lim (program_of s r c) (tables_in l) who) what) b l'
+      → PlaysSay lim s r c l (play_record lim (program_of s r c) trace place (tables_in l)) b l'
+  unfolding play_record
+  record-step e x = let q = eq-eqb (kind_at trace place) step_kind (sym ek ∙ e) in rw q (rw (ew, et) at x)
 
-  pub record-supply : (kind ≡ stepKind → ⊥) → {b : Bool} {l' : Lent} → PlaysSay lim s r c l (playSupply (supplyTables (program_of s r c) (tablesIn l) who what)) b l'
-      → PlaysSay lim s r c l (playRecord lim (program_of s r c) trace place (tablesIn l)) b l'
-  unfolding playRecord
-  record-supply e x = let q = ne_eqb (kindAt trace place) stepKind (λ z. e (ek ∙ z)) in rw q (rw (ew, et) at x)
+  pub record-supply : (kind ≡ step_kind → ⊥) → {b : Bool} {l' : Lent} → PlaysSay lim s r c l (play_supply (supply_tables (program_of s r c) (tables_in l) who what)) b l'
+      → PlaysSay lim s r c l (play_record lim (program_of s r c) trace place (tables_in l)) b l'
+  unfolding play_record
+  record-supply e x = let q = ne_eqb (kind_at trace place) step_kind (λ z. e (ek ∙ z)) in rw q (rw (ew, et) at x)
 
 -- ---- the loop
 
@@ -217,78 +217,78 @@ module _ (lim : Limits) (s : List ℕ) (r c : ℕ) (l₀ : Lent) (trace : List �
 
   pub play-start : Bytes l₀.head → Bytes l₀.procs → Bytes l₀.vars → PlayGoing lim s r c l₀ l₀ trace n 0
   play-start hs ps vs =
-      record { inside = i₀; most = omega arith; rest = ap (λ (k : ℕ). playFrom k lim prog trace 0 (tablesIn l₀)) (omega arith); holds = grown-same l₀ i₀ hs ps vs }
+      record { inside = i₀; most = omega arith; rest = ap (λ (k : ℕ). play_from k lim prog trace 0 (tables_in l₀)) (omega arith); holds = grown-same l₀ i₀ hs ps vs }
 
-  comes-to : (l : Lent) (k : ℕ) → Grown l₀ l → k ≤ n → playFrom n lim prog trace 0 (tablesIn l₀) ≡ record { records = k; tables = tablesIn l } → PlayedSays lim s r c l₀ trace n k l
+  comes-to : (l : Lent) (k : ℕ) → Grown l₀ l → k ≤ n → play_from n lim prog trace 0 (tables_in l₀) ≡ record { records = k; tables = tables_in l } → PlayedSays lim s r c l₀ trace n k l
   comes-to l k g m z = record { count = rw z; head = rw z g.head; procs = rw z g.procs; vars = rw z g.vars; most = m }
 
   module _ (l : Lent) (k : ℕ) (g : PlayGoing lim s r c l₀ l trace n k) where
     pub play-done : n ≤ k → PlayedSays lim s r c l₀ trace n k l
     play-done h =
         let e : n - k ≡ 0 = omega (arith, g.most) in
-        comes-to l k g.holds g.most (g.rest ∙ rw e (unfold playFrom in refl))
+        comes-to l k g.holds g.most (g.rest ∙ rw e (unfold play_from in refl))
 
-    module _ (below : k < n) {b : Bool} {l' : Lent} (x : PlaysSay lim s r c l (playRecord lim (program_of s r c) trace (k * traceSize) (tablesIn l)) b l') where
-      next : playFrom (n - k) lim prog trace k (tablesIn l) ≡ playOn (playRecord lim prog trace (k * traceSize) (tablesIn l)) k (tablesIn l) (λ t. playFrom (n - (k + 1)) lim prog trace (suc k) t)
-      next = rw (one_less n k below) (unfold playFrom in refl)
+    module _ (below : k < n) {b : Bool} {l' : Lent} (x : PlaysSay lim s r c l (play_record lim (program_of s r c) trace (k * trace_size) (tables_in l)) b l') where
+      next : play_from (n - k) lim prog trace k (tables_in l) ≡ play_on (play_record lim prog trace (k * trace_size) (tables_in l)) k (tables_in l) (λ t. play_from (n - (k + 1)) lim prog trace (suc k) t)
+      next = rw (one_less n k below) (unfold play_from in refl)
 
       grows : Grown l₀ l'
       grows = grown-then l₀ l l' i₀ g.inside x.inside g.holds x.holds
 
       pub play-stops : b ≡ false → PlayedSays lim s r c l₀ trace n k l'
       play-stops e =
-          let p = played-not (playRecord lim prog trace (k * traceSize) (tablesIn l)) (sym x.answer ∙ e) in
-          let t : tablesIn l' ≡ tablesIn l = rw p at x.tables in
+          let p = played-not (play_record lim prog trace (k * trace_size) (tables_in l)) (sym x.answer ∙ e) in
+          let t : tables_in l' ≡ tables_in l = rw p at x.tables in
           comes-to l' k grows g.most (g.rest ∙ next ∙ rw (p, t))
 
       pub play-goes : b ≡ true → PlayGoing lim s r c l₀ l' trace n (k + 1)
       play-goes e =
-          let p = played-so (playRecord lim prog trace (k * traceSize) (tablesIn l)) (tablesIn l) (sym x.answer ∙ e) in
-          let q : playRecord lim prog trace (k * traceSize) (tablesIn l) ≡ plays (tablesIn l') = p ∙ ap plays (sym x.tables) in
+          let p = played-so (play_record lim prog trace (k * trace_size) (tables_in l)) (tables_in l) (sym x.answer ∙ e) in
+          let q : play_record lim prog trace (k * trace_size) (tables_in l) ≡ plays (tables_in l') = p ∙ ap plays (sym x.tables) in
           record {
             inside = x.inside;
             most = omega arith;
-            rest = g.rest ∙ next ∙ rw q (ap (λ (j : ℕ). playFrom (n - (k + 1)) lim prog trace j (tablesIn l')) (omega arith));
+            rest = g.rest ∙ next ∙ rw q (ap (λ (j : ℕ). play_from (n - (k + 1)) lim prog trace j (tables_in l')) (omega arith));
             holds = grows;
           }
 
 -- ---- the call
 
-pub told-all : (k n : ℕ) → k ≡ n → Replays k ≡ replayTold (eqb k n) k
+pub told-all : (k n : ℕ) → k ≡ n → Replays k ≡ replay_told (eqb k n) k
 told-all k n e = rw (eq-eqb k n e)
 
-pub told-not : (k n : ℕ) → (k ≡ n → ⊥) → Unreplayed (record { number = 20; offset = k * traceSize }) ≡ replayTold (eqb k n) k
+pub told-not : (k n : ℕ) → (k ≡ n → ⊥) → Unreplayed (record { number = 20; offset = k * trace_size }) ≡ replay_told (eqb k n) k
 told-not k n e = rw (ne_eqb k n e)
 
 module _ (lim : Limits) (s : List ℕ) (r c : ℕ) (l : Lent) (i : Inside lim s r c l) (trace : List ℕ) {t : Tested} (says : TestedSays trace t) where
-  call-is : replayCall lim s l trace ≡ replayTested t lim (program_of s r c) trace l
-  unfolding replayCall
+  call-is : replay_call lim s l trace ≡ replay_tested t lim (program_of s r c) trace l
+  unfolding replay_call
   call-is = rw ((enters lim s r c l i).entry, ← says.tests)
 
-  pub replay-faulty : {f x : Refusal} → t ≡ Faulty f → x ≡ faultOf t → ReplaySays lim s l trace (Unreplayed x) l.head l.procs l.vars
+  pub replay-faulty : {f x : Refusal} → t ≡ Faulty f → x ≡ fault_of t → ReplaySays lim s l trace (Unreplayed x) l.head l.procs l.vars
   replay-faulty e ex =
-      let z = call-is ∙ ap (λ (y : Tested). replayTested y lim (program_of s r c) trace l) e in
+      let z = call-is ∙ ap (λ (y : Tested). replay_tested y lim (program_of s r c) trace l) e in
       record { answer = rw (z, ex, e); head = rw z; procs = rw z; vars = rw z }
 
-  pub replay-fits : {n : ℕ} → t ≡ Records n → n * traceSize ≡ length trace
+  pub replay-fits : {n : ℕ} → t ≡ Records n → n * trace_size ≡ length trace
   replay-fits e = rw e at says.fills
 
-  pub replay-played : {n k : ℕ} → t ≡ Records n → {l' : Lent} → PlayedSays lim s r c l trace n k l' → {a : Replayed} → a ≡ replayTold (eqb k n) k
+  pub replay-played : {n k : ℕ} → t ≡ Records n → {l' : Lent} → PlayedSays lim s r c l trace n k l' → {a : Replayed} → a ≡ replay_told (eqb k n) k
       → ReplaySays lim s l trace a l'.head l'.procs l'.vars
   replay-played e d ea =
-      let z = call-is ∙ ap (λ (y : Tested). replayTested y lim (program_of s r c) trace l) e in
+      let z = call-is ∙ ap (λ (y : Tested). replay_tested y lim (program_of s r c) trace l) e in
       record { answer = rw (z, ea, d.count); head = rw z d.head; procs = rw z d.procs; vars = rw z d.vars }
 
-pub replay-refused : (lim : Limits) (s : List ℕ) (l : Lent) (trace : List ℕ) {e : Loaded} → EnterSays lim s l e → {f x : Refusal} → e ≡ Refused f → x ≡ refusalOf e
+pub replay-refused : (lim : Limits) (s : List ℕ) (l : Lent) (trace : List ℕ) {e : Loaded} → EnterSays lim s l e → {f x : Refusal} → e ≡ Refused f → x ≡ refusal_of e
     → ReplaySays lim s l trace (Unreplayed x) l.head l.procs l.vars
-unfolding replayCall
+unfolding replay_call
 replay-refused lim s l trace says q ex = record { answer = rw (says.entry, ex, q); head = rw (says.entry, q); procs = rw (says.entry, q); vars = rw (says.entry, q) }
 
 -- ---- the word
 
 module _ {a : Replayed} {w : ℕ} where
-  pub word-played : {n m : ℕ} → a ≡ Replays n → m ≡ toldOffset n → w ≡ word (record { refused = 0; a = 0; b = 0; c = m }) → w ≡ word (replayNumbers a)
+  pub word-played : {n m : ℕ} → a ≡ Replays n → m ≡ told_offset n → w ≡ word (record { refused = 0; a = 0; b = 0; c = m }) → w ≡ word (replay_numbers a)
   word-played q k h = rw (h, k, q)
 
-  pub word-refused : {r t : Refusal} → a ≡ Unreplayed r → t ≡ toldRefusal r → w ≡ word (refusedAs t) → w ≡ word (replayNumbers a)
+  pub word-refused : {r t : Refusal} → a ≡ Unreplayed r → t ≡ told_refusal r → w ≡ word (refused_as t) → w ≡ word (replay_numbers a)
   word-refused q k h = rw (h, k, q)

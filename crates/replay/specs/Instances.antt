@@ -1,15 +1,15 @@
 -- Replays computed from bytes: c6 with A supplied as 1 once nothing can move, from the stamp 65,533 on, whole and damaged.
 -- ---- a trace from what each record tells
 use Rattle.std.specs.Prelude.{◌≡◌, ◌&&◌, Bool, false, true, [], ◌++◌, ◌∷◌, List, ◌*◌, ℕ, eqb, drop, length, set, take}
-use Rattle.parlog.specs.Calls.{runCall, startCall, supplyCall}
-use Rattle.parlog.specs.Cases.{askOne}
+use Rattle.parlog.specs.Calls.{run_call, start_call, supply_call}
+use Rattle.parlog.specs.Cases.{ask_one}
 use Rattle.parlog.specs.Limits.{Limits}
 use Rattle.parlog.specs.Load.{refusal}
-use Rattle.parlog.specs.Tables.{cellSize, headSize, Lent, lent, markerSteps, procCount, rowSize, zeros}
-use Rattle.replay.specs.Replay.{replayCall}
+use Rattle.parlog.specs.Tables.{cell_size, head_size, Lent, lent, marker_steps, proc_count, row_size, zeros}
+use Rattle.replay.specs.Replay.{replay_call}
 use Rattle.replay.specs.declared.Replayed.{Replayed}
 use Rattle.replay.specs.declared.Replayed.TheVariants.{Replays, Unreplayed}
-use Rattle.trace.specs.Trace.{following, recordBytes, stepKind, supplyKind}
+use Rattle.trace.specs.Trace.{following, record_bytes, step_kind, supply_kind}
 
 -- a record but for its stamp: process and rule of a step, variable and value of a supply
 pub data Line : Type 0 where
@@ -17,19 +17,19 @@ pub data Line : Type 0 where
   gives : ℕ → ℕ → Line
 
 -- Traces 1: with its stamp
-abbrev pub lineBytes : Line → ℕ → List ℕ
-lineBytes (steps p rule) stamp = recordBytes stepKind p rule stamp
-lineBytes (gives v value) stamp = recordBytes supplyKind v value stamp
+abbrev pub line_bytes : Line → ℕ → List ℕ
+line_bytes (steps p rule) stamp = record_bytes step_kind p rule stamp
+line_bytes (gives v value) stamp = record_bytes supply_kind v value stamp
 
 -- Traces 2: records one after the other, the first with this stamp
-unfoldable pub traceFrom : ℕ → List Line → List ℕ
-traceFrom stamp [] = []
-traceFrom stamp (x ∷ xs) = lineBytes x stamp ++ traceFrom (following stamp) xs
+unfoldable pub trace_from : ℕ → List Line → List ℕ
+trace_from stamp [] = []
+trace_from stamp (x ∷ xs) = line_bytes x stamp ++ trace_from (following stamp) xs
 
 -- ---- c6: mode q(?), fact q(1), goal q(A)
 
 abbrev pub asked : List ℕ
-asked = askOne 0 1
+asked = ask_one 0 1
 
 -- room for eight processes and four variables
 abbrev pub tiny : Limits
@@ -37,15 +37,15 @@ tiny = record { procs = 8; vars = 4 }
 
 -- the bytes after a start
 abbrev pub begun : Lent
-begun = (startCall tiny asked (lent (zeros headSize) (zeros (8 * rowSize)) (zeros (4 * cellSize)))).lent
+begun = (start_call tiny asked (lent (zeros head_size) (zeros (8 * row_size)) (zeros (4 * cell_size)))).lent
 
 -- after so many turns
 abbrev pub turned : ℕ → Lent
-turned n = (runCall tiny asked begun n).lent
+turned n = (run_call tiny asked begun n).lent
 
 -- where A is supplied as 1 after nine, and the goal has ended
 abbrev pub ended : Lent
-ended = (runCall tiny asked (supplyCall tiny asked (turned 9) 0 1).lent 100).lent
+ended = (run_call tiny asked (supply_call tiny asked (turned 9) 0 1).lent 100).lent
 
 -- the nine steps, the supply, and nine steps more
 abbrev pub lines : List Line
@@ -55,7 +55,7 @@ lines =
     ∷ steps 4 2 ∷ steps 4 26 ∷ steps 3 24 ∷ steps 2 21 ∷ steps 1 18 ∷ steps 0 12 ∷ steps 6 9 ∷ steps 0 13 ∷ steps 0 3 ∷ []
 
 abbrev pub trace : List ℕ
-trace = traceFrom 65533 lines
+trace = trace_from 65533 lines
 
 -- ten bytes from a place
 abbrev pub ten : ℕ → List ℕ
@@ -79,12 +79,12 @@ same (x ∷ xs) [] = false
 same (x ∷ xs) (y ∷ ys) = eqb x y && same xs ys
 
 -- the same in all three tables
-abbrev pub sameLent : Lent → Lent → Bool
-sameLent l m = same l.head m.head && (same l.procs m.procs && same l.vars m.vars)
+abbrev pub same_lent : Lent → Lent → Bool
+same_lent l m = same l.head m.head && (same l.procs m.procs && same l.vars m.vars)
 
 -- a replay of x on the tables l: its answer, and the tables afterwards
 abbrev pub Comes : Lent → List ℕ → Replayed → Lent → Type 0
-Comes l x a l' = ((replayCall tiny asked l x).answer ≡ a) × (sameLent (replayCall tiny asked l x).lent l' ≡ true)
+Comes l x a l' = ((replay_call tiny asked l x).answer ≡ a) × (same_lent (replay_call tiny asked l x).lent l' ≡ true)
 
 -- Traces 5, 6: the whole trace gives the run's tables; so does its end in mid-run; an empty one is played too
 abbrev pub ReplayedSo : Type 0
@@ -94,8 +94,8 @@ ReplayedSo = Comes begun trace (Replays 19) ended × Comes (turned 9) (drop 90 t
 abbrev pub Disagrees : Type 0
 Disagrees =
     Comes begun (set trace 76 26) (Unreplayed (refusal 20 70)) (turned 7)
-    × (procCount (turned 7).head ≡ 6)
-    × (markerSteps (turned 7).head ≡ 7)
+    × (proc_count (turned 7).head ≡ 6)
+    × (marker_steps (turned 7).head ≡ 7)
     × Comes begun (set trace 97 128) (Unreplayed (refusal 20 90)) (turned 9)
     × Comes begun (set trace 4 1) (Unreplayed (refusal 20 0)) begun
     × Comes (turned 7) trace (Unreplayed (refusal 20 0)) (turned 7)
@@ -108,5 +108,5 @@ TraceRefused =
     × Comes begun (set trace 182 34) (Unreplayed (refusal 3 180)) begun
     × Comes begun (set (set trace 188 0) 180 9) (Unreplayed (refusal 4 180)) begun
     × Comes begun (take 20 trace ++ take 75 (drop 30 trace)) (Unreplayed (refusal 2 90)) begun
-    × ((replayCall tiny asked (lent (zeros 10) begun.procs begun.vars) (take 95 trace)).answer ≡ Unreplayed (refusal 8 0))
-    × ((replayCall tiny (drop 1 asked) begun (take 95 trace)).answer ≡ Unreplayed (refusal 2 0))
+    × ((replay_call tiny asked (lent (zeros 10) begun.procs begun.vars) (take 95 trace)).answer ≡ Unreplayed (refusal 8 0))
+    × ((replay_call tiny (drop 1 asked) begun (take 95 trace)).answer ≡ Unreplayed (refusal 2 0))

@@ -1,23 +1,23 @@
 -- A replay: what playing a record comes to, and all records one after the other.
 use Rattle.std.specs.Prelude.{◌≡◌, Bool, cond, false, true, List, ◌*◌, ◌-◌, ◌≤◌, suc, zero, ℕ, eqb}
 use Rattle.entry.specs.Entered.{Inside}
-use Rattle.parlog.specs.Calls.{enter, entered, Entry, turned-away}
+use Rattle.parlog.specs.Calls.{enter, entered, Entry, turned_away}
 use Rattle.parlog.specs.Limits.{Limits}
 use Rattle.parlog.specs.Load.{refusal}
-use Rattle.parlog.specs.Numbers.{Numbers, refusedAs, ruleNumber}
+use Rattle.parlog.specs.Numbers.{Numbers, refused_as, rule_number}
 use Rattle.parlog.specs.Program.{Program, program_of}
-use Rattle.parlog.specs.Records.{kindAt}
-use Rattle.parlog.specs.Run.{given, made, Stepping, stepTables, Supplying, supplyTables, ungiven, unmade}
-use Rattle.parlog.specs.Tables.{Lent, putTables, Tables, tablesIn}
+use Rattle.parlog.specs.Records.{kind_at}
+use Rattle.parlog.specs.Run.{given, made, Stepping, step_tables, Supplying, supply_tables, ungiven, unmade}
+use Rattle.parlog.specs.Tables.{Lent, put_tables, Tables, tables_in}
 use Rattle.parlog.specs.declared.Move.{Move}
 use Rattle.parlog.specs.declared.Refusal.{Refusal}
 use Rattle.replay.specs.declared.Replayed.{Replayed}
 use Rattle.replay.specs.declared.Replayed.TheVariants.{Replays, Unreplayed}
 use Rattle.run.specs.Running.{Grown}
-use Rattle.trace.specs.Trace.{stepKind, traceSize, traceTested, whatAt, whoAt}
+use Rattle.trace.specs.Trace.{step_kind, trace_size, trace_tested, what_at, who_at}
 use Rattle.trace.specs.declared.Tested.{Tested}
 use Rattle.trace.specs.declared.Tested.TheVariants.{Faulty, Records}
-use Rattle.words.specs.Nights.{toldOffset, toldRefusal}
+use Rattle.words.specs.Nights.{told_offset, told_refusal}
 
 -- ---- one record
 
@@ -27,21 +27,21 @@ pub data Playing : Type 0 where
   plays : Tables → Playing
 
 -- Traces 5: a step agrees where it is made and its rule is the record's
-abbrev pub playStep : Stepping → ℕ → Playing
-playStep (unmade k) rule = disagrees
-playStep (made m t) rule = cond (eqb (ruleNumber m) rule) (plays t) disagrees
+abbrev pub play_step : Stepping → ℕ → Playing
+play_step (unmade k) rule = disagrees
+play_step (made m t) rule = cond (eqb (rule_number m) rule) (plays t) disagrees
 
 -- Traces 5: a supply agrees where it is made
-abbrev pub playSupply : Supplying → Playing
-playSupply (ungiven k) = disagrees
-playSupply (given v t) = plays t
+abbrev pub play_supply : Supplying → Playing
+play_supply (ungiven k) = disagrees
+play_supply (given v t) = plays t
 
 -- Traces 5: the record at this place, on these tables
-unfoldable pub playRecord : Limits → Program → List ℕ → ℕ → Tables → Playing
-playRecord lim pr s at t =
-    cond (eqb (kindAt s at) stepKind)
-    (playStep (stepTables lim pr t (whoAt s at)) (whatAt s at))
-    (playSupply (supplyTables pr t (whoAt s at) (whatAt s at)))
+unfoldable pub play_record : Limits → Program → List ℕ → ℕ → Tables → Playing
+play_record lim pr s at t =
+    cond (eqb (kind_at s at) step_kind)
+    (play_step (step_tables lim pr t (who_at s at)) (what_at s at))
+    (play_supply (supply_tables pr t (who_at s at) (what_at s at)))
 
 -- ---- all records
 
@@ -51,14 +51,14 @@ pub record Played : Type 0 where
   pub tables : Tables
 
 -- Traces 6: a record that disagrees leaves the tables of those before it, one that agrees is gone on from
-abbrev pub playOn : Playing → ℕ → Tables → (Tables → Played) → Played
-playOn disagrees k t go = record { records = k; tables = t }
-playOn (plays t') k t go = go t'
+abbrev pub play_on : Playing → ℕ → Tables → (Tables → Played) → Played
+play_on disagrees k t go = record { records = k; tables = t }
+play_on (plays t') k t go = go t'
 
 -- Traces 6: k records are played, n are left
-unfoldable pub playFrom : ℕ → Limits → Program → List ℕ → ℕ → Tables → Played
-playFrom zero lim pr s k t = record { records = k; tables = t }
-playFrom (suc n) lim pr s k t = playOn (playRecord lim pr s (k * traceSize) t) k t (λ t'. playFrom n lim pr s (suc k) t')
+unfoldable pub play_from : ℕ → Limits → Program → List ℕ → ℕ → Tables → Played
+play_from zero lim pr s k t = record { records = k; tables = t }
+play_from (suc n) lim pr s k t = play_on (play_record lim pr s (k * trace_size) t) k t (λ t'. play_from n lim pr s (suc k) t')
 
 -- ---- the call
 
@@ -68,59 +68,59 @@ pub record ReplayCall : Type 0 where
   pub lent : Lent
 
 -- Traces 6, 7: all n records agree, or 20 with the place of the one that does not
-abbrev pub replayTold : Bool → ℕ → Replayed
-replayTold true k = Replays k
-replayTold false k = Unreplayed (refusal 20 (k * traceSize))
+abbrev pub replay_told : Bool → ℕ → Replayed
+replay_told true k = Replays k
+replay_told false k = Unreplayed (refusal 20 (k * trace_size))
 
 -- Traces 6: the answer, and the tables
-abbrev pub replayAnswer : Played → ℕ → Lent → ReplayCall
-replayAnswer p n l = record { answer = replayTold (eqb p.records n) p.records; lent = putTables l p.tables }
+abbrev pub replay_answer : Played → ℕ → Lent → ReplayCall
+replay_answer p n l = record { answer = replay_told (eqb p.records n) p.records; lent = put_tables l p.tables }
 
 -- Traces 4: the whole trace is tested first
-abbrev pub replayTested : Tested → Limits → Program → List ℕ → Lent → ReplayCall
-replayTested (Faulty r) lim pr s l = record { answer = Unreplayed r; lent = l }
-replayTested (Records n) lim pr s l = replayAnswer (playFrom n lim pr s 0 (tablesIn l)) n l
+abbrev pub replay_tested : Tested → Limits → Program → List ℕ → Lent → ReplayCall
+replay_tested (Faulty r) lim pr s l = record { answer = Unreplayed r; lent = l }
+replay_tested (Records n) lim pr s l = replay_answer (play_from n lim pr s 0 (tables_in l)) n l
 
 -- Traces 4: and before it the image and the tables
-abbrev pub replayEntry : Entry → Limits → List ℕ → Lent → ReplayCall
-replayEntry (turned-away r) lim s l = record { answer = Unreplayed r; lent = l }
-replayEntry (entered pr t) lim s l = replayTested (traceTested s) lim pr s l
+abbrev pub replay_entry : Entry → Limits → List ℕ → Lent → ReplayCall
+replay_entry (turned_away r) lim s l = record { answer = Unreplayed r; lent = l }
+replay_entry (entered pr t) lim s l = replay_tested (trace_tested s) lim pr s l
 
 -- Traces 6: the replay of the trace s on the image and these tables
-unfoldable pub replayCall : Limits → List ℕ → Lent → List ℕ → ReplayCall
-replayCall lim image l s = replayEntry (enter lim image l) lim s l
+unfoldable pub replay_call : Limits → List ℕ → Lent → List ℕ → ReplayCall
+replay_call lim image l s = replay_entry (enter lim image l) lim s l
 
 -- Traces 6, 7, 8: the numbers of its answer: how many records were played, or the refusal and its place
-abbrev pub replayNumbers : Replayed → Numbers
-replayNumbers (Replays n) = record { refused = 0; a = 0; b = 0; c = toldOffset n }
-replayNumbers (Unreplayed r) = refusedAs (toldRefusal r)
+abbrev pub replay_numbers : Replayed → Numbers
+replay_numbers (Replays n) = record { refused = 0; a = 0; b = 0; c = told_offset n }
+replay_numbers (Unreplayed r) = refused_as (told_refusal r)
 
 -- ---- contracts
 
 -- the refusal of tests that fail
-abbrev pub faultOf : Tested → Refusal
-faultOf (Records n) = refusal 0 0
-faultOf (Faulty r) = r
+abbrev pub fault_of : Tested → Refusal
+fault_of (Records n) = refusal 0 0
+fault_of (Faulty r) = r
 
 -- a step that was decided: what refuses it, its move, and the rule of the record
 abbrev pub agreed_by : ℕ → Move → ℕ → Bool
-agreed_by zero m rule = eqb (ruleNumber m) rule
+agreed_by zero m rule = eqb (rule_number m) rule
 agreed_by (suc k) m rule = false
 
 -- it agrees
-abbrev pub isPlayed : Playing → Bool
-isPlayed disagrees = false
-isPlayed (plays t) = true
+abbrev pub is_played : Playing → Bool
+is_played disagrees = false
+is_played (plays t) = true
 
 -- the tables that it leaves: its own, or those that were there
-abbrev pub tablesPlayed : Playing → Tables → Tables
-tablesPlayed disagrees t = t
-tablesPlayed (plays t') t = t'
+abbrev pub tables_played : Playing → Tables → Tables
+tables_played disagrees t = t
+tables_played (plays t') t = t'
 
 -- one record played, in tables that keep the rules; they keep them afterwards
 pub record PlaysSay (lim : Limits) (s : List ℕ) (r c : ℕ) (l : Lent) (p : Playing) (agrees : Bool) (l' : Lent) : Type 0 where
-  pub answer : agrees ≡ isPlayed p
-  pub tables : tablesIn l' ≡ tablesPlayed p (tablesIn l)
+  pub answer : agrees ≡ is_played p
+  pub tables : tables_in l' ≡ tables_played p (tables_in l)
   pub inside : Inside lim s r c l'
   pub holds : Grown l l'
 
@@ -128,20 +128,20 @@ pub record PlaysSay (lim : Limits) (s : List ℕ) (r c : ℕ) (l : Lent) (p : Pl
 pub record PlayGoing (lim : Limits) (s : List ℕ) (r c : ℕ) (l₀ l : Lent) (trace : List ℕ) (n k : ℕ) : Type 0 where
   pub inside : Inside lim s r c l
   pub most : k ≤ n
-  pub rest : playFrom n lim (program_of s r c) trace 0 (tablesIn l₀) ≡ playFrom (n - k) lim (program_of s r c) trace k (tablesIn l)
+  pub rest : play_from n lim (program_of s r c) trace 0 (tables_in l₀) ≡ play_from (n - k) lim (program_of s r c) trace k (tables_in l)
   pub holds : Grown l₀ l
 
 -- Traces 6: all records played, in tables that keep the rules
 pub record PlayedSays (lim : Limits) (s : List ℕ) (r c : ℕ) (l : Lent) (trace : List ℕ) (n k : ℕ) (l' : Lent) : Type 0 where
-  pub count : k ≡ (playFrom n lim (program_of s r c) trace 0 (tablesIn l)).records
-  pub head : l'.head ≡ (putTables l (playFrom n lim (program_of s r c) trace 0 (tablesIn l)).tables).head
-  pub procs : l'.procs ≡ (putTables l (playFrom n lim (program_of s r c) trace 0 (tablesIn l)).tables).procs
-  pub vars : l'.vars ≡ (putTables l (playFrom n lim (program_of s r c) trace 0 (tablesIn l)).tables).vars
+  pub count : k ≡ (play_from n lim (program_of s r c) trace 0 (tables_in l)).records
+  pub head : l'.head ≡ (put_tables l (play_from n lim (program_of s r c) trace 0 (tables_in l)).tables).head
+  pub procs : l'.procs ≡ (put_tables l (play_from n lim (program_of s r c) trace 0 (tables_in l)).tables).procs
+  pub vars : l'.vars ≡ (put_tables l (play_from n lim (program_of s r c) trace 0 (tables_in l)).tables).vars
   pub most : k ≤ n
 
 -- the whole call
 pub record ReplaySays (lim : Limits) (s : List ℕ) (l : Lent) (trace : List ℕ) (a : Replayed) (h p v : List ℕ) : Type 0 where
-  pub answer : a ≡ (replayCall lim s l trace).answer
-  pub head : h ≡ (replayCall lim s l trace).lent.head
-  pub procs : p ≡ (replayCall lim s l trace).lent.procs
-  pub vars : v ≡ (replayCall lim s l trace).lent.vars
+  pub answer : a ≡ (replay_call lim s l trace).answer
+  pub head : h ≡ (replay_call lim s l trace).lent.head
+  pub procs : p ≡ (replay_call lim s l trace).lent.procs
+  pub vars : v ≡ (replay_call lim s l trace).lent.vars

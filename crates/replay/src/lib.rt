@@ -4,11 +4,11 @@ ghost use Rattle.entry.specs.Entered.{Inside};
 ghost use Rattle.parlog.specs.Limits.{small};
 ghost use Rattle.parlog.specs.Numbers.{word};
 ghost use Rattle.parlog.specs.Program.{program_of};
-ghost use Rattle.parlog.specs.Run.{stepTables, supplyTables};
-ghost use Rattle.parlog.specs.Tables.{lent, tablesIn};
+ghost use Rattle.parlog.specs.Run.{step_tables, supply_tables};
+ghost use Rattle.parlog.specs.Tables.{lent, tables_in};
 ghost use Rattle.program_index.specs.Indexed.{Indexed};
-ghost use Rattle.replay.specs.Replay.{PlayedSays, PlaysSay, ReplaySays, agreed_by, faultOf, playRecord, playStep, playSupply, replayNumbers, replayTold};
-ghost use Rattle.trace.specs.Trace.{traceSize};
+ghost use Rattle.replay.specs.Replay.{PlayedSays, PlaysSay, ReplaySays, agreed_by, fault_of, play_record, play_step, play_supply, replay_numbers, replay_told};
+ghost use Rattle.trace.specs.Trace.{trace_size};
 ghost use Rattle.words.specs.Fits.{MoveWithin};
 
 use parlog::{Loaded, Refusal, Supplied, Term, codes};
@@ -51,7 +51,7 @@ fn play_step(
     rule: usize,
 ) -> bool
     requires { Inside small image.now rels clauses (lent head.old procs.old vars.old) × Indexed image.now rels clauses ix.now }
-    ensures { PlaysSay small image.now rels clauses (lent head.old procs.old vars.old) (playStep (stepTables small (program_of image.now rels clauses) (tablesIn (lent head.old procs.old vars.old)) p) rule) result (lent head.new procs.new vars.new) }
+    ensures { PlaysSay small image.now rels clauses (lent head.old procs.old vars.old) (play_step (step_tables small (program_of image.now rels clauses) (tables_in (lent head.old procs.old vars.old)) p) rule) result (lent head.new procs.new vars.new) }
 {
     let n = head::proc_count(head);
     if n <= p {
@@ -80,7 +80,7 @@ fn play_supply(
     value: u32,
 ) -> bool
     requires { Inside small image.now rels clauses (lent head.now procs.now vars.old) × Indexed image.now rels clauses ix.now }
-    ensures { PlaysSay small image.now rels clauses (lent head.now procs.now vars.old) (playSupply (supplyTables (program_of image.now rels clauses) (tablesIn (lent head.now procs.now vars.old)) variable value)) result (lent head.now procs.now vars.new) }
+    ensures { PlaysSay small image.now rels clauses (lent head.now procs.now vars.old) (play_supply (supply_tables (program_of image.now rels clauses) (tables_in (lent head.now procs.now vars.old)) variable value)) result (lent head.now procs.now vars.new) }
 {
     let a = machine::asked(image, rels, clauses, ix, head, vars, variable, value);
     let Supplied::Given(v) = a else {
@@ -103,8 +103,8 @@ fn play_record(
     trace: &[u8],
     k: usize,
 ) -> bool
-    requires { Inside small image.now rels clauses (lent head.old procs.old vars.old) × (k * traceSize + traceSize ≤ length trace.now) × Indexed image.now rels clauses ix.now }
-    ensures { PlaysSay small image.now rels clauses (lent head.old procs.old vars.old) (playRecord small (program_of image.now rels clauses) trace.now (k * traceSize) (tablesIn (lent head.old procs.old vars.old))) result (lent head.new procs.new vars.new) }
+    requires { Inside small image.now rels clauses (lent head.old procs.old vars.old) × (k * trace_size + trace_size ≤ length trace.now) × Indexed image.now rels clauses ix.now }
+    ensures { PlaysSay small image.now rels clauses (lent head.old procs.old vars.old) (play_record small (program_of image.now rels clauses) trace.now (k * trace_size) (tables_in (lent head.old procs.old vars.old))) result (lent head.new procs.new vars.new) }
 {
     let who = trace::who(trace, k);
     let what = trace::what(trace, k);
@@ -138,7 +138,7 @@ fn play(
     trace: &[u8],
     n: usize,
 ) -> usize
-    requires { Inside small image.now rels clauses (lent head.old procs.old vars.old) × (n * traceSize ≤ length trace.now) × Indexed image.now rels clauses ix.now }
+    requires { Inside small image.now rels clauses (lent head.old procs.old vars.old) × (n * trace_size ≤ length trace.now) × Indexed image.now rels clauses ix.now }
     ensures { PlayedSays small image.now rels clauses (lent head.old procs.old vars.old) trace.now n result (lent head.new procs.new vars.new) }
 {
     let mut k = 0;
@@ -155,7 +155,7 @@ fn play(
 
 // What is wrong with a trace.
 fn fault(t: Tested) -> Refusal
-    ensures { result ≡ faultOf t }
+    ensures { result ≡ fault_of t }
 {
     match t {
         Tested::Records(_) => entry::refusal(0),
@@ -165,8 +165,8 @@ fn fault(t: Tested) -> Refusal
 
 // All n records agree, or 20 with the place of the one that does not.
 fn told(k: usize, n: usize) -> Replayed
-    requires { (k ≤ n) × (n * traceSize ≤ 18446744073709551615) }
-    ensures { result ≡ replayTold (eqb k n) k }
+    requires { (k ≤ n) × (n * trace_size ≤ 18446744073709551615) }
+    ensures { result ≡ replay_told (eqb k n) k }
 {
     if k == n {
         return Replayed::Replays(k);
@@ -223,7 +223,7 @@ pub fn replay(
 
 // Of a replay: how many records were played, or the refusal and its place.
 pub fn replay_word(a: Replayed) -> u64
-    ensures { result ≡ word (replayNumbers a) }
+    ensures { result ≡ word (replay_numbers a) }
 {
     match a {
         Replayed::Replays(n) => words::word(0, 0, 0, words::told_number(n)),

@@ -2,37 +2,37 @@
 use mathlib.Core.Path.{refl}
 use Prim.Native.Nat.{ℕ}
 use Rattle.parlog.proofs.Opened.{opened}
-use Rattle.resume.specs.Calls.{resumable, resumeCall, saveCall}
+use Rattle.resume.specs.Calls.{resumable, resume_call, save_call}
 use Rattle.resume.specs.Instances.{OnesSaved, ReadBack, RecordsRefused, RulesRefused, TablesRefused, WaitingSaved}
-use Rattle.saved.specs.Form.{bytesFrom, headRecord, numbers, processRecord, savedBytes, variableRecord}
-use Rattle.saved.specs.Reading.{former, formFault, kindWrong, lengthWrong, readSaved, ruleWrong}
-use Rattle.saved.specs.Restored.{cells_in, countsAgree, resumedLent, rowsIn}
+use Rattle.saved.specs.Form.{bytes_from, head_record, numbers, process_record, saved_bytes, variable_record}
+use Rattle.saved.specs.Reading.{former, form_fault, kind_wrong, length_wrong, read_saved, rule_wrong}
+use Rattle.saved.specs.Restored.{cells_in, counts_agree, resumed_lent, rows_in}
 
 -- opens the definitions of a saved run
-unfoldable alsoOpened : ℕ
-unfolding bytesFrom numbers headRecord processRecord variableRecord savedBytes kindWrong lengthWrong former ruleWrong formFault readSaved countsAgree rowsIn cells_in resumedLent resumable saveCall resumeCall
-alsoOpened = 0
+unfoldable also_opened : ℕ
+unfolding bytes_from numbers head_record process_record variable_record saved_bytes kind_wrong length_wrong former rule_wrong form_fault read_saved counts_agree rows_in cells_in resumed_lent resumable save_call resume_call
+also_opened = 0
 
-pub onesSaved : OnesSaved
-unfolding opened alsoOpened
-onesSaved = (refl, refl, refl, refl, refl, refl)
+pub ones_saved : OnesSaved
+unfolding opened also_opened
+ones_saved = (refl, refl, refl, refl, refl, refl)
 
-pub waitingSaved : WaitingSaved
-unfolding opened alsoOpened
-waitingSaved = (refl, refl, refl, refl)
+pub waiting_saved : WaitingSaved
+unfolding opened also_opened
+waiting_saved = (refl, refl, refl, refl)
 
-pub readBack : ReadBack
-unfolding opened alsoOpened
-readBack = (refl, refl)
+pub read_back : ReadBack
+unfolding opened also_opened
+read_back = (refl, refl)
 
-pub recordsRefused : RecordsRefused
-unfolding opened alsoOpened
-recordsRefused = (refl, refl, refl, refl, refl, refl, refl, refl)
+pub records_refused : RecordsRefused
+unfolding opened also_opened
+records_refused = (refl, refl, refl, refl, refl, refl, refl, refl)
 
-pub rulesRefused : RulesRefused
-unfolding opened alsoOpened
-rulesRefused = (refl, refl, refl, refl, refl, refl, refl, refl, refl, refl, refl)
+pub rules_refused : RulesRefused
+unfolding opened also_opened
+rules_refused = (refl, refl, refl, refl, refl, refl, refl, refl, refl, refl, refl)
 
-pub tablesRefused : TablesRefused
-unfolding opened alsoOpened
-tablesRefused = (refl, refl, refl, refl, refl, refl)
+pub tables_refused : TablesRefused
+unfolding opened also_opened
+tables_refused = (refl, refl, refl, refl, refl, refl)

@@ -11,45 +11,45 @@ use Rattle.entry.proofs.Entering.{inside_of}
 use Rattle.entry.specs.Entered.{EnterSays}
 use Rattle.lay.proofs.Laws.{laid-start}
 use Rattle.lay.specs.Lay.{Lays}
-use Rattle.load.specs.Fields.{refusalOf}
+use Rattle.load.specs.Fields.{refusal_of}
 use Rattle.parlog.specs.Limits.{Limits}
 use Rattle.parlog.specs.Load.{refusal}
-use Rattle.parlog.specs.Tables.{cellSize, headSize, Lent, procCount, rowSize, varCount, written}
+use Rattle.parlog.specs.Tables.{cell_size, head_size, Lent, proc_count, row_size, var_count, written}
 use Rattle.parlog.specs.declared.Loaded.{Loaded}
 use Rattle.parlog.specs.declared.Loaded.TheVariants.{Accepted, Refused}
 use Rattle.parlog.specs.declared.Refusal.{Refusal}
-use Rattle.resume.specs.Calls.{saveCall}
+use Rattle.resume.specs.Calls.{save_call}
 use Rattle.resume.specs.Says.{SaveSays}
 use Rattle.resume.specs.declared.Saved.TheVariants.{Stored, Unsaved}
 use Rattle.saved.proofs.Bytes.{saved-length}
-use Rattle.saved.specs.Form.{savedBytes, savedSize}
+use Rattle.saved.specs.Form.{saved_bytes, saved_size}
 
 module _ (lim : Limits) (s : List ℕ) (l : Lent) (row : List ℕ) {e : Loaded} (told : EnterSays lim s l e) where
-  pub save-refused : {f r : Refusal} → e ≡ Refused f → r ≡ refusalOf e → SaveSays lim s l row (Unsaved r) row
-  unfolding saveCall
+  pub save-refused : {f r : Refusal} → e ≡ Refused f → r ≡ refusal_of e → SaveSays lim s l row (Unsaved r) row
+  unfolding save_call
   save-refused q er = let k = rw q at told.entry in record { answer = rw (k, er, q); row_is = rw k; few = tt }
 
-  module _ {r c : ℕ} (q : e ≡ Accepted r c) {n m size : ℕ} (en : n ≡ procCount l.head) (em : m ≡ varCount l.head) (es : size ≡ savedSize n m) where
-    same_size : length (savedBytes l (length s)) ≡ size
+  module _ {r c : ℕ} (q : e ≡ Accepted r c) {n m size : ℕ} (en : n ≡ proc_count l.head) (em : m ≡ var_count l.head) (es : size ≡ saved_size n m) where
+    same_size : length (saved_bytes l (length s)) ≡ size
     same_size = saved-length l (length s) ∙ sym (es ∙ rw (en, em))
 
     pub save-short : {f : Refusal} → length row < size → f ≡ refusal 11 0 → SaveSays lim s l row (Unsaved f) row
-    unfolding saveCall
+    unfolding save_call
     save-short {f} h ef =
         let k = rw q at told.entry in
-        let z : ltb (length row) (length (savedBytes l (length s))) ≡ true = rw same_size (lt-ltb (length row) size h) in
+        let z : ltb (length row) (length (saved_bytes l (length s))) ≡ true = rw same_size (lt-ltb (length row) size h) in
         record { answer = rw (k, z, ef); row_is = rw (k, z); few = tt }
 
-    pub save-stored : {row' : List ℕ} {next : ℕ} → size ≤ length row → size ≤ 4294967295 → Lays row row' 0 (savedBytes l (length s)) next → SaveSays lim s l row (Stored size) row'
-    unfolding saveCall written
+    pub save-stored : {row' : List ℕ} {next : ℕ} → size ≤ length row → size ≤ 4294967295 → Lays row row' 0 (saved_bytes l (length s)) next → SaveSays lim s l row (Stored size) row'
+    unfolding save_call written
     save-stored h few w =
         let k = rw q at told.entry in
-        let z : ltb (length row) (length (savedBytes l (length s))) ≡ false = rw same_size (le-ltb (length row) size h) in
-        let enough : length (savedBytes l (length s)) ≤ length row = rw same_size h in
-        let i : size ≡ length (savedBytes l (length s)) = sym same_size in
-        record { answer = rw (k, z) (ap Stored i); row_is = rw (k, z) (w.row ∙ laid-start (savedBytes l (length s)) row enough); few = few }
+        let z : ltb (length row) (length (saved_bytes l (length s))) ≡ false = rw same_size (le-ltb (length row) size h) in
+        let enough : length (saved_bytes l (length s)) ≤ length row = rw same_size h in
+        let i : size ≡ length (saved_bytes l (length s)) = sym same_size in
+        record { answer = rw (k, z) (ap Stored i); row_is = rw (k, z) (w.row ∙ laid-start (saved_bytes l (length s)) row enough); few = few }
 
 -- what the writer may count on
 pub save-writes : (lim : Limits) (s : List ℕ) (l : Lent) {e : Loaded} {r c : ℕ} → EnterSays lim s l e → e ≡ Accepted r c
-    → (headSize ≤ length l.head) × (procCount l.head * rowSize ≤ length l.procs) × (varCount l.head * cellSize ≤ length l.vars)
+    → (head_size ≤ length l.head) × (proc_count l.head * row_size ≤ length l.procs) × (var_count l.head * cell_size ≤ length l.vars)
 save-writes lim s l told q = let i = inside_of lim s l told q in let h = i.head in (omega arith, i.rows, i.cells)

@@ -1,11 +1,11 @@
 -- Saves and resumes computed from bytes: two runs saved byte for byte, and each refusal with its place.
 use Rattle.std.specs.Prelude.{◌≡◌, [], ◌++◌, ◌∷◌, List, ◌*◌, ℕ, drop, set, take}
-use Rattle.parlog.specs.Calls.{runCall, startCall, turnCall}
-use Rattle.parlog.specs.Cases.{askOne, equationGoal, goalP, relationP}
+use Rattle.parlog.specs.Calls.{run_call, start_call, turn_call}
+use Rattle.parlog.specs.Cases.{ask_one, equation_goal, goal_p, relation_p}
 use Rattle.parlog.specs.Limits.{Limits}
 use Rattle.parlog.specs.Load.{refusal}
-use Rattle.parlog.specs.Tables.{cellSize, headSize, Lent, lent, rowSize, zeros}
-use Rattle.resume.specs.Calls.{resumeCall, saveCall}
+use Rattle.parlog.specs.Tables.{cell_size, head_size, Lent, lent, row_size, zeros}
+use Rattle.resume.specs.Calls.{resume_call, save_call}
 use Rattle.resume.specs.declared.Resumed.TheVariants.{Restored, Unresumed}
 use Rattle.resume.specs.declared.Saved.TheVariants.{Stored, Unsaved}
 
@@ -15,25 +15,25 @@ tiny = record { procs = 8; vars = 4 }
 
 -- rows of the full sizes, all zeros
 abbrev pub blank : Lent
-blank = lent (zeros headSize) (zeros (8 * rowSize)) (zeros (4 * cellSize))
+blank = lent (zeros head_size) (zeros (8 * row_size)) (zeros (4 * cell_size))
 
 -- ---- the goal 1 = 1
 
 -- c2
 abbrev pub ones : List ℕ
-ones = equationGoal 1 1
+ones = equation_goal 1 1
 
 -- its tables after a start
 abbrev pub begun : Lent
-begun = (startCall tiny ones blank).lent
+begun = (start_call tiny ones blank).lent
 
 -- and after a turn
 abbrev pub turned : Lent
-turned = (turnCall tiny ones begun).lent
+turned = (turn_call tiny ones begun).lent
 
 -- Saved 2: the head's record, after so many steps
-abbrev pub headAfter : ℕ → List ℕ
-headAfter n = 18 ∷ 0 ∷ 16 ∷ 0 ∷ 1 ∷ 0 ∷ 0 ∷ 0 ∷ 0 ∷ 0 ∷ n ∷ 0 ∷ 0 ∷ 0 ∷ 13 ∷ 0 ∷ 2 ∷ 0 ∷ []
+abbrev pub head_after : ℕ → List ℕ
+head_after n = 18 ∷ 0 ∷ 16 ∷ 0 ∷ 1 ∷ 0 ∷ 0 ∷ 0 ∷ 0 ∷ 0 ∷ n ∷ 0 ∷ 0 ∷ 0 ∷ 13 ∷ 0 ∷ 2 ∷ 0 ∷ []
 
 -- Saved 3: the record of a process with this tag, mode and result and nothing else
 abbrev pub plain : ℕ → ℕ → ℕ → List ℕ
@@ -41,32 +41,32 @@ plain t m r = 28 ∷ 0 ∷ 17 ∷ 0 ∷ t ∷ m ∷ r ∷ zeros 21
 
 -- the whole run at its start
 abbrev pub saved : List ℕ
-saved = headAfter 0 ++ plain 8 2 0
+saved = head_after 0 ++ plain 8 2 0
 
 -- Saved 1 to 4: 46 bytes, before and after the turn; a row of 45 is too short; bytes behind stay
 abbrev pub OnesSaved : Type 0
 OnesSaved =
-    (saveCall tiny ones begun (zeros 46) ≡ record { answer = Stored 46; row = saved })
-    × (saveCall tiny ones turned (zeros 46) ≡ record { answer = Stored 46; row = headAfter 1 ++ plain 8 4 1 })
-    × (saveCall tiny ones begun (zeros 45) ≡ record { answer = Unsaved (refusal 11 0); row = zeros 45 })
-    × (saveCall tiny ones begun (zeros 46 ++ (7 ∷ 9 ∷ [])) ≡ record { answer = Stored 46; row = saved ++ (7 ∷ 9 ∷ []) })
-    × ((saveCall tiny ones blank (zeros 46)).answer ≡ Unsaved (refusal 8 0))
-    × ((saveCall tiny (drop 1 ones) begun (zeros 46)).answer ≡ Unsaved (refusal 2 0))
+    (save_call tiny ones begun (zeros 46) ≡ record { answer = Stored 46; row = saved })
+    × (save_call tiny ones turned (zeros 46) ≡ record { answer = Stored 46; row = head_after 1 ++ plain 8 4 1 })
+    × (save_call tiny ones begun (zeros 45) ≡ record { answer = Unsaved (refusal 11 0); row = zeros 45 })
+    × (save_call tiny ones begun (zeros 46 ++ (7 ∷ 9 ∷ [])) ≡ record { answer = Stored 46; row = saved ++ (7 ∷ 9 ∷ []) })
+    × ((save_call tiny ones blank (zeros 46)).answer ≡ Unsaved (refusal 8 0))
+    × ((save_call tiny (drop 1 ones) begun (zeros 46)).answer ≡ Unsaved (refusal 2 0))
 
 -- ---- q(?), fact q(1), goal q(A), as far as it goes without A
 
 -- c6, waiting
 abbrev pub waits : Lent
-waits = (runCall tiny (askOne 0 1) (startCall tiny (askOne 0 1) blank).lent 100).lent
+waits = (run_call tiny (ask_one 0 1) (start_call tiny (ask_one 0 1) blank).lent 100).lent
 
 -- its saved run
 abbrev pub waiting : List ℕ
-waiting = (saveCall tiny (askOne 0 1) waits (zeros 194)).row
+waiting = (save_call tiny (ask_one 0 1) waits (zeros 194)).row
 
 -- Saved 1 to 3: 194 bytes: the head, process 4, and the variable
 abbrev pub WaitingSaved : Type 0
 WaitingSaved =
-    ((saveCall tiny (askOne 0 1) waits (zeros 194)).answer ≡ Stored 194)
+    ((save_call tiny (ask_one 0 1) waits (zeros 194)).answer ≡ Stored 194)
     × (take 18 waiting ≡ 18 ∷ 0 ∷ 16 ∷ 0 ∷ 6 ∷ 0 ∷ 1 ∷ 0 ∷ 5 ∷ 0 ∷ 9 ∷ 0 ∷ 0 ∷ 0 ∷ 29 ∷ 0 ∷ 2 ∷ 0 ∷ [])
     × (take 28 (drop 130 waiting) ≡ 28 ∷ 0 ∷ 17 ∷ 0 ∷ 6 ∷ 5 ∷ 0 ∷ 1 ∷ 3 ∷ 0 ∷ zeros 8 ++ (1 ∷ 0 ∷ zeros 8))
     × (drop 186 waiting ≡ 8 ∷ 0 ∷ 18 ∷ 0 ∷ 0 ∷ 0 ∷ 0 ∷ 0 ∷ [])
@@ -74,57 +74,57 @@ WaitingSaved =
 -- Saved 10: what was saved is read back, whatever the rows held; bytes of unused rows become zeros
 abbrev pub ReadBack : Type 0
 ReadBack =
-    (resumeCall tiny ones blank saved ≡ record { answer = Restored; lent = begun })
-    × (resumeCall tiny ones (lent begun.head (set begun.procs 100 7) (set begun.vars 3 9)) saved ≡ record { answer = Restored; lent = begun })
+    (resume_call tiny ones blank saved ≡ record { answer = Restored; lent = begun })
+    × (resume_call tiny ones (lent begun.head (set begun.procs 100 7) (set begun.vars 3 9)) saved ≡ record { answer = Restored; lent = begun })
 
 -- ---- refusals
 
 -- a resume of the run `ones`
 abbrev pub Refuses : List ℕ → ℕ → ℕ → Type 0
-Refuses x n o = resumeCall tiny ones begun x ≡ record { answer = Unresumed (refusal n o); lent = begun }
+Refuses x n o = resume_call tiny ones begun x ≡ record { answer = Unresumed (refusal n o); lent = begun }
 
 -- Saved 5 to 7: a byte missing; two bytes left; the head's record once more; that record missing, and no record; a 17 of another length; a 19; a 17 behind an 18
 abbrev pub RecordsRefused : Type 0
 RecordsRefused =
     Refuses (take 45 saved) 2 18
     × Refuses (saved ++ (0 ∷ 0 ∷ [])) 2 46
-    × Refuses (saved ++ headAfter 0) 3 46
+    × Refuses (saved ++ head_after 0) 3 46
     × Refuses (plain 8 2 0) 3 0
     × Refuses [] 3 0
-    × Refuses (headAfter 0 ++ (27 ∷ 0 ∷ 17 ∷ 0 ∷ 8 ∷ 2 ∷ zeros 21)) 4 18
+    × Refuses (head_after 0 ++ (27 ∷ 0 ∷ 17 ∷ 0 ∷ 8 ∷ 2 ∷ zeros 21)) 4 18
     × Refuses (saved ++ (8 ∷ 0 ∷ 19 ∷ 0 ∷ zeros 4)) 3 46
     × Refuses (saved ++ (8 ∷ 0 ∷ 18 ∷ 0 ∷ zeros 4) ++ plain 8 2 0) 3 54
 
 -- Saved 2, 13: the head's record at the start, with another rule number
-abbrev pub headUnder : ℕ → ℕ → List ℕ
-headUnder low high = 18 ∷ 0 ∷ 16 ∷ 0 ∷ 1 ∷ 0 ∷ 0 ∷ 0 ∷ 0 ∷ 0 ∷ 0 ∷ 0 ∷ 0 ∷ 0 ∷ 13 ∷ 0 ∷ low ∷ high ∷ []
+abbrev pub head_under : ℕ → ℕ → List ℕ
+head_under low high = 18 ∷ 0 ∷ 16 ∷ 0 ∷ 1 ∷ 0 ∷ 0 ∷ 0 ∷ 0 ∷ 0 ∷ 0 ∷ 0 ∷ 0 ∷ 0 ∷ 13 ∷ 0 ∷ low ∷ high ∷ []
 
 -- Saved 13: the same as it was saved before there were rule numbers
-abbrev pub headFormer : List ℕ
-headFormer = 16 ∷ 0 ∷ 16 ∷ 0 ∷ 1 ∷ 0 ∷ 0 ∷ 0 ∷ 0 ∷ 0 ∷ 0 ∷ 0 ∷ 0 ∷ 0 ∷ 13 ∷ 0 ∷ []
+abbrev pub head_former : List ℕ
+head_former = 16 ∷ 0 ∷ 16 ∷ 0 ∷ 1 ∷ 0 ∷ 0 ∷ 0 ∷ 0 ∷ 0 ∷ 0 ∷ 0 ∷ 0 ∷ 0 ∷ 13 ∷ 0 ∷ []
 
 -- Saved 7, 13: the former length, for an image of another length too; rule numbers 1, 3 and 258; both before the records behind are looked at;
 -- 17 and 20 bytes; a former record that is cut, and one that is not the first
 abbrev pub RulesRefused : Type 0
 RulesRefused =
-    Refuses (headFormer ++ plain 8 2 0) 18 0
-    × (resumeCall tiny (relationP ++ goalP) begun (headFormer ++ plain 8 2 0) ≡ record { answer = Unresumed (refusal 18 0); lent = begun })
-    × Refuses (headUnder 1 0 ++ plain 8 2 0) 18 0
-    × Refuses (headUnder 3 0 ++ plain 8 2 0) 18 0
-    × Refuses (headUnder 2 1 ++ plain 8 2 0) 18 0
-    × Refuses (headFormer ++ (27 ∷ 0 ∷ 17 ∷ 0 ∷ zeros 23)) 18 0
-    × Refuses (headUnder 3 0 ++ (0 ∷ 0 ∷ [])) 18 0
+    Refuses (head_former ++ plain 8 2 0) 18 0
+    × (resume_call tiny (relation_p ++ goal_p) begun (head_former ++ plain 8 2 0) ≡ record { answer = Unresumed (refusal 18 0); lent = begun })
+    × Refuses (head_under 1 0 ++ plain 8 2 0) 18 0
+    × Refuses (head_under 3 0 ++ plain 8 2 0) 18 0
+    × Refuses (head_under 2 1 ++ plain 8 2 0) 18 0
+    × Refuses (head_former ++ (27 ∷ 0 ∷ 17 ∷ 0 ∷ zeros 23)) 18 0
+    × Refuses (head_under 3 0 ++ (0 ∷ 0 ∷ [])) 18 0
     × Refuses (17 ∷ 0 ∷ 16 ∷ 0 ∷ zeros 13) 4 0
     × Refuses (20 ∷ 0 ∷ 16 ∷ 0 ∷ zeros 16) 4 0
-    × Refuses (take 15 headFormer) 2 0
-    × Refuses (saved ++ headFormer) 3 46
+    × Refuses (take 15 head_former) 2 0
+    × Refuses (saved ++ head_former) 3 46
 
 -- Saved 8, 9: another image, accepted and one byte longer; a variable more, a process twice; a row of another size; a tag that is none
 abbrev pub TablesRefused : Type 0
 TablesRefused =
-    (resumeCall tiny (relationP ++ goalP) begun saved ≡ record { answer = Unresumed (refusal 15 0); lent = begun })
+    (resume_call tiny (relation_p ++ goal_p) begun saved ≡ record { answer = Unresumed (refusal 15 0); lent = begun })
     × Refuses (saved ++ (8 ∷ 0 ∷ 18 ∷ 0 ∷ zeros 4)) 8 0
     × Refuses (saved ++ plain 8 2 0) 8 0
-    × Refuses (headAfter 0 ++ plain 9 2 0) 8 0
-    × (resumeCall tiny ones (lent (zeros 11) blank.procs blank.vars) saved ≡ record { answer = Unresumed (refusal 8 0); lent = lent (zeros 11) blank.procs blank.vars })
-    × ((resumeCall tiny (drop 1 ones) begun saved).answer ≡ Unresumed (refusal 2 0))
+    × Refuses (head_after 0 ++ plain 9 2 0) 8 0
+    × (resume_call tiny ones (lent (zeros 11) blank.procs blank.vars) saved ≡ record { answer = Unresumed (refusal 8 0); lent = lent (zeros 11) blank.procs blank.vars })
+    × ((resume_call tiny (drop 1 ones) begun saved).answer ≡ Unresumed (refusal 2 0))

@@ -2,10 +2,10 @@
 ghost use Rattle.std.specs.Prelude.{◌≡◌, ◌+◌, ◌*◌, ◌≤◌, length};
 ghost use Rattle.parlog.specs.Limits.{small};
 ghost use Rattle.parlog.specs.Program.{program_of};
-ghost use Rattle.parlog.specs.TableRules.{lentOk};
+ghost use Rattle.parlog.specs.TableRules.{lent_ok};
 ghost use Rattle.parlog.specs.Tables.{lent};
 ghost use Rattle.program_index.specs.Indexed.{Indexed};
-ghost use Rattle.saved.specs.Restored.{resumedLent};
+ghost use Rattle.saved.specs.Restored.{resumed_lent};
 ghost use Rattle.resume.specs.Calls.{resumable};
 ghost use Rattle.resume.specs.Says.{DecidedSays, ResumeSays, SaveSays, TestedSays};
 
@@ -60,7 +60,7 @@ fn keeps_rules(
     b: usize,
 ) -> bool
     requires { (rels ≤ 32) × (clauses ≤ 64) × (a ≤ 512) × (b ≤ 1024) × (18 + a * 28 + b * 8 ≤ length row.now) × Indexed image.now rels clauses ix.now }
-    ensures { result ≡ lentOk small (program_of image.now rels clauses) (resumedLent small row.now a b) }
+    ensures { result ≡ lent_ok small (program_of image.now rels clauses) (resumed_lent small row.now a b) }
 {
     let mut head = [0u8; codes::HEAD_SIZE];
     let mut procs = [0u8; codes::MOST_PROCS * codes::ROW_SIZE];

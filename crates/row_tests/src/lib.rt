@@ -1,9 +1,9 @@
 // The table rules of one row, on its numbers alone.
 ghost use Rattle.std.specs.Prelude.{◌≡◌, ◌&&◌, ◌||◌, not, eqb, leb, ltb, take};
-ghost use Rattle.parlog.specs.Codes.{dormant, isMode, isResult, none, reporting, suspended, tag_of};
+ghost use Rattle.parlog.specs.Codes.{dormant, is_mode, is_result, none, reporting, suspended, tag_of};
 ghost use Rattle.parlog.specs.Scan.{implies};
-ghost use Rattle.parlog.specs.TableRules.{all_below, bindingOk, makesTag};
-ghost use Rattle.parlog.specs.Tables.{bindingBy};
+ghost use Rattle.parlog.specs.TableRules.{all_below, binding_ok, makes_tag};
+ghost use Rattle.parlog.specs.Tables.{binding_by};
 
 use parlog::codes;
 
@@ -39,7 +39,7 @@ pub fn known(tag: u8, mode: u8, res: u8, kind: u8) -> bool
 
 // Who reports has something to tell, and so has the goal's process once it sleeps.
 pub fn result_ok(i: usize, mode: u8, res: u8) -> bool
-    ensures { result ≡ implies (isMode reporting mode || (eqb i 0 && isMode dormant mode)) (not (isResult none res)) }
+    ensures { result ≡ implies (is_mode reporting mode || (eqb i 0 && is_mode dormant mode)) (not (is_result none res)) }
 {
     implies(
         basics::or(
@@ -52,7 +52,7 @@ pub fn result_ok(i: usize, mode: u8, res: u8) -> bool
 
 // The rules of a process with tag `up` make one with tag t.
 pub fn makes(up: u8, t: u8) -> bool
-    ensures { result ≡ makesTag (tag_of up) (tag_of t) }
+    ensures { result ≡ makes_tag (tag_of up) (tag_of t) }
 {
     let literal = basics::or(t == codes::OR_PAR, codes::GUARD_EVAL < t);
     let goal = basics::or(t < codes::SEQ_SEARCH, codes::GUARD_EVAL < t);
@@ -91,7 +91,7 @@ fn note_ok(k: u8, count: u8, v: u16, n: usize) -> bool
 
 // The notes of a suspended process: at most four, all of them variables.
 pub fn notes_ok(n: usize, mode: u8, count: u8, notes: [u16; codes::MOST_NOTES as usize]) -> bool
-    ensures { result ≡ implies (isMode suspended mode) (leb count 4 && all_below n (take count notes)) }
+    ensures { result ≡ implies (is_mode suspended mode) (leb count 4 && all_below n (take count notes)) }
 {
     let a = note_ok(0, count, notes[0], n);
     let b = note_ok(1, count, notes[1], n);
@@ -110,7 +110,7 @@ pub fn notes_ok(n: usize, mode: u8, count: u8, notes: [u16; codes::MOST_NOTES as
 
 // The row of variable v: a sort that there is, no number where nothing is bound, and a binding that leads to a constant or downward.
 pub fn cell_ok(v: usize, sort: u8, number: usize) -> bool
-    ensures { result ≡ ((ltb sort 3 && implies (eqb sort 0) (eqb number 0)) && bindingOk v (bindingBy sort number)) }
+    ensures { result ≡ ((ltb sort 3 && implies (eqb sort 0) (eqb number 0)) && binding_ok v (binding_by sort number)) }
 {
     let bound = basics::choose(
         sort == codes::CONSTANT,

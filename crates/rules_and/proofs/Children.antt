@@ -7,9 +7,9 @@ use native.Mathlib.Omega.{arith}
 use native.Mathlib.Numerals.{add-one}
 use Rattle.parlog.proofs.Rows.{build-snoc}
 use Rattle.parlog.specs.Delta.{making}
-use Rattle.parlog.specs.Rules.{Applied, by-rule}
+use Rattle.parlog.specs.Rules.{Applied, by_rule}
 use Rattle.parlog.specs.Scan.{build}
-use Rattle.parlog.specs.Tables.{procsOf}
+use Rattle.parlog.specs.Tables.{procs_of}
 use Rattle.parlog.specs.declared.Found.TheVariants.{Nothing}
 use Rattle.parlog.specs.declared.Move.{Move}
 use Rattle.parlog.specs.declared.Process.{Process}
@@ -19,25 +19,25 @@ use Rattle.move_plan.proofs.Made.{first-row}
 
 -- ---- two children
 
-module _ (rows : List ℕ) {new : List ℕ} {y : Process} (t : Table rows new (procsOf rows 0 ++ (y ∷ []))) where
-  pub two_made : {z : Process} {last : List ℕ} → Table new last (procsOf new 1 ++ (z ∷ []))
-      → {mv : Move} {x : Process} {a : Applied} → a ≡ by-rule mv (making x Nothing (procsOf last 2) 0) → a ≡ by-rule mv (making x Nothing (y ∷ z ∷ []) 0)
+module _ (rows : List ℕ) {new : List ℕ} {y : Process} (t : Table rows new (procs_of rows 0 ++ (y ∷ []))) where
+  pub two_made : {z : Process} {last : List ℕ} → Table new last (procs_of new 1 ++ (z ∷ []))
+      → {mv : Move} {x : Process} {a : Applied} → a ≡ by_rule mv (making x Nothing (procs_of last 2) 0) → a ≡ by_rule mv (making x Nothing (y ∷ z ∷ []) 0)
   two_made {z} {last} u e =
-      let f : procsOf new 1 ++ (z ∷ []) ≡ y ∷ z ∷ [] = rw (first-row rows t) in
-      let g : procsOf last 2 ≡ y ∷ z ∷ [] = table-rows 2 u (ap length f) ∙ f in
+      let f : procs_of new 1 ++ (z ∷ []) ≡ y ∷ z ∷ [] = rw (first-row rows t) in
+      let g : procs_of last 2 ≡ y ∷ z ∷ [] = table-rows 2 u (ap length f) ∙ f in
       rw g at e
 
 -- ---- one for each member, row by row
 
 module _ (f : ℕ → Process) where
-  pub fill_start : (l : List ℕ) → procsOf l 0 ≡ build f 0
+  pub fill_start : (l : List ℕ) → procs_of l 0 ≡ build f 0
   unfolding build
   fill_start l = procs-none l
 
-  pub fill-next : (l m : List ℕ) (j : ℕ) {y : Process} → procsOf l j ≡ build f j → y ≡ f j → Table l m (procsOf l j ++ (y ∷ [])) → procsOf m (j + 1) ≡ build f (j + 1)
+  pub fill-next : (l m : List ℕ) (j : ℕ) {y : Process} → procs_of l j ≡ build f j → y ≡ f j → Table l m (procs_of l j ++ (y ∷ [])) → procs_of m (j + 1) ≡ build f (j + 1)
   fill-next l m j {y} e ey t =
-      let k : length (procsOf l j ++ (y ∷ [])) ≡ j + 1 = length-append (procsOf l j) (y ∷ []) ∙ omega (arith, procs-length l j) in
+      let k : length (procs_of l j ++ (y ∷ [])) ≡ j + 1 = length-append (procs_of l j) (y ∷ []) ∙ omega (arith, procs-length l j) in
       table-rows (j + 1) t k ∙ rw (e, ey, add-one j) (sym (build-snoc f j))
 
-  pub fill_end : (l : List ℕ) (j k : ℕ) → procsOf l j ≡ build f j → j ≡ k → procsOf l k ≡ build f k
+  pub fill_end : (l : List ℕ) (j k : ℕ) → procs_of l j ≡ build f j → j ≡ k → procs_of l k ≡ build f k
   fill_end l j k e h = rw h at e

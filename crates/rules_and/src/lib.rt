@@ -2,17 +2,17 @@
 ghost use Rattle.program_index.specs.Indexed.{Indexed};
 ghost use Rattle.std.specs.Prelude.{◌≡◌, true, [], ◌++◌, ◌∷◌, List, ◌≤◌, ◌<◌, length};
 ghost use Rattle.children.specs.Telling.{Tells};
-ghost use Rattle.parlog.specs.Codes.{and-par, and-seq, guard-eval, try-clause};
+ghost use Rattle.parlog.specs.Codes.{and_par, and_seq, guard_eval, try_clause};
 ghost use Rattle.parlog.specs.Delta.{making};
 ghost use Rattle.parlog.specs.Program.{Program, program_of};
-ghost use Rattle.parlog.specs.Rules.{bodyBeside, by-rule, member, members, stopRule};
+ghost use Rattle.parlog.specs.Rules.{body_beside, by_rule, member, members, stop_rule};
 ghost use Rattle.parlog.specs.Scan.{build};
-ghost use Rattle.parlog.specs.Tables.{procsOf};
+ghost use Rattle.parlog.specs.Tables.{procs_of};
 ghost use Rattle.parlog.specs.declared.Found.TheVariants.{At, Nothing};
 ghost use Rattle.parlog.specs.declared.Move.TheVariants.{AndSeqNext};
 ghost use Rattle.parlog.specs.declared.Process.{Process};
-ghost use Rattle.move_plan.specs.Plans.{appliedOf, newMost, newSize};
-ghost use Rattle.rules_and.specs.Says.{nextStage, Readies, Starts, Waits};
+ghost use Rattle.move_plan.specs.Plans.{applied_of, new_most, new_size};
+ghost use Rattle.rules_and.specs.Says.{next_stage, Readies, Starts, Waits};
 
 use children::{News, Told};
 use move_plan::Plan;
@@ -20,7 +20,7 @@ use parlog::{Found, Move, Process, Spot, codes};
 
 // A ready process is about to start next.
 pub fn ready(p: usize, x: Process) -> Plan
-    ensures { Readies p x (appliedOf result) × (result.count ≤ newMost) × (result.changes.count ≡ 0) }
+    ensures { Readies p x (applied_of result) × (result.count ≤ new_most) × (result.changes.count ≡ 0) }
 {
     let me = move_plan::with_mode(x, codes::STARTING);
     move_plan::only(Move::Ready(p), me)
@@ -28,7 +28,7 @@ pub fn ready(p: usize, x: Process) -> Plan
 
 // The goal's own process has nobody to report to.
 pub fn stop(p: usize, x: Process) -> Plan
-    ensures { (appliedOf result ≡ stopRule p x) × (result.count ≤ newMost) × (result.changes.count ≡ 0) }
+    ensures { (applied_of result ≡ stop_rule p x) × (result.count ≤ new_most) × (result.changes.count ≡ 0) }
 {
     if p == 0 {
         let me = move_plan::with_mode(x, codes::DORMANT);
@@ -39,7 +39,7 @@ pub fn stop(p: usize, x: Process) -> Plan
 
 // The mover and two children.
 fn with_children(mv: Move, x: Process, one: Process, other: Process) -> Plan
-    ensures { (appliedOf result ≡ by-rule mv (making x Nothing (one ∷ other ∷ []) 0)) × (result.count ≤ newMost) × (result.changes.count ≡ 0) }
+    ensures { (applied_of result ≡ by_rule mv (making x Nothing (one ∷ other ∷ []) 0)) × (result.count ≤ new_most) × (result.changes.count ≡ 0) }
 {
     let mut new = [0u8; move_plan::NEW_SIZE];
     rows::append(&mut new, 0, one);
@@ -78,8 +78,8 @@ fn members(
     k: usize,
     new: &mut [u8],
 )
-    requires { (rels ≤ 32) × (clauses ≤ 64) × (p ≤ 65535) × (k ≤ newMost) × (newSize ≤ length new.old) × Indexed image.now rels clauses ix.now }
-    ensures { procsOf new.new k ≡ build (member (program_of image.now rels clauses) p z) k }
+    requires { (rels ≤ 32) × (clauses ≤ 64) × (p ≤ 65535) × (k ≤ new_most) × (new_size ≤ length new.old) × Indexed image.now rels clauses ix.now }
+    ensures { procs_of new.new k ≡ build (member (program_of image.now rels clauses) p z) k }
 {
     let mut j = 0;
     while j < k {
@@ -91,8 +91,8 @@ fn members(
 
 // Behind k rows that for the body of a split clause, which runs beside its equations; how many rows there are.
 fn with_body(apart: bool, p: usize, z: Spot, k: usize, new: &mut [u8]) -> usize
-    requires { (p ≤ 65535) × (k ≤ newMost) × (apart ≡ true → k < newMost) × (newSize ≤ length new.old) }
-    ensures { (procsOf new.new result ≡ procsOf new.old k ++ bodyBeside apart p z) × (result ≤ newMost) }
+    requires { (p ≤ 65535) × (k ≤ new_most) × (apart ≡ true → k < new_most) × (new_size ≤ length new.old) }
+    ensures { (procs_of new.new result ≡ procs_of new.old k ++ body_beside apart p z) × (result ≤ new_most) }
 {
     if !apart {
         return k;
@@ -113,8 +113,8 @@ pub fn start_and_par(
     p: usize,
     x: Process,
 ) -> Plan
-    requires { (rels ≤ 32) × (clauses ≤ 64) × (n ≤ 65535) × (p < n) × (length (members (program_of image.now rels clauses) p x.spot) ≤ newMost) × Indexed image.now rels clauses ix.now }
-    ensures { Starts and-par (program_of image.now rels clauses) n p x (appliedOf result) × (result.count ≤ newMost) × (result.changes.count ≡ 0) }
+    requires { (rels ≤ 32) × (clauses ≤ 64) × (n ≤ 65535) × (p < n) × (length (members (program_of image.now rels clauses) p x.spot) ≤ new_most) × Indexed image.now rels clauses ix.now }
+    ensures { Starts and_par (program_of image.now rels clauses) n p x (applied_of result) × (result.count ≤ new_most) × (result.changes.count ≡ 0) }
 {
     let k = program_goal::stage_size(image, rels, clauses, ix, x.spot);
     let apart = program_goal::split_by(image, rels, clauses, ix, x.spot.kind, x.spot.clause);
@@ -128,7 +128,7 @@ pub fn start_and_par(
 
 // One failure decides, else all must succeed.
 pub fn wait_and_par(told: Told, p: usize, x: Process) -> Plan
-    ensures { ((ps : List Process) → Tells ps p told → Waits and-par ps p x (appliedOf result)) × (result.count ≤ newMost) × (result.changes.count ≡ 0) }
+    ensures { ((ps : List Process) → Tells ps p told → Waits and_par ps p x (applied_of result)) × (result.count ≤ new_most) × (result.changes.count ≡ 0) }
 {
     if told.failed {
         return move_plan::report(Move::AndParFailure(p), codes::FAILURE, x);
@@ -152,7 +152,7 @@ pub fn start_and_seq(
     x: Process,
 ) -> Plan
     requires { (rels ≤ 32) × (clauses ≤ 64) × (n ≤ 65535) × (p < n) × Indexed image.now rels clauses ix.now }
-    ensures { Starts and-seq (program_of image.now rels clauses) n p x (appliedOf result) × (result.count ≤ newMost) × (result.changes.count ≡ 0) }
+    ensures { Starts and_seq (program_of image.now rels clauses) n p x (applied_of result) × (result.count ≤ new_most) × (result.changes.count ≡ 0) }
 {
     let stages = program_goal::goal_size(image, rels, clauses, ix, x.spot.kind, x.spot.clause);
     let i = x.spot.stage as usize;
@@ -169,7 +169,7 @@ pub fn start_and_seq(
 // About to start the stage behind.
 fn next_stage(x: Process) -> Process
     requires { x.spot.stage < 255 }
-    ensures { result ≡ nextStage x }
+    ensures { result ≡ next_stage x }
 {
     let y = move_plan::at_stage(x.spot, x.spot.stage + 1);
     move_plan::with_spot(x, codes::STARTING, y)
@@ -178,7 +178,7 @@ fn next_stage(x: Process) -> Process
 // The stage succeeded: it sleeps, and the stage behind it is next.
 fn pass_stage(p: usize, x: Process, c: usize) -> Plan
     requires { x.spot.stage < 255 }
-    ensures { (appliedOf result ≡ by-rule (AndSeqNext p) (making (nextStage x) (At c) [] 0)) × (result.count ≤ newMost) × (result.changes.count ≡ 0) }
+    ensures { (applied_of result ≡ by_rule (AndSeqNext p) (making (next_stage x) (At c) [] 0)) × (result.count ≤ new_most) × (result.changes.count ≡ 0) }
 {
     let me = next_stage(x);
     let new = [0u8; move_plan::NEW_SIZE];
@@ -188,7 +188,7 @@ fn pass_stage(p: usize, x: Process, c: usize) -> Plan
 // Goes on to the stage behind, or fails with its stage.
 pub fn wait_and_seq(told: Told, p: usize, x: Process) -> Plan
     requires { x.spot.stage < 255 }
-    ensures { ((ps : List Process) → Tells ps p told → Waits and-seq ps p x (appliedOf result)) × (result.count ≤ newMost) × (result.changes.count ≡ 0) }
+    ensures { ((ps : List Process) → Tells ps p told → Waits and_seq ps p x (applied_of result)) × (result.count ≤ new_most) × (result.changes.count ≡ 0) }
 {
     let news = told.latest;
     match news {
@@ -203,7 +203,7 @@ pub fn wait_and_seq(told: Told, p: usize, x: Process) -> Plan
 // Matches the head and runs the guard side by side.
 pub fn start_try_clause(n: usize, p: usize, x: Process) -> Plan
     requires { (n ≤ 65535) × (p < n) }
-    ensures { ((pr : Program) → Starts try-clause pr n p x (appliedOf result)) × (result.count ≤ newMost) × (result.changes.count ≡ 0) }
+    ensures { ((pr : Program) → Starts try_clause pr n p x (applied_of result)) × (result.count ≤ new_most) × (result.changes.count ≡ 0) }
 {
     let call = move_plan::try_spot(x.spot, x.spot.found, x.spot.first);
     let one = move_plan::new_process(codes::INPUT_MATCH, codes::READY, p, call);
@@ -215,7 +215,7 @@ pub fn start_try_clause(n: usize, p: usize, x: Process) -> Plan
 
 // Both must succeed.
 pub fn wait_try_clause(told: Told, p: usize, x: Process) -> Plan
-    ensures { ((ps : List Process) → Tells ps p told → Waits try-clause ps p x (appliedOf result)) × (result.count ≤ newMost) × (result.changes.count ≡ 0) }
+    ensures { ((ps : List Process) → Tells ps p told → Waits try_clause ps p x (applied_of result)) × (result.count ≤ new_most) × (result.changes.count ≡ 0) }
 {
     if told.failed {
         return move_plan::report(Move::TryClauseFailure(p), codes::FAILURE, x);
@@ -239,7 +239,7 @@ pub fn start_guard_eval(
     x: Process,
 ) -> Plan
     requires { (rels ≤ 32) × (clauses ≤ 64) × (n ≤ 65535) × (p < n) × Indexed image.now rels clauses ix.now }
-    ensures { Starts guard-eval (program_of image.now rels clauses) n p x (appliedOf result) × (result.count ≤ newMost) × (result.changes.count ≡ 0) }
+    ensures { Starts guard_eval (program_of image.now rels clauses) n p x (applied_of result) × (result.count ≤ new_most) × (result.changes.count ≡ 0) }
 {
     let size = program_goal::goal_size(image, rels, clauses, ix, codes::THE_GUARD, x.spot.found);
     if size == 0 {
@@ -254,7 +254,7 @@ pub fn start_guard_eval(
 
 // Tells what the guard tells.
 pub fn wait_guard_eval(told: Told, p: usize, x: Process) -> Plan
-    ensures { ((ps : List Process) → Tells ps p told → Waits guard-eval ps p x (appliedOf result)) × (result.count ≤ newMost) × (result.changes.count ≡ 0) }
+    ensures { ((ps : List Process) → Tells ps p told → Waits guard_eval ps p x (applied_of result)) × (result.count ≤ new_most) × (result.changes.count ≡ 0) }
 {
     let news = told.latest;
     match news {

@@ -8,21 +8,21 @@ use borrow.Author.Tests.{le-ltb, lt-ltb, ltb-false, ltb-true}
 use native.Mathlib.Omega.{arith}
 use Rattle.decide.proofs.Laws.{decide-cong}
 use Rattle.parlog.proofs.Bools.{split}
-use Rattle.parlog.specs.Image.{isInput}
-use Rattle.parlog.specs.Program.{outCount}
-use Rattle.parlog.specs.Unify.{inputValue, match_of, outAfter, pair_of, pairsOf}
+use Rattle.parlog.specs.Image.{is_input}
+use Rattle.parlog.specs.Program.{out_count}
+use Rattle.parlog.specs.Unify.{input_value, match_of, out_after, pair_of, pairs_of}
 use Rattle.parlog.specs.declared.Binding.{Binding}
 use Rattle.parlog.specs.declared.Pair.{Pair}
 use Rattle.parlog.specs.declared.Term.{Term}
-use Rattle.rules_match.specs.Starts.{inFour, least}
+use Rattle.rules_match.specs.Starts.{in_four, least}
 
 -- ---- four places
 
-pub four_is : {A : Type 0} (d : A) (xs : List A) {a b c e : A} → a ≡ get_or xs 0 d → b ≡ get_or xs 1 d → c ≡ get_or xs 2 d → e ≡ get_or xs 3 d → a ∷ b ∷ c ∷ e ∷ [] ≡ inFour d xs
+pub four_is : {A : Type 0} (d : A) (xs : List A) {a b c e : A} → a ≡ get_or xs 0 d → b ≡ get_or xs 1 d → c ≡ get_or xs 2 d → e ≡ get_or xs 3 d → a ∷ b ∷ c ∷ e ∷ [] ≡ in_four d xs
 four_is d xs ea eb ec ee = rw (ea, eb, ec, ee)
 
 -- what a list has in front, its four places have
-pub four-take : {A : Type 0} (d : A) (k : ℕ) (xs : List A) → k ≤ 4 → k ≤ length xs → take k (inFour d xs) ≡ take k xs
+pub four-take : {A : Type 0} (d : A) (k : ℕ) (xs : List A) → k ≤ 4 → k ≤ length xs → take k (in_four d xs) ≡ take k xs
 four-take d zero xs h g = refl
 four-take d (suc zero) [] h g = absurd (omega arith)
 four-take d (suc zero) (a ∷ xs) h g = refl
@@ -83,22 +83,22 @@ pub least-right : (a b : ℕ) → least a b ≤ b
 unfolding least
 least-right a b = split (ltb a b) (λ e. let h = ltb-true a b e in rw e (omega arith)) (λ e. rw e (omega arith))
 
-pub outs-take : (k : ℕ) (ms : List ℕ) → outCount (take k ms) ≤ outCount ms
-unfolding outCount
+pub outs-take : (k : ℕ) (ms : List ℕ) → out_count (take k ms) ≤ out_count ms
+unfolding out_count
 outs-take zero ms = omega arith
 outs-take (suc k) [] = omega arith
-outs-take (suc k) (m ∷ ms) = split (isInput m) (λ e. rw e (outs-take k ms)) (λ e. rw e (omega (arith, outs-take k ms)))
+outs-take (suc k) (m ∷ ms) = split (is_input m) (λ e. rw e (outs-take k ms)) (λ e. rw e (omega (arith, outs-take k ms)))
 
 pairs-cut : (ms : List ℕ) (xs : List Term) (b : ℕ) (ts : List Term) (first out : ℕ) → length ms ≤ length ts
-    → pairsOf (take (shorter ms xs) ms) (take (shorter ms xs) xs) b (take (shorter ms xs) ts) first out ≡ pairsOf ms xs b ts first out
-unfolding pairsOf shorter
+    → pairs_of (take (shorter ms xs) ms) (take (shorter ms xs) xs) b (take (shorter ms xs) ts) first out ≡ pairs_of ms xs b ts first out
+unfolding pairs_of shorter
 pairs-cut [] xs b ts first out h = refl
 pairs-cut (m ∷ ms) [] b ts first out h = refl
 pairs-cut (m ∷ ms) (x ∷ xs) b [] first out h = absurd (omega arith)
-pairs-cut (m ∷ ms) (x ∷ xs) b (t ∷ ts) first out h = ap (λ (es : List Pair). pair_of m x b t first out ∷ es) (pairs-cut ms xs b ts first (outAfter m out) (omega arith))
+pairs-cut (m ∷ ms) (x ∷ xs) b (t ∷ ts) first out h = ap (λ (es : List Pair). pair_of m x b t first out ∷ es) (pairs-cut ms xs b ts first (out_after m out) (omega arith))
 
-input-cut : (vs : List Binding) (ms : List ℕ) (xs : List Term) (b v : ℕ) → inputValue vs (take (shorter ms xs) ms) (take (shorter ms xs) xs) b v ≡ inputValue vs ms xs b v
-unfolding inputValue shorter
+input-cut : (vs : List Binding) (ms : List ℕ) (xs : List Term) (b v : ℕ) → input_value vs (take (shorter ms xs) ms) (take (shorter ms xs) xs) b v ≡ input_value vs ms xs b v
+unfolding input_value shorter
 input-cut vs [] xs b v = refl
 input-cut vs (m ∷ ms) [] b v = refl
 input-cut vs (m ∷ ms) (x ∷ xs) b v = rw (input-cut vs ms xs b v)
@@ -109,4 +109,4 @@ pub match-cut : (vs : List Binding) (ms : List ℕ) (xs : List Term) (b : ℕ) (
 unfolding match_of
 match-cut vs ms xs b ts first own h {k} e =
     let q : k ≡ shorter ms xs = e ∙ least-shorter ms xs in
-    rw (q, pairs-cut ms xs b ts first own h) (decide-cong vs (pairsOf ms xs b ts first own) _ (inputValue vs ms xs b) (input-cut vs ms xs b))
+    rw (q, pairs-cut ms xs b ts first own h) (decide-cong vs (pairs_of ms xs b ts first own) _ (input_value vs ms xs b) (input-cut vs ms xs b))

@@ -1,11 +1,11 @@
 -- What the rules of matching read at the mover's places, and what they make of a decision.
 use Rattle.std.specs.Prelude.{cond, [], ◌∷◌, List, ◌+◌, ◌≤◌, ℕ, ltb, get_or, length}
-use Rattle.decide.specs.Decision.{changesOf, Shifted}
+use Rattle.decide.specs.Decision.{changes_of, Shifted}
 use Rattle.parlog.specs.Codes.{failure, success}
-use Rattle.parlog.specs.Delta.{only, report, reporting-with, withNotes}
-use Rattle.parlog.specs.Program.{argument, callModes, clauseAt, literalAt, outCount, Program}
-use Rattle.parlog.specs.Rules.{Applied, by-rule, matchAt}
-use Rattle.parlog.specs.Unify.{binds, Decided, equateOf, fails, suspends}
+use Rattle.parlog.specs.Delta.{only, report, reporting_with, with_notes}
+use Rattle.parlog.specs.Program.{argument, call_modes, clause_at, literal_at, out_count, Program}
+use Rattle.parlog.specs.Rules.{Applied, by_rule, match_at}
+use Rattle.parlog.specs.Unify.{binds, Decided, equate_of, fails, suspends}
 use Rattle.parlog.specs.declared.Binding.{Binding}
 use Rattle.parlog.specs.declared.Move.{Move}
 use Rattle.parlog.specs.declared.Process.{Process}
@@ -17,24 +17,24 @@ use Rattle.unify.specs.Pending.{top, Writable}
 -- the terms of the call and of the head that z names, in the run's numbering, are below the count, and so are the new variables;
 -- the head is no shorter than the modes; what the match binds can be written
 pub record MatchThere (pr : Program) (vs : List Binding) (z : Spot) : Type 0 where
-  pub args : Shifted (literalAt pr z).args z.base 4 (length vs)
-  pub head : Shifted (clauseAt pr z.found).head z.first 4 (length vs)
-  pub outs : z.first + (clauseAt pr z.found).vars + outCount (callModes pr z) ≤ length vs
-  pub few : length (callModes pr z) ≤ 4
-  pub whole : length (callModes pr z) ≤ length (clauseAt pr z.found).head
-  pub made : Writable (length vs) (changesOf (matchAt pr vs z))
+  pub args : Shifted (literal_at pr z).args z.base 4 (length vs)
+  pub head : Shifted (clause_at pr z.found).head z.first 4 (length vs)
+  pub outs : z.first + (clause_at pr z.found).vars + out_count (call_modes pr z) ≤ length vs
+  pub few : length (call_modes pr z) ≤ 4
+  pub whole : length (call_modes pr z) ≤ length (clause_at pr z.found).head
+  pub made : Writable (length vs) (changes_of (match_at pr vs z))
 
 -- the same of the two terms of an equation
 pub record EquateThere (pr : Program) (vs : List Binding) (z : Spot) : Type 0 where
-  pub left : top (argument (literalAt pr z) 0) + z.base ≤ length vs
-  pub right : top (argument (literalAt pr z) 1) + z.base ≤ length vs
-  pub made : (bar : ℕ) → Writable (length vs) (changesOf (equateOf vs (argument (literalAt pr z) 0) (argument (literalAt pr z) 1) z.base bar))
+  pub left : top (argument (literal_at pr z) 0) + z.base ≤ length vs
+  pub right : top (argument (literal_at pr z) 1) + z.base ≤ length vs
+  pub made : (bar : ℕ) → Writable (length vs) (changes_of (equate_of vs (argument (literal_at pr z) 0) (argument (literal_at pr z) 1) z.base bar))
 
 -- ---- four places
 
 -- a list in four places, d behind it
-abbrev pub inFour : {A : Type 0} → A → List A → List A
-inFour d xs = get_or xs 0 d ∷ get_or xs 1 d ∷ get_or xs 2 d ∷ get_or xs 3 d ∷ []
+abbrev pub in_four : {A : Type 0} → A → List A → List A
+in_four d xs = get_or xs 0 d ∷ get_or xs 1 d ∷ get_or xs 2 d ∷ get_or xs 3 d ∷ []
 
 unfoldable pub least : ℕ → ℕ → ℕ
 least a b = cond (ltb a b) a b
@@ -43,7 +43,7 @@ least a b = cond (ltb a b) a b
 
 -- the rules of input-match and of equate differ in their moves alone
 unfoldable pub start_by : Move → Move → Move → Move → Decided → Process → Applied
-start_by fail suspend plain bind fails x = by-rule fail (report failure x)
-start_by fail suspend plain bind (suspends v ns) x = by-rule suspend (only (withNotes (v ∷ ns) x))
-start_by fail suspend plain bind (binds []) x = by-rule plain (report success x)
-start_by fail suspend plain bind (binds (c ∷ cs)) x = by-rule bind (reporting-with success x (c ∷ cs))
+start_by fail suspend plain bind fails x = by_rule fail (report failure x)
+start_by fail suspend plain bind (suspends v ns) x = by_rule suspend (only (with_notes (v ∷ ns) x))
+start_by fail suspend plain bind (binds []) x = by_rule plain (report success x)
+start_by fail suspend plain bind (binds (c ∷ cs)) x = by_rule bind (reporting_with success x (c ∷ cs))

@@ -2,14 +2,14 @@
 ghost use Rattle.program_index.specs.Indexed.{Indexed};
 ghost use Rattle.std.specs.Prelude.{◌≡◌, cond, ◌*◌, ◌≤◌, eqb, get_or, length};
 ghost use Rattle.parlog.specs.declared.Term.TheVariants.{Const, Var};
-ghost use Rattle.parlog.specs.Program.{clauseAt, modesAt, program_of};
-ghost use Rattle.parlog.specs.Rules.{equateAt, equateStart, inputMatchStart, matchAt, wakeRule};
-ghost use Rattle.parlog.specs.Tables.{cellSize, noted, rowSize, varsIn};
-ghost use Rattle.parlog.specs.Unify.{someBound};
-ghost use Rattle.unify.specs.Pending.{noChange, Writable};
-ghost use Rattle.decide.specs.Decision.{decidedOf, Decides, toBind};
-ghost use Rattle.move_plan.specs.Plans.{appliedOf, newMost, stateIn, Within};
-ghost use Rattle.rules_match.specs.Starts.{EquateThere, inFour, least, MatchThere, start_by};
+ghost use Rattle.parlog.specs.Program.{clause_at, modes_at, program_of};
+ghost use Rattle.parlog.specs.Rules.{equate_at, equate_start, input_match_start, match_at, wake_rule};
+ghost use Rattle.parlog.specs.Tables.{cell_size, noted, row_size, vars_in};
+ghost use Rattle.parlog.specs.Unify.{some_bound};
+ghost use Rattle.unify.specs.Pending.{no_change, Writable};
+ghost use Rattle.decide.specs.Decision.{decided_of, Decides, to_bind};
+ghost use Rattle.move_plan.specs.Plans.{applied_of, new_most, state_in, Within};
+ghost use Rattle.rules_match.specs.Starts.{EquateThere, in_four, least, MatchThere, start_by};
 
 use decide::{Decision, Deed};
 use move_plan::{Changes, Plan};
@@ -30,7 +30,7 @@ fn first_noted(d: Decision) -> Term
 // The variable bound first.
 fn first_bound(d: Decision) -> Term
     requires { length d.binds ≡ 4 }
-    ensures { result ≡ Var (get_or d.binds 0 noChange).var }
+    ensures { result ≡ Var (get_or d.binds 0 no_change).var }
 {
     let binds = d.binds;
     let c = binds[0];
@@ -54,8 +54,8 @@ fn start_by(
     bind: Move,
     x: Process,
 ) -> Plan
-    requires { Decides (decidedOf d) d × Writable m (toBind d) }
-    ensures { (appliedOf result ≡ start_by fail suspend plain bind (decidedOf d) x) × (result.count ≤ newMost) × (result.changes.count ≤ 4) × Within m result.changes.count result.changes.list }
+    requires { Decides (decided_of d) d × Writable m (to_bind d) }
+    ensures { (applied_of result ≡ start_by fail suspend plain bind (decided_of d) x) × (result.count ≤ new_most) × (result.changes.count ≤ 4) × Within m result.changes.count result.changes.list }
 {
     let deed = d.deed;
     match deed {
@@ -86,7 +86,7 @@ fn four_modes(
     q: usize,
 ) -> [u8; codes::MOST_ARITY]
     requires { (rels ≤ 32) × (clauses ≤ 64) × Indexed image.now rels clauses ix.now }
-    ensures { result ≡ inFour 0 (modesAt (program_of image.now rels clauses) q) }
+    ensures { result ≡ in_four 0 (modes_at (program_of image.now rels clauses) q) }
 {
     let a = program_clause::mode_of(image, rels, clauses, ix, q, 0);
     let b = program_clause::mode_of(image, rels, clauses, ix, q, 1);
@@ -104,7 +104,7 @@ fn four_terms(
     k: usize,
 ) -> [Term; codes::MOST_ARITY]
     requires { (rels ≤ 32) × (clauses ≤ 64) × Indexed image.now rels clauses ix.now }
-    ensures { result ≡ inFour (Const 0) (clauseAt (program_of image.now rels clauses) k).head }
+    ensures { result ≡ in_four (Const 0) (clause_at (program_of image.now rels clauses) k).head }
 {
     let a = program_clause::head_term(image, rels, clauses, ix, k, 0);
     let b = program_clause::head_term(image, rels, clauses, ix, k, 1);
@@ -129,8 +129,8 @@ fn match_at(
     m: usize,
     z: Spot,
 ) -> Decision
-    requires { (rels ≤ 32) × (clauses ≤ 64) × (m * cellSize ≤ length vars.now) × (m ≤ 65535) × MatchThere (program_of image.now rels clauses) (varsIn vars.now m) z × Indexed image.now rels clauses ix.now }
-    ensures { Decides (matchAt (program_of image.now rels clauses) (varsIn vars.now m) z) result }
+    requires { (rels ≤ 32) × (clauses ≤ 64) × (m * cell_size ≤ length vars.now) × (m ≤ 65535) × MatchThere (program_of image.now rels clauses) (vars_in vars.now m) z × Indexed image.now rels clauses ix.now }
+    ensures { Decides (match_at (program_of image.now rels clauses) (vars_in vars.now m) z) result }
 {
     let l = program_goal::literal(image, rels, clauses, ix, z);
     let q = l.rel;
@@ -160,8 +160,8 @@ pub fn start_input_match(
     p: usize,
     x: Process,
 ) -> Plan
-    requires { (rels ≤ 32) × (clauses ≤ 64) × (m * cellSize ≤ length vars.now) × (m ≤ 65535) × MatchThere (program_of image.now rels clauses) (varsIn vars.now m) x.spot × Indexed image.now rels clauses ix.now }
-    ensures { (appliedOf result ≡ inputMatchStart (matchAt (program_of image.now rels clauses) (varsIn vars.now m) x.spot) p x) × (result.count ≤ newMost) × (result.changes.count ≤ 4) × Within m result.changes.count result.changes.list }
+    requires { (rels ≤ 32) × (clauses ≤ 64) × (m * cell_size ≤ length vars.now) × (m ≤ 65535) × MatchThere (program_of image.now rels clauses) (vars_in vars.now m) x.spot × Indexed image.now rels clauses ix.now }
+    ensures { (applied_of result ≡ input_match_start (match_at (program_of image.now rels clauses) (vars_in vars.now m) x.spot) p x) × (result.count ≤ new_most) × (result.changes.count ≤ 4) × Within m result.changes.count result.changes.list }
 {
     let z = x.spot;
     let d = match_at(image, rels, clauses, ix, vars, m, z);
@@ -193,8 +193,8 @@ fn equate_at(
     p: usize,
     z: Spot,
 ) -> Decision
-    requires { (rels ≤ 32) × (clauses ≤ 64) × (n * rowSize ≤ length procs.now) × (m * cellSize ≤ length vars.now) × (m ≤ 65535) × EquateThere (program_of image.now rels clauses) (varsIn vars.now m) z × Indexed image.now rels clauses ix.now }
-    ensures { Decides (equateAt (program_of image.now rels clauses) (stateIn procs.now n vars.now m) p z) result }
+    requires { (rels ≤ 32) × (clauses ≤ 64) × (n * row_size ≤ length procs.now) × (m * cell_size ≤ length vars.now) × (m ≤ 65535) × EquateThere (program_of image.now rels clauses) (vars_in vars.now m) z × Indexed image.now rels clauses ix.now }
+    ensures { Decides (equate_at (program_of image.now rels clauses) (state_in procs.now n vars.now m) p z) result }
 {
     let l = program_goal::literal(image, rels, clauses, ix, z);
     let t = l.a;
@@ -216,8 +216,8 @@ pub fn start_equate(
     p: usize,
     x: Process,
 ) -> Plan
-    requires { (rels ≤ 32) × (clauses ≤ 64) × (n * rowSize ≤ length procs.now) × (m * cellSize ≤ length vars.now) × (m ≤ 65535) × EquateThere (program_of image.now rels clauses) (varsIn vars.now m) x.spot × Indexed image.now rels clauses ix.now }
-    ensures { (appliedOf result ≡ equateStart (equateAt (program_of image.now rels clauses) (stateIn procs.now n vars.now m) p x.spot) p x) × (result.count ≤ newMost) × (result.changes.count ≤ 4) × Within m result.changes.count result.changes.list }
+    requires { (rels ≤ 32) × (clauses ≤ 64) × (n * row_size ≤ length procs.now) × (m * cell_size ≤ length vars.now) × (m ≤ 65535) × EquateThere (program_of image.now rels clauses) (vars_in vars.now m) x.spot × Indexed image.now rels clauses ix.now }
+    ensures { (applied_of result ≡ equate_start (equate_at (program_of image.now rels clauses) (state_in procs.now n vars.now m) p x.spot) p x) × (result.count ≤ new_most) × (result.changes.count ≤ 4) × Within m result.changes.count result.changes.list }
 {
     let z = x.spot;
     let d = equate_at(image, rels, clauses, ix, procs, n, vars, m, p, z);
@@ -238,8 +238,8 @@ pub fn start_equate(
 
 // A suspended process starts again once a variable that it notes is bound.
 pub fn wake(vars: &[u8], m: usize, p: usize, x: Process) -> Plan
-    requires { (m * cellSize ≤ length vars.now) × (x.count ≤ 4) }
-    ensures { (appliedOf result ≡ wakeRule (someBound (varsIn vars.now m) (noted x)) p x) × (result.count ≤ newMost) × (result.changes.count ≤ 4) × Within m result.changes.count result.changes.list }
+    requires { (m * cell_size ≤ length vars.now) × (x.count ≤ 4) }
+    ensures { (applied_of result ≡ wake_rule (some_bound (vars_in vars.now m) (noted x)) p x) × (result.count ≤ new_most) × (result.changes.count ≤ 4) × Within m result.changes.count result.changes.list }
 {
     let notes = x.notes;
     let bound = unify::some_bound(vars, m, x.count as usize, notes);

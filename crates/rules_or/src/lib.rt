@@ -2,14 +2,14 @@
 ghost use Rattle.program_index.specs.Indexed.{Indexed};
 ghost use Rattle.std.specs.Prelude.{◌≡◌, [], ◌∷◌, ◌++◌, List, ◌+◌, ◌*◌, ◌≤◌, ◌<◌, suc, ltb, get_or, length};
 ghost use Rattle.children.specs.Telling.{Tells};
-ghost use Rattle.parlog.specs.Codes.{isTag, or-par, or-search, ready, seq-search, success, try-clause};
-ghost use Rattle.parlog.specs.Delta.{report, trySpot};
-ghost use Rattle.parlog.specs.Program.{blockCount, block_of, literalAt, Program, program_of, varsOf};
-ghost use Rattle.parlog.specs.Rules.{block_at, bodyChild, by-rule, orParHeard, orSearchWait, searching, seqSearchNext, startRule, tries, triesVars, waitRule, withFound};
-ghost use Rattle.parlog.specs.Tables.{at, newProcess, procsOf, rowSize, State};
+ghost use Rattle.parlog.specs.Codes.{is_tag, or_par, or_search, ready, seq_search, success, try_clause};
+ghost use Rattle.parlog.specs.Delta.{report, try_spot};
+ghost use Rattle.parlog.specs.Program.{block_count, block_of, literal_at, Program, program_of, vars_of};
+ghost use Rattle.parlog.specs.Rules.{block_at, body_child, by_rule, or_par_heard, or_search_wait, searching, seq_search_next, start_rule, tries, tries_vars, wait_rule, with_found};
+ghost use Rattle.parlog.specs.Tables.{at, new_process, procs_of, row_size, State};
 ghost use Rattle.parlog.specs.declared.Binding.{Binding};
 ghost use Rattle.parlog.specs.declared.Found.TheVariants.{Nothing};
-ghost use Rattle.move_plan.specs.Plans.{appliedOf, newMost};
+ghost use Rattle.move_plan.specs.Plans.{applied_of, new_most};
 ghost use Rattle.rows.specs.Rows.{Table};
 
 use children::{News, Told};
@@ -27,7 +27,7 @@ fn called(
     z: Spot,
 ) -> usize
     requires { (rels ≤ 32) × (clauses ≤ 64) × Indexed image.now rels clauses ix.now }
-    ensures { (result ≡ (literalAt (program_of image.now rels clauses) z).rel) × (result ≤ 255) }
+    ensures { (result ≡ (literal_at (program_of image.now rels clauses) z).rel) × (result ≤ 255) }
 {
     let l = program_goal::literal(image, rels, clauses, ix, z);
     l.rel
@@ -35,8 +35,8 @@ fn called(
 
 // Reports success with the clause that child c names.
 fn commit(mv: Move, procs: &[u8], n: usize, c: usize, x: Process) -> Plan
-    requires { n * rowSize ≤ length procs.now }
-    ensures { ((vs : List Binding) → appliedOf result ≡ by-rule mv (report success (withFound (record { procs = procsOf procs.entry.now n; vars = vs }) c x))) × (result.count ≤ newMost) × (result.changes.count ≡ 0) }
+    requires { n * row_size ≤ length procs.now }
+    ensures { ((vs : List Binding) → applied_of result ≡ by_rule mv (report success (with_found (record { procs = procs_of procs.entry.now n; vars = vs }) c x))) × (result.count ≤ new_most) × (result.changes.count ≡ 0) }
 {
     let y = rows::get(procs, n, c);
     let z = move_plan::with_clause(x.spot, y.spot.found, y.spot.first);
@@ -49,7 +49,7 @@ fn commit(mv: Move, procs: &[u8], n: usize, c: usize, x: Process) -> Plan
 // Has a clause looked for.
 pub fn start_or_par(n: usize, p: usize, x: Process) -> Plan
     requires { (n ≤ 65535) × (p < n) }
-    ensures { ((pr : Program) (s : State) → length s.procs ≡ n → appliedOf result ≡ startRule or-par pr s p x) × (result.count ≤ newMost) × (result.changes.count ≡ 0) }
+    ensures { ((pr : Program) (s : State) → length s.procs ≡ n → applied_of result ≡ start_rule or_par pr s p x) × (result.count ≤ new_most) × (result.changes.count ≡ 0) }
 {
     let z = move_plan::literal_spot(x.spot, x.spot.literal);
     let y = move_plan::new_process(codes::SEQ_SEARCH, codes::STARTING, p, z);
@@ -68,7 +68,7 @@ fn body_child(
     v: u16,
 ) -> Process
     requires { (rels ≤ 32) × (clauses ≤ 64) × (p ≤ 65535) × Indexed image.now rels clauses ix.now }
-    ensures { result ≡ bodyChild (program_of image.now rels clauses) p k v }
+    ensures { result ≡ body_child (program_of image.now rels clauses) p k v }
 {
     let t = program_goal::tag_of_body(image, rels, clauses, ix, k);
     let z = move_plan::goal_spot(codes::THE_BODY, k, v);
@@ -87,8 +87,8 @@ fn or_par_heard(
     x: Process,
     c: usize,
 ) -> Plan
-    requires { (rels ≤ 32) × (clauses ≤ 64) × (n * rowSize ≤ length procs.now) × (n ≤ 65535) × (p < n) × Indexed image.now rels clauses ix.now }
-    ensures { ((vs : List Binding) → appliedOf result ≡ orParHeard (isTag seq-search (at (procsOf procs.entry.now n) c).tag) (program_of image.now rels clauses) (record { procs = procsOf procs.entry.now n; vars = vs }) p x c) × (result.count ≤ newMost) × (result.changes.count ≡ 0) }
+    requires { (rels ≤ 32) × (clauses ≤ 64) × (n * row_size ≤ length procs.now) × (n ≤ 65535) × (p < n) × Indexed image.now rels clauses ix.now }
+    ensures { ((vs : List Binding) → applied_of result ≡ or_par_heard (is_tag seq_search (at (procs_of procs.entry.now n) c).tag) (program_of image.now rels clauses) (record { procs = procs_of procs.entry.now n; vars = vs }) p x c) × (result.count ≤ new_most) × (result.changes.count ≡ 0) }
 {
     let y = rows::get(procs, n, c);
     if y.tag != codes::SEQ_SEARCH {
@@ -110,8 +110,8 @@ pub fn wait_or_par(
     x: Process,
     told: Told,
 ) -> Plan
-    requires { (rels ≤ 32) × (clauses ≤ 64) × (n * rowSize ≤ length procs.now) × (n ≤ 65535) × (p < n) × Tells (procsOf procs.now n) p told × Indexed image.now rels clauses ix.now }
-    ensures { ((vs : List Binding) → appliedOf result ≡ waitRule or-par (program_of image.now rels clauses) (record { procs = procsOf procs.entry.now n; vars = vs }) p x) × (result.count ≤ newMost) × (result.changes.count ≡ 0) }
+    requires { (rels ≤ 32) × (clauses ≤ 64) × (n * row_size ≤ length procs.now) × (n ≤ 65535) × (p < n) × Tells (procs_of procs.now n) p told × Indexed image.now rels clauses ix.now }
+    ensures { ((vs : List Binding) → applied_of result ≡ wait_rule or_par (program_of image.now rels clauses) (record { procs = procs_of procs.entry.now n; vars = vs }) p x) × (result.count ≤ new_most) × (result.changes.count ≡ 0) }
 {
     let h = told.latest;
     match h {
@@ -126,7 +126,7 @@ pub fn wait_or_par(
 // At block b, with a process that tries it.
 fn searching(mv: Move, b: u8, p: usize, x: Process, nap: Found) -> Plan
     requires { p ≤ 65535 }
-    ensures { (appliedOf result ≡ by-rule mv (searching b p x nap)) × (result.count ≤ newMost) × (result.changes.count ≡ 0) }
+    ensures { (applied_of result ≡ by_rule mv (searching b p x nap)) × (result.count ≤ new_most) × (result.changes.count ≡ 0) }
 {
     let here = move_plan::at_block(x.spot, b);
     let me = move_plan::with_spot(x, codes::WAITING, here);
@@ -144,7 +144,7 @@ fn blocks(
     z: Spot,
 ) -> usize
     requires { (rels ≤ 32) × (clauses ≤ 64) × Indexed image.now rels clauses ix.now }
-    ensures { (result ≡ blockCount (program_of image.now rels clauses) (literalAt (program_of image.now rels clauses) z).rel) × (result ≤ 64) }
+    ensures { (result ≡ block_count (program_of image.now rels clauses) (literal_at (program_of image.now rels clauses) z).rel) × (result ≤ 64) }
 {
     let rel = called(image, rels, clauses, ix, z);
     program_block::block_count(image, rels, clauses, ix, rel)
@@ -161,7 +161,7 @@ pub fn start_seq_search(
     x: Process,
 ) -> Plan
     requires { (rels ≤ 32) × (clauses ≤ 64) × (n ≤ 65535) × (p < n) × Indexed image.now rels clauses ix.now }
-    ensures { ((s : State) → length s.procs ≡ n → appliedOf result ≡ startRule seq-search (program_of image.now rels clauses) s p x) × (result.count ≤ newMost) × (result.changes.count ≡ 0) }
+    ensures { ((s : State) → length s.procs ≡ n → applied_of result ≡ start_rule seq_search (program_of image.now rels clauses) s p x) × (result.count ≤ new_most) × (result.changes.count ≡ 0) }
 {
     let count = blocks(image, rels, clauses, ix, x.spot);
     if count == 0 {
@@ -182,7 +182,7 @@ fn next_block(
     c: usize,
 ) -> Plan
     requires { (rels ≤ 32) × (clauses ≤ 64) × (n ≤ 65535) × (p < n) × (x.spot.block < 255) × Indexed image.now rels clauses ix.now }
-    ensures { ((s : State) → length s.procs ≡ n → appliedOf result ≡ seqSearchNext (ltb (suc x.spot.block) (blockCount (program_of image.now rels clauses) (literalAt (program_of image.now rels clauses) x.spot).rel)) s p x c) × (result.count ≤ newMost) × (result.changes.count ≡ 0) }
+    ensures { ((s : State) → length s.procs ≡ n → applied_of result ≡ seq_search_next (ltb (suc x.spot.block) (block_count (program_of image.now rels clauses) (literal_at (program_of image.now rels clauses) x.spot).rel)) s p x c) × (result.count ≤ new_most) × (result.changes.count ≡ 0) }
 {
     let count = blocks(image, rels, clauses, ix, x.spot);
     let b = x.spot.block + 1;
@@ -204,8 +204,8 @@ pub fn wait_seq_search(
     x: Process,
     told: Told,
 ) -> Plan
-    requires { (rels ≤ 32) × (clauses ≤ 64) × (n * rowSize ≤ length procs.now) × (n ≤ 65535) × (p < n) × (x.spot.block < 255) × Tells (procsOf procs.now n) p told × Indexed image.now rels clauses ix.now }
-    ensures { ((vs : List Binding) → appliedOf result ≡ waitRule seq-search (program_of image.now rels clauses) (record { procs = procsOf procs.entry.now n; vars = vs }) p x) × (result.count ≤ newMost) × (result.changes.count ≡ 0) }
+    requires { (rels ≤ 32) × (clauses ≤ 64) × (n * row_size ≤ length procs.now) × (n ≤ 65535) × (p < n) × (x.spot.block < 255) × Tells (procs_of procs.now n) p told × Indexed image.now rels clauses ix.now }
+    ensures { ((vs : List Binding) → applied_of result ≡ wait_rule seq_search (program_of image.now rels clauses) (record { procs = procs_of procs.entry.now n; vars = vs }) p x) × (result.count ≤ new_most) × (result.changes.count ≡ 0) }
 {
     let h = told.latest;
     match h {
@@ -220,7 +220,7 @@ pub fn wait_seq_search(
 // The process that tries clause k, its first variable v.
 fn try_child(p: usize, z: Spot, k: usize, v: usize) -> Process
     requires { (p ≤ 65535) × (k ≤ 255) × (v ≤ 65535) }
-    ensures { result ≡ newProcess try-clause ready p (trySpot z k v) }
+    ensures { result ≡ new_process try_clause ready p (try_spot z k v) }
 {
     let y = move_plan::try_spot(z, k as u8, v as u16);
     move_plan::new_process(codes::TRY_CLAUSE, codes::READY, p, y)
@@ -240,8 +240,8 @@ fn try_one(
     j: usize,
     v: usize,
 ) -> usize
-    requires { (rels ≤ 32) × (clauses ≤ 64) × (p ≤ 65535) × (v ≤ 65535) × (j * rowSize + rowSize ≤ length rows.old) × Indexed image.now rels clauses ix.now }
-    ensures { (result ≡ v + varsOf (program_of image.now rels clauses) (get_or (block_of (program_of image.now rels clauses) rel b) j 255)) × (result ≤ v + 510) × Table rows.old rows.new (procsOf rows.old j ++ (newProcess try-clause ready p (trySpot z (get_or (block_of (program_of image.now rels clauses) rel b) j 255) v) ∷ [])) }
+    requires { (rels ≤ 32) × (clauses ≤ 64) × (p ≤ 65535) × (v ≤ 65535) × (j * row_size + row_size ≤ length rows.old) × Indexed image.now rels clauses ix.now }
+    ensures { (result ≡ v + vars_of (program_of image.now rels clauses) (get_or (block_of (program_of image.now rels clauses) rel b) j 255)) × (result ≤ v + 510) × Table rows.old rows.new (procs_of rows.old j ++ (new_process try_clause ready p (try_spot z (get_or (block_of (program_of image.now rels clauses) rel b) j 255) v) ∷ [])) }
 {
     let k = program_block::block_clause(image, rels, clauses, ix, rel, b, j);
     let y = try_child(p, z, k, v);
@@ -263,8 +263,8 @@ fn try_all(
     b: u8,
     size: usize,
 ) -> usize
-    requires { (rels ≤ 32) × (clauses ≤ 64) × (p ≤ 65535) × (size ≡ length (block_of (program_of image.now rels clauses) rel b)) × (size * rowSize ≤ length rows.old) × (m + 510 * size ≤ 65535) × Indexed image.now rels clauses ix.now }
-    ensures { (procsOf rows.new size ≡ tries (program_of image.now rels clauses) p z m (block_of (program_of image.now rels clauses) rel b)) × (result ≡ m + triesVars (program_of image.now rels clauses) (block_of (program_of image.now rels clauses) rel b)) }
+    requires { (rels ≤ 32) × (clauses ≤ 64) × (p ≤ 65535) × (size ≡ length (block_of (program_of image.now rels clauses) rel b)) × (size * row_size ≤ length rows.old) × (m + 510 * size ≤ 65535) × Indexed image.now rels clauses ix.now }
+    ensures { (procs_of rows.new size ≡ tries (program_of image.now rels clauses) p z m (block_of (program_of image.now rels clauses) rel b)) × (result ≡ m + tries_vars (program_of image.now rels clauses) (block_of (program_of image.now rels clauses) rel b)) }
 {
     let mut v = m;
     let mut j = 0;
@@ -286,8 +286,8 @@ pub fn start_or_search(
     p: usize,
     x: Process,
 ) -> Plan
-    requires { (rels ≤ 32) × (clauses ≤ 64) × (n ≤ 65535) × (p < n) × (length (block_at (program_of image.now rels clauses) x.spot) ≤ newMost) × (m + 510 * length (block_at (program_of image.now rels clauses) x.spot) ≤ 65535) × Indexed image.now rels clauses ix.now }
-    ensures { ((s : State) → length s.procs ≡ n → length s.vars ≡ m → appliedOf result ≡ startRule or-search (program_of image.now rels clauses) s p x) × (result.count ≤ newMost) × (result.changes.count ≡ 0) }
+    requires { (rels ≤ 32) × (clauses ≤ 64) × (n ≤ 65535) × (p < n) × (length (block_at (program_of image.now rels clauses) x.spot) ≤ new_most) × (m + 510 * length (block_at (program_of image.now rels clauses) x.spot) ≤ 65535) × Indexed image.now rels clauses ix.now }
+    ensures { ((s : State) → length s.procs ≡ n → length s.vars ≡ m → applied_of result ≡ start_rule or_search (program_of image.now rels clauses) s p x) × (result.count ≤ new_most) × (result.changes.count ≡ 0) }
 {
     let rel = called(image, rels, clauses, ix, x.spot);
     let b = x.spot.block;
@@ -310,7 +310,7 @@ pub fn start_or_search(
 
 // No child tells success: fails if all tell failure.
 fn or_search_none(hopeless: bool, p: usize, x: Process) -> Plan
-    ensures { ((s : State) → appliedOf result ≡ orSearchWait Nothing hopeless s p x) × (result.count ≤ newMost) × (result.changes.count ≡ 0) }
+    ensures { ((s : State) → applied_of result ≡ or_search_wait Nothing hopeless s p x) × (result.count ≤ new_most) × (result.changes.count ≡ 0) }
 {
     if hopeless {
         return move_plan::report(Move::OrSearchFailure(p), codes::FAILURE, x);
@@ -320,8 +320,8 @@ fn or_search_none(hopeless: bool, p: usize, x: Process) -> Plan
 
 // Commits to the first clause that succeeds.
 pub fn wait_or_search(procs: &[u8], n: usize, p: usize, x: Process, told: Told) -> Plan
-    requires { (n * rowSize ≤ length procs.now) × (n ≤ 65535) × (p < n) × Tells (procsOf procs.now n) p told }
-    ensures { ((pr : Program) (vs : List Binding) → appliedOf result ≡ waitRule or-search pr (record { procs = procsOf procs.entry.now n; vars = vs }) p x) × (result.count ≤ newMost) × (result.changes.count ≡ 0) }
+    requires { (n * row_size ≤ length procs.now) × (n ≤ 65535) × (p < n) × Tells (procs_of procs.now n) p told }
+    ensures { ((pr : Program) (vs : List Binding) → applied_of result ≡ wait_rule or_search pr (record { procs = procs_of procs.entry.now n; vars = vs }) p x) × (result.count ≤ new_most) × (result.changes.count ≡ 0) }
 {
     let f = told.lowest;
     let Found::At(c) = f else {

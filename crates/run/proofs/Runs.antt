@@ -6,14 +6,14 @@ use mathlib.Core.List.{List}
 use Prim.Native.Nat.{◌+◌, ◌-◌, ◌<◌, suc, zero, ℕ}
 use lib.Dec.{eqb}
 use native.Mathlib.Omega.{arith}
-use Rattle.head.proofs.Laws.{head-is}
+use Rattle.head.proofs.Laws.{head_is}
 use Rattle.entry.proofs.Held.{count-procs, count-vars, put-over, same-lent}
 use Rattle.entry.specs.Entered.{Inside}
-use Rattle.parlog.specs.Codes.{isLive, result_of}
+use Rattle.parlog.specs.Codes.{is_live, result_of}
 use Rattle.parlog.specs.Limits.{Limits}
 use Rattle.parlog.specs.Program.{Program, program_of}
-use Rattle.parlog.specs.Run.{end_of, goalEnded, goalResult, halt, made, run_from, runStep, runTables, runTest, runTurn, stepTables, turnFor, unmade}
-use Rattle.parlog.specs.Tables.{Lent, procCount, putTables, Tables, tablesIn, varCount}
+use Rattle.parlog.specs.Run.{end_of, goal_ended, goal_result, halt, made, run_from, run_step, run_tables, run_test, run_turn, step_tables, turn_for, unmade}
+use Rattle.parlog.specs.Tables.{Lent, proc_count, put_tables, Tables, tables_in, var_count}
 use Rattle.parlog.specs.declared.End.{End}
 use Rattle.parlog.specs.declared.End.TheVariants.{Budget, Failure, Room, Success, Waiting}
 use Rattle.parlog.specs.declared.Found.TheVariants.{At, Nothing}
@@ -28,7 +28,7 @@ use Rattle.vars.proofs.Tables.{cells_same, vars-length}
 
 -- ---- the goal's process
 
-pub sleeps : {x mode : ℕ} → x ≡ mode → eqb x 0 ≡ not (isLive mode)
+pub sleeps : {x mode : ℕ} → x ≡ mode → eqb x 0 ≡ not (is_live mode)
 sleeps {x} {mode} e = rw e (go (eqb mode 0))
   where
     go : (b : Bool) → b ≡ not (not b)
@@ -48,67 +48,67 @@ end-other (suc (suc x)) h = refl
 -- ---- by the definitions
 
 module _ (lim : Limits) (pr : Program) (t : Tables) where
-  pub run-ended : (k n : ℕ) → goalEnded t ≡ true → run_from k lim pr n t ≡ halt (goalResult t) n t
-  unfolding run_from runTest
+  pub run-ended : (k n : ℕ) → goal_ended t ≡ true → run_from k lim pr n t ≡ halt (goal_result t) n t
+  unfolding run_from run_test
   run-ended zero n e = rw e
   run-ended (suc k) n e = rw e
 
-  module _ (e : goalEnded t ≡ false) where
-    pub run-waits : (k n : ℕ) → turnFor pr t ≡ Nothing → run_from k lim pr n t ≡ halt Waiting n t
-    unfolding run_from runTest runTurn
+  module _ (e : goal_ended t ≡ false) where
+    pub run-waits : (k n : ℕ) → turn_for pr t ≡ Nothing → run_from k lim pr n t ≡ halt Waiting n t
+    unfolding run_from run_test run_turn
     run-waits zero n f = rw (e, f)
     run-waits (suc k) n f = rw (e, f)
 
-    module _ {p : ℕ} (f : turnFor pr t ≡ At p) where
+    module _ {p : ℕ} (f : turn_for pr t ≡ At p) where
       pub run-spent : (n : ℕ) → run_from 0 lim pr n t ≡ halt Budget n t
-      unfolding run_from runTest runTurn
+      unfolding run_from run_test run_turn
       run-spent n = rw (e, f)
 
-      pub run_room : (k n : ℕ) {j : ℕ} → stepTables lim pr t p ≡ unmade j → run_from (suc k) lim pr n t ≡ halt Room n t
-      unfolding run_from runTest runTurn runStep
+      pub run_room : (k n : ℕ) {j : ℕ} → step_tables lim pr t p ≡ unmade j → run_from (suc k) lim pr n t ≡ halt Room n t
+      unfolding run_from run_test run_turn run_step
       run_room k n g = rw (e, f, g)
 
-      pub run-goes : (k n : ℕ) {m : Move} {t' : Tables} → stepTables lim pr t p ≡ made m t' → run_from (suc k) lim pr n t ≡ run_from k lim pr (suc n) t'
-      unfolding run_from runTest runTurn runStep
+      pub run-goes : (k n : ℕ) {m : Move} {t' : Tables} → step_tables lim pr t p ≡ made m t' → run_from (suc k) lim pr n t ≡ run_from k lim pr (suc n) t'
+      unfolding run_from run_test run_turn run_step
       run-goes k n g = rw (e, f, g)
 
 -- ---- tables written over
 
 -- tables written over fewer of the same tables
 module _ {lim : Limits} {s : List ℕ} {r c : ℕ} (l₀ l l' : Lent) (i₀ : Inside lim s r c l₀) (i : Inside lim s r c l) (i' : Inside lim s r c l') (a : Grown l₀ l) (b : Grown l l') where
-  over : l' ≡ putTables l₀ (tablesIn l')
+  over : l' ≡ put_tables l₀ (tables_in l')
   over =
-      let first : l ≡ putTables l₀ (tablesIn l) = same-lent l (putTables l₀ (tablesIn l)) a.head a.procs a.vars in
-      let second : l' ≡ putTables l (tablesIn l') = same-lent l' (putTables l (tablesIn l')) b.head b.procs b.vars in
+      let first : l ≡ put_tables l₀ (tables_in l) = same-lent l (put_tables l₀ (tables_in l)) a.head a.procs a.vars in
+      let second : l' ≡ put_tables l (tables_in l') = same-lent l' (put_tables l (tables_in l')) b.head b.procs b.vars in
       let n = count-procs l in
       let n' = count-procs l' in
       let m = count-vars l in
       let m' = count-vars l' in
       second
-      ∙ ap (λ (x : Lent). putTables x (tablesIn l')) first
-      ∙ put-over l₀ (tablesIn l) (tablesIn l') (omega (arith, b.more-procs)) (omega (arith, b.more-vars)) (omega (arith, i₀.procs-size, i'.procs-most)) (omega (arith, i₀.vars-size, i'.vars-most))
+      ∙ ap (λ (x : Lent). put_tables x (tables_in l')) first
+      ∙ put-over l₀ (tables_in l) (tables_in l') (omega (arith, b.more_procs)) (omega (arith, b.more_vars)) (omega (arith, i₀.procs_size, i'.procs_most)) (omega (arith, i₀.vars_size, i'.vars_most))
 
   pub grown-then : Grown l₀ l'
   grown-then = record {
     head = ap (λ (x : Lent). x.head) over;
     procs = ap (λ (x : Lent). x.procs) over;
     vars = ap (λ (x : Lent). x.vars) over;
-    more-procs = omega (arith, a.more-procs, b.more-procs);
-    more-vars = omega (arith, a.more-vars, b.more-vars);
+    more_procs = omega (arith, a.more_procs, b.more_procs);
+    more_vars = omega (arith, a.more_vars, b.more_vars);
   }
 
 -- the same bytes hold their own tables
 pub grown-same : {lim : Limits} {s : List ℕ} {r c : ℕ} (l : Lent) → Inside lim s r c l → Bytes l.head → Bytes l.procs → Bytes l.vars → Grown l l
-grown-same l i hs ps vs = record { head = head-same; procs = procs-same; vars = vars-same; more-procs = omega arith; more-vars = omega arith }
+grown-same l i hs ps vs = record { head = head-same; procs = procs-same; vars = vars-same; more_procs = omega arith; more_vars = omega arith }
   where
-    head-same : l.head ≡ (putTables l (tablesIn l)).head
-    head-same = unfold putTables tablesIn in (head-is l.head i.head hs ∙ rw (procs-length l.procs (procCount l.head), vars-length l.vars (varCount l.head)))
+    head-same : l.head ≡ (put_tables l (tables_in l)).head
+    head-same = unfold put_tables tables_in in (head_is l.head i.head hs ∙ rw (procs-length l.procs (proc_count l.head), vars-length l.vars (var_count l.head)))
 
-    procs-same : l.procs ≡ (putTables l (tablesIn l)).procs
-    procs-same = unfold putTables tablesIn in (table-bytes (table_same l.procs (procCount l.head)) ps (omega (arith, procs-length l.procs (procCount l.head), i.rows)))
+    procs-same : l.procs ≡ (put_tables l (tables_in l)).procs
+    procs-same = unfold put_tables tables_in in (table-bytes (table_same l.procs (proc_count l.head)) ps (omega (arith, procs-length l.procs (proc_count l.head), i.rows)))
 
-    vars-same : l.vars ≡ (putTables l (tablesIn l)).vars
-    vars-same = unfold putTables tablesIn in (cells-bytes (cells_same l.vars (varCount l.head)) i.cells-known vs (omega (arith, vars-length l.vars (varCount l.head), i.cells)))
+    vars-same : l.vars ≡ (put_tables l (tables_in l)).vars
+    vars-same = unfold put_tables tables_in in (cells-bytes (cells_same l.vars (var_count l.head)) i.cells_known vs (omega (arith, vars-length l.vars (var_count l.head), i.cells)))
 
 -- ---- the loop
 
@@ -118,11 +118,11 @@ one_less limit k h = omega arith
 
 module _ (lim : Limits) (s : List ℕ) (r c : ℕ) (l₀ : Lent) (limit : ℕ) where
   pub going_start : Inside lim s r c l₀ → Bytes l₀.head → Bytes l₀.procs → Bytes l₀.vars → Going lim s r c l₀ l₀ limit 0
-  going_start i hs ps vs = record { inside = i; most = omega arith; rest = ap (λ (k : ℕ). run_from k lim (program_of s r c) 0 (tablesIn l₀)) (omega arith); holds = grown-same l₀ i hs ps vs }
+  going_start i hs ps vs = record { inside = i; most = omega arith; rest = ap (λ (k : ℕ). run_from k lim (program_of s r c) 0 (tables_in l₀)) (omega arith); holds = grown-same l₀ i hs ps vs }
 
   module _ (i₀ : Inside lim s r c l₀) (l : Lent) (k : ℕ) (g : Going lim s r c l₀ l limit k) where
     -- the run comes to this
-    pub comes-to : (e : End) → run_from (limit - k) lim (program_of s r c) k (tablesIn l) ≡ halt e k (tablesIn l) → RanSays lim s r c l₀ limit (Ended e k) l
+    pub comes-to : (e : End) → run_from (limit - k) lim (program_of s r c) k (tables_in l) ≡ halt e k (tables_in l) → RanSays lim s r c l₀ limit (Ended e k) l
     comes-to e q =
-        let z : runTables limit lim (program_of s r c) (tablesIn l₀) ≡ halt e k (tablesIn l) = unfold runTables in (g.rest ∙ q) in
+        let z : run_tables limit lim (program_of s r c) (tables_in l₀) ≡ halt e k (tables_in l) = unfold run_tables in (g.rest ∙ q) in
         record { answer = rw z; head = rw z g.holds.head; procs = rw z g.holds.procs; vars = rw z g.holds.vars }

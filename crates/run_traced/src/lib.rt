@@ -4,9 +4,9 @@ ghost use Rattle.bound.specs.Calls.{RowSays};
 ghost use Rattle.children.specs.Telling.{Tells};
 ghost use Rattle.entry.specs.Entered.{Inside};
 ghost use Rattle.parlog.specs.Limits.{small};
-ghost use Rattle.parlog.specs.Tables.{at, lent, procCount, procsOf};
+ghost use Rattle.parlog.specs.Tables.{at, lent, proc_count, procs_of};
 ghost use Rattle.program_index.specs.Indexed.{Indexed};
-ghost use Rattle.run_traced.specs.Traced.{MoveSays, movesFor, RanTraced, runTracedCall};
+ghost use Rattle.run_traced.specs.Traced.{MoveSays, moves_for, RanTraced, run_traced_call};
 
 use children::Told;
 use parlog::{End, Found, Loaded, Ran, Stepped};
@@ -26,7 +26,7 @@ fn move_noted(
     place: usize,
     stamp: u16,
 ) -> Stepped
-    requires { Inside small image.now rels clauses (lent head.old procs.old vars.old) × (p < procCount head.old) × ((at (procsOf procs.old (procCount head.old)) p).mode ≡ 3 → Tells (procsOf procs.old (procCount head.old)) p told) × Indexed image.now rels clauses ix.now × (place ≤ 4294967280) }
+    requires { Inside small image.now rels clauses (lent head.old procs.old vars.old) × (p < proc_count head.old) × ((at (procs_of procs.old (proc_count head.old)) p).mode ≡ 3 → Tells (procs_of procs.old (proc_count head.old)) p told) × Indexed image.now rels clauses ix.now × (place ≤ 4294967280) }
     ensures { MoveSays small image.now rels clauses (lent head.old procs.old vars.old) trace.old p place stamp result head.new procs.new vars.new trace.new }
 {
     let a = step::stepped(image, rels, clauses, ix, head, procs, vars, p, told);
@@ -91,7 +91,7 @@ fn going(
 
 // How many moves a run may make whose records have so many bytes.
 fn moves_for(bytes: usize, limit: usize) -> usize
-    ensures { (result ≡ movesFor bytes limit) × (result ≤ limit) }
+    ensures { (result ≡ moves_for bytes limit) × (result ≤ limit) }
 {
     let n = bytes / trace::SIZE;
     if n < limit {
@@ -110,7 +110,7 @@ pub fn run_traced(
     limit: u16,
     stamp: u16,
 ) -> Ran
-    ensures { RowSays (runTracedCall small image.now (lent head.old procs.old vars.old) trace.old limit stamp) result head.new procs.new vars.new trace.new }
+    ensures { RowSays (run_traced_call small image.now (lent head.old procs.old vars.old) trace.old limit stamp) result head.new procs.new vars.new trace.new }
 {
     let mut ix = [0u16; program_index::SIZE];
     let e = entry::enter(image, head, procs, vars, &mut ix);

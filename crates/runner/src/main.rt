@@ -2,8 +2,8 @@
 ghost use Rattle.std.specs.Prelude.{◌≡◌, ◌*◌, ◌≤◌, length};
 ghost use Rattle.parlog.specs.Limits.{small};
 ghost use Rattle.parlog.specs.Load.{load_of};
-ghost use Rattle.parlog.specs.Tables.{cellSize, headSize, varsIn};
-ghost use Rattle.parlog.specs.Text.{runnerText, varLines};
+ghost use Rattle.parlog.specs.Tables.{cell_size, head_size, vars_in};
+ghost use Rattle.parlog.specs.Text.{runner_text, var_lines};
 ghost use Rattle.parlog.specs.declared.Loaded.TheVariants.{Accepted};
 ghost use Rattle.runner_text.specs.Fronting.{Fronted};
 
@@ -15,8 +15,8 @@ const LIMIT: u16 = 60000;
 
 // The lines of the goal's variables at the buffer's end, from the last to the first.
 fn lines(vars: &[u8], n: usize, goal: usize, out: &mut [u8]) -> usize
-    requires { (n * cellSize ≤ length vars.now) × (goal ≤ n) × (goal ≤ 255) × (length out.old ≡ 16384) }
-    ensures { Fronted out.old 16384 12495 (varLines (varsIn vars.now n) 0 goal) out.new result }
+    requires { (n * cell_size ≤ length vars.now) × (goal ≤ n) × (goal ≤ 255) × (length out.old ≡ 16384) }
+    ensures { Fronted out.old 16384 12495 (var_lines (vars_in vars.now n) 0 goal) out.new result }
 {
     let mut p = out.len();
     let mut v = goal;
@@ -38,8 +38,8 @@ fn play(
     vars: &mut [u8],
     out: &mut [u8],
 ) -> usize
-    requires { (load_of image.now ≡ Accepted rels clauses) × (rels ≤ 32) × (clauses ≤ 64) × (length head.old ≡ headSize) × (length procs.old ≡ 12288) × (length vars.old ≡ 4096) × (length out.old ≡ 16384) }
-    ensures { Fronted out.old 16384 12534 (runnerText small image.now) out.new result }
+    requires { (load_of image.now ≡ Accepted rels clauses) × (rels ≤ 32) × (clauses ≤ 64) × (length head.old ≡ head_size) × (length procs.old ≡ 12288) × (length vars.old ≡ 4096) × (length out.old ≡ 16384) }
+    ensures { Fronted out.old 16384 12534 (runner_text small image.now) out.new result }
 {
     let mut ix = [0u16; program_index::SIZE];
     load::load_indexed(image, &mut ix);
@@ -57,7 +57,7 @@ fn play(
 // The text for an image, at the buffer's end: where it begins.
 fn answer(image: &[u8], out: &mut [u8]) -> usize
     requires { length out.old ≡ 16384 }
-    ensures { Fronted out.old 16384 12534 (runnerText small image.now) out.new result }
+    ensures { Fronted out.old 16384 12534 (runner_text small image.now) out.new result }
 {
     let l = load::load(image);
     let Loaded::Accepted(rels, clauses) = l else {

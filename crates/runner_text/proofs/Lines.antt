@@ -7,14 +7,14 @@ use lib.Dec.{ltb}
 use lib.ListN.{drop, length}
 use lib.Seq.{drop-length}
 use native.Mathlib.Omega.{arith}
-use Rattle.parlog.specs.Text.{at-word, decimal, digits, end-word, end_word, equals-word, newline, refused-word, refusedText, steps-word, termText, var-word}
+use Rattle.parlog.specs.Text.{at_word, decimal, digits, end-word, end_word, equals_word, newline, refused_word, refused_text, steps_word, term_text, var_word}
 use Rattle.parlog.specs.declared.End.{End}
 use Rattle.parlog.specs.declared.End.TheVariants.{Budget, Failure, Room, Success, Waiting}
 use Rattle.parlog.specs.declared.Refusal.{Refusal}
 use Rattle.parlog.specs.declared.Term.{Term}
 use Rattle.parlog.specs.declared.Term.TheVariants.{Const, Var}
 use Rattle.runner_text.proofs.Laws.{as-text, then}
-use Rattle.runner_text.specs.Fronting.{Fronted, lineText, ranText}
+use Rattle.runner_text.specs.Fronting.{Fronted, line_text, ran_text}
 
 -- ---- what stands behind a number
 
@@ -53,38 +53,38 @@ end_is {o} {p = p} x q f = as-text f (ap (λ (y : End). end_word y ++ drop p o) 
 -- ---- a value
 
 module _ {o a b : List ℕ} {p i j : ℕ} {t : Term} (n : ℕ) (f : Fronted o p 1 (10 ∷ drop p o) a i) (g : Fronted a i 20 (decimal n (drop i a)) b j) where
-  pub term-const : t ≡ Const n → Fronted o p 22 (termText t ++ drop p o) b j
+  pub term-const : t ≡ Const n → Fronted o p 22 (term_text t ++ drop p o) b j
   term-const e =
-      as-text (then (decimal n) f g) (decimal-append n newline (drop p o) ∙ ap (λ (y : Term). termText y ++ drop p o) (sym e)) (omega arith)
+      as-text (then (decimal n) f g) (decimal-append n newline (drop p o) ∙ ap (λ (y : Term). term_text y ++ drop p o) (sym e)) (omega arith)
 
-  pub term-var : {c : List ℕ} {k : ℕ} → t ≡ Var n → Fronted b j 1 (95 ∷ drop j b) c k → Fronted o p 22 (termText t ++ drop p o) c k
+  pub term-var : {c : List ℕ} {k : ℕ} → t ≡ Var n → Fronted b j 1 (95 ∷ drop j b) c k → Fronted o p 22 (term_text t ++ drop p o) c k
   term-var e h =
       as-text (then (λ (y : List ℕ). 95 ∷ y) (then (decimal n) f g) h)
-      (ap (λ (y : List ℕ). 95 ∷ y) (decimal-append n newline (drop p o)) ∙ ap (λ (y : Term). termText y ++ drop p o) (sym e))
+      (ap (λ (y : List ℕ). 95 ∷ y) (decimal-append n newline (drop p o)) ∙ ap (λ (y : Term). term_text y ++ drop p o) (sym e))
       (omega arith)
 
 -- ---- lines
 
-pub line-is : {o a b c d : List ℕ} {p i j k r : ℕ} (v : ℕ) (t : Term) → Fronted o p 22 (termText t ++ drop p o) a i → Fronted a i 3 (equals-word ++ drop i a) b j
-    → Fronted b j 20 (decimal v (drop j b)) c k → Fronted c k 4 (var-word ++ drop k c) d r → Fronted o p 49 (lineText v t ++ drop p o) d r
-unfolding lineText
+pub line-is : {o a b c d : List ℕ} {p i j k r : ℕ} (v : ℕ) (t : Term) → Fronted o p 22 (term_text t ++ drop p o) a i → Fronted a i 3 (equals_word ++ drop i a) b j
+    → Fronted b j 20 (decimal v (drop j b)) c k → Fronted c k 4 (var_word ++ drop k c) d r → Fronted o p 49 (line_text v t ++ drop p o) d r
+unfolding line_text
 line-is {o} {p = p} v t f g h l =
-    as-text (then (λ (y : List ℕ). var-word ++ y) (then (decimal v) (then (λ (y : List ℕ). equals-word ++ y) f g) h) l)
-    (ap (λ (y : List ℕ). var-word ++ y) (decimal-append v (equals-word ++ termText t) (drop p o)))
+    as-text (then (λ (y : List ℕ). var_word ++ y) (then (decimal v) (then (λ (y : List ℕ). equals_word ++ y) f g) h) l)
+    (ap (λ (y : List ℕ). var_word ++ y) (decimal-append v (equals_word ++ term_text t) (drop p o)))
     (omega arith)
 
 pub ran-is : {o a b c d x : List ℕ} {p i j k m r : ℕ} (e : End) (n : ℕ) → Fronted o p 1 (10 ∷ drop p o) a i → Fronted a i 7 (end_word e ++ drop i a) b j
-    → Fronted b j 5 (newline ++ end-word ++ drop j b) c k → Fronted c k 20 (decimal n (drop k c)) d m → Fronted d m 6 (steps-word ++ drop m d) x r → Fronted o p 39 (ranText e n (drop p o)) x r
-unfolding ranText
+    → Fronted b j 5 (newline ++ end-word ++ drop j b) c k → Fronted c k 20 (decimal n (drop k c)) d m → Fronted d m 6 (steps_word ++ drop m d) x r → Fronted o p 39 (ran_text e n (drop p o)) x r
+unfolding ran_text
 ran-is {o} {p = p} e n f g h l q =
-    as-text (then (λ (y : List ℕ). steps-word ++ y) (then (decimal n) (then (λ (y : List ℕ). newline ++ end-word ++ y) (then (λ (y : List ℕ). end_word e ++ y) f g) h) l) q)
-    (ap (λ (y : List ℕ). steps-word ++ decimal n y) (end_line e (drop p o)))
+    as-text (then (λ (y : List ℕ). steps_word ++ y) (then (decimal n) (then (λ (y : List ℕ). newline ++ end-word ++ y) (then (λ (y : List ℕ). end_word e ++ y) f g) h) l) q)
+    (ap (λ (y : List ℕ). steps_word ++ decimal n y) (end_line e (drop p o)))
     (omega arith)
 
 pub refused-is : {o a b c d x : List ℕ} {i j k m r : ℕ} (f : Refusal) → Fronted o (length o) 1 (10 ∷ drop (length o) o) a i → Fronted a i 20 (decimal f.offset (drop i a)) b j
-    → Fronted b j 4 (at-word ++ drop j b) c k → Fronted c k 20 (decimal f.number (drop k c)) d m → Fronted d m 8 (refused-word ++ drop m d) x r → Fronted o (length o) 53 (refusedText f) x r
-unfolding refusedText
+    → Fronted b j 4 (at_word ++ drop j b) c k → Fronted c k 20 (decimal f.number (drop k c)) d m → Fronted d m 8 (refused_word ++ drop m d) x r → Fronted o (length o) 53 (refused_text f) x r
+unfolding refused_text
 refused-is {o} f g h l q u =
-    as-text (then (λ (y : List ℕ). refused-word ++ y) (then (decimal f.number) (then (λ (y : List ℕ). at-word ++ y) (then (decimal f.offset) g h) l) q) u)
-    (ap (λ (y : List ℕ). refused-word ++ decimal f.number (at-word ++ decimal f.offset (10 ∷ y))) (drop-length o))
+    as-text (then (λ (y : List ℕ). refused_word ++ y) (then (decimal f.number) (then (λ (y : List ℕ). at_word ++ y) (then (decimal f.offset) g h) l) q) u)
+    (ap (λ (y : List ℕ). refused_word ++ decimal f.number (at_word ++ decimal f.offset (10 ∷ y))) (drop-length o))
     (omega arith)

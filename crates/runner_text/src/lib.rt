@@ -1,7 +1,7 @@
 // The runner's text in a lent buffer, written from its back to its front: each piece is put in front of what stands there.
 ghost use Rattle.std.specs.Prelude.{◌≡◌, ◌∷◌, ◌++◌, ◌+◌, ◌≤◌, ◌<◌, drop, length};
-ghost use Rattle.parlog.specs.Text.{decimal, end_word, refusedText, termText};
-ghost use Rattle.runner_text.specs.Fronting.{Fronted, lineText, ranText};
+ghost use Rattle.parlog.specs.Text.{decimal, end_word, refused_text, term_text};
+ghost use Rattle.runner_text.specs.Fronting.{Fronted, line_text, ran_text};
 
 use parlog::{End, Refusal, Term};
 
@@ -76,7 +76,7 @@ fn end_word(out: &mut [u8], p: usize, end: End) -> usize
 // A value, and the end of its line.
 fn term(out: &mut [u8], p: usize, t: Term) -> usize
     requires { (22 ≤ p) × (p ≤ length out.old) }
-    ensures { Fronted out.old p 22 (termText t ++ drop p out.old) out.new result }
+    ensures { Fronted out.old p 22 (term_text t ++ drop p out.old) out.new result }
 {
     let q = put(out, p, b'\n');
     match t {
@@ -91,7 +91,7 @@ fn term(out: &mut [u8], p: usize, t: Term) -> usize
 // The line of a goal variable.
 pub fn line(out: &mut [u8], p: usize, v: usize, t: Term) -> usize
     requires { (49 ≤ p) × (p ≤ length out.old) }
-    ensures { Fronted out.old p 49 (lineText v t ++ drop p out.old) out.new result }
+    ensures { Fronted out.old p 49 (line_text v t ++ drop p out.old) out.new result }
 {
     let a = term(out, p, t);
     let b = word(out, a, b" = ");
@@ -102,7 +102,7 @@ pub fn line(out: &mut [u8], p: usize, v: usize, t: Term) -> usize
 // The lines of a run that come before its variables.
 pub fn ran(out: &mut [u8], p: usize, end: End, steps: usize) -> usize
     requires { (39 ≤ p) × (p ≤ length out.old) }
-    ensures { Fronted out.old p 39 (ranText end steps (drop p out.old)) out.new result }
+    ensures { Fronted out.old p 39 (ran_text end steps (drop p out.old)) out.new result }
 {
     let a = put(out, p, b'\n');
     let b = end_word(out, a, end);
@@ -114,7 +114,7 @@ pub fn ran(out: &mut [u8], p: usize, end: End, steps: usize) -> usize
 // The one line of a refusal, at the buffer's end.
 pub fn refused(out: &mut [u8], r: Refusal) -> usize
     requires { 53 ≤ length out.old }
-    ensures { Fronted out.old (length out.old) 53 (refusedText r) out.new result }
+    ensures { Fronted out.old (length out.old) 53 (refused_text r) out.new result }
 {
     let p = out.len();
     let a = put(out, p, b'\n');

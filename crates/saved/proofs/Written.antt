@@ -9,13 +9,13 @@ use native.Mathlib.Omega.{arith}
 use native.Mathlib.Nat.{add_assoc, add-zero, zero-add}
 use Rattle.lay.proofs.Laws.{laid-length, laid_none, laid-start, laid_then, lays-then}
 use Rattle.lay.specs.Lay.{laid, Lays}
-use Rattle.parlog.specs.Records.{frontSize}
-use Rattle.parlog.specs.Tables.{cellSize, headSize, Lent, procCount, rowsBytes, rowSize, u16At, varCount, written, zeros}
+use Rattle.parlog.specs.Records.{front_size}
+use Rattle.parlog.specs.Tables.{cell_size, head_size, Lent, proc_count, rows_bytes, row_size, u16_at, var_count, written, zeros}
 use Rattle.rows.proofs.Laws.{wiped-all, zeros-length}
 use Rattle.rows.specs.Rows.{wiped}
 use Rattle.saved.proofs.Bytes.{from_at, from-length, from-none, from-snoc, head-record-length, process-record-length, rows_more, rows_none, stack-length}
-use Rattle.saved.specs.Form.{bytesFrom, headLength, headRecord, numbers, processLength, processRecord, recordOf, savedBytes, variableLength, variableRecord}
-use Rattle.saved.specs.Restored.{countsAgree, headIn, processIn, variableIn}
+use Rattle.saved.specs.Form.{bytes_from, head_length, head_record, numbers, process_length, process_record, record_of, saved_bytes, variable_length, variable_record}
+use Rattle.saved.specs.Restored.{counts_agree, head_in, process_in, variable_in}
 
 -- ---- laid one behind the other
 
@@ -23,74 +23,74 @@ pub lays-length : {o p bs : List ℕ} {at r : ℕ} → Lays o p at bs r → leng
 lays-length {o} {p} {bs} {at} a = ap length a.row ∙ laid-length bs o at
 
 module _ (o row : List ℕ) (at from : ℕ) where
-  pub bytes-none : Lays o o at (bytesFrom row from 0) at
+  pub bytes-none : Lays o o at (bytes_from row from 0) at
   bytes-none = record { row = rw (from-none row from) (sym (laid_none o at)); place = rw (from-none row from) (sym (add-zero at)) }
 
-  bytes-more : (k : ℕ) {p q : List ℕ} {m r : ℕ} → Lays o p at (bytesFrom row from k) m → Lays p q m (get_or row (from + k) 0 ∷ []) r → Lays o q at (bytesFrom row from (k + 1)) r
+  bytes-more : (k : ℕ) {p q : List ℕ} {m r : ℕ} → Lays o p at (bytes_from row from k) m → Lays p q m (get_or row (from + k) 0 ∷ []) r → Lays o q at (bytes_from row from (k + 1)) r
   bytes-more k a b = rw (from-snoc row from k) (lays-then a b)
 
   -- one byte more
-  pub bytes-step : (k : ℕ) {p q : List ℕ} {m r : ℕ} → m ≡ at + k → length p ≡ length o → Lays o p at (bytesFrom row from k) m → Lays p q m (get_or row (from + k) 0 ∷ []) r
-      → (r ≡ at + (k + 1)) × (length q ≡ length o) × Lays o q at (bytesFrom row from (k + 1)) r
+  pub bytes-step : (k : ℕ) {p q : List ℕ} {m r : ℕ} → m ≡ at + k → length p ≡ length o → Lays o p at (bytes_from row from k) m → Lays p q m (get_or row (from + k) 0 ∷ []) r
+      → (r ≡ at + (k + 1)) × (length q ≡ length o) × Lays o q at (bytes_from row from (k + 1)) r
   bytes-step k {m = m} {r} e n a b =
       let z : r ≡ m + 1 = b.place in
       (omega arith, lays-length b ∙ n, bytes-more k a b)
 
-  pub bytes-end : (k n : ℕ) {p : List ℕ} {m : ℕ} → k ≤ n → n ≤ k → Lays o p at (bytesFrom row from k) m → Lays o p at (bytesFrom row from n) m
+  pub bytes-end : (k n : ℕ) {p : List ℕ} {m : ℕ} → k ≤ n → n ≤ k → Lays o p at (bytes_from row from k) m → Lays o p at (bytes_from row from n) m
   bytes-end k n g h a = let e : n ≡ k = omega arith in rw e a
 
-  pub bytes-place : (n : ℕ) {p : List ℕ} {r : ℕ} → Lays o p at (bytesFrom row from n) r → r ≡ at + n
+  pub bytes-place : (n : ℕ) {p : List ℕ} {r : ℕ} → Lays o p at (bytes_from row from n) r → r ≡ at + n
   bytes-place n a = a.place ∙ rw (from-length row from n)
 
 module _ (f : ℕ → List ℕ) (o : List ℕ) (at : ℕ) where
-  pub stack-none : Lays o o at (rowsBytes f (numbers 0)) at
+  pub stack-none : Lays o o at (rows_bytes f (numbers 0)) at
   stack-none = record { row = rw (rows_none f) (sym (laid_none o at)); place = rw (rows_none f) (sym (add-zero at)) }
 
   -- one record more
-  pub stack-step : (i size : ℕ) {p q : List ℕ} {m r : ℕ} → length (f i) ≡ size → length p ≡ length o → Lays o p at (rowsBytes f (numbers i)) m → Lays p q m (f i) r
-      → (r ≡ m + size) × (length q ≡ length o) × Lays o q at (rowsBytes f (numbers (i + 1))) r
+  pub stack-step : (i size : ℕ) {p q : List ℕ} {m r : ℕ} → length (f i) ≡ size → length p ≡ length o → Lays o p at (rows_bytes f (numbers i)) m → Lays p q m (f i) r
+      → (r ≡ m + size) × (length q ≡ length o) × Lays o q at (rows_bytes f (numbers (i + 1))) r
   stack-step i size sized n a b = (b.place ∙ rw sized, lays-length b ∙ n, rw (rows_more f i) (lays-then a b))
 
-  pub stack-end : (i n : ℕ) {p : List ℕ} {m : ℕ} → i ≤ n → n ≤ i → Lays o p at (rowsBytes f (numbers i)) m → Lays o p at (rowsBytes f (numbers n)) m
+  pub stack-end : (i n : ℕ) {p : List ℕ} {m : ℕ} → i ≤ n → n ≤ i → Lays o p at (rows_bytes f (numbers i)) m → Lays o p at (rows_bytes f (numbers n)) m
   stack-end i n g h a = let e : n ≡ i = omega arith in rw e a
 
-pub record-place : (o row : List ℕ) (at from n size kind : ℕ) {p : List ℕ} {r : ℕ} → Lays o p at (recordOf size kind (bytesFrom row from n)) r → r ≡ at + (4 + n)
-record-place o row at from n size kind {r = r} a = let e : r ≡ at + length (recordOf size kind (bytesFrom row from n)) = a.place in omega (arith, from-length row from n)
+pub record-place : (o row : List ℕ) (at from n size kind : ℕ) {p : List ℕ} {r : ℕ} → Lays o p at (record_of size kind (bytes_from row from n)) r → r ≡ at + (4 + n)
+record-place o row at from n size kind {r = r} a = let e : r ≡ at + length (record_of size kind (bytes_from row from n)) = a.place in omega (arith, from-length row from n)
 
 -- ---- rows into a table of zeros
 
 module _ (f : ℕ → List ℕ) (size : ℕ) (sized : (i : ℕ) → length (f i) ≡ size) (z : List ℕ) where
-  pub rows-laid : {p q : List ℕ} (i : ℕ) → p ≡ laid z 0 (rowsBytes f (numbers i)) → q ≡ laid p (i * size) (f i) → q ≡ laid z 0 (rowsBytes f (numbers (i + 1)))
+  pub rows-laid : {p q : List ℕ} (i : ℕ) → p ≡ laid z 0 (rows_bytes f (numbers i)) → q ≡ laid p (i * size) (f i) → q ≡ laid z 0 (rows_bytes f (numbers (i + 1)))
   rows-laid {p} i e g =
-      let r : List ℕ = rowsBytes f (numbers i) in
+      let r : List ℕ = rows_bytes f (numbers i) in
       let at : 0 + length r ≡ i * size = rw zero-add (stack-length f size sized i) in
       let both : laid (laid z 0 r) (i * size) (f i) ≡ laid z 0 (r ++ f i) = rw at at (laid_then r (f i) z 0) in
       let more : laid p (i * size) (f i) ≡ laid z 0 (r ++ f i) = rw e both in
       g ∙ rw (rows_more f i) more
 
-  rows-done : {p : List ℕ} (n : ℕ) → p ≡ laid z 0 (rowsBytes f (numbers n)) → n * size ≤ length z → p ≡ written (rowsBytes f (numbers n)) z
+  rows-done : {p : List ℕ} (n : ℕ) → p ≡ laid z 0 (rows_bytes f (numbers n)) → n * size ≤ length z → p ≡ written (rows_bytes f (numbers n)) z
   unfolding written
   rows-done n e enough =
-      let long : length (rowsBytes f (numbers n)) ≤ length z = rw (stack-length f size sized n) enough in
-      e ∙ laid-start (rowsBytes f (numbers n)) z long
+      let long : length (rows_bytes f (numbers n)) ≤ length z = rw (stack-length f size sized n) enough in
+      e ∙ laid-start (rows_bytes f (numbers n)) z long
 
 -- all bytes made zero, and no row yet
-pub table-begin : (f : ℕ → List ℕ) (l : List ℕ) (n m : ℕ) {p : List ℕ} → n ≡ length l → m ≡ length l → p ≡ wiped l 0 n → p ≡ laid (zeros m) 0 (rowsBytes f (numbers 0))
+pub table-begin : (f : ℕ → List ℕ) (l : List ℕ) (n m : ℕ) {p : List ℕ} → n ≡ length l → m ≡ length l → p ≡ wiped l 0 n → p ≡ laid (zeros m) 0 (rows_bytes f (numbers 0))
 table-begin f l n m a b e = e ∙ rw (a, b, rows_none f) (wiped-all l ∙ sym (laid_none (zeros (length l)) 0))
 
 -- all rows
-pub table_done : (f : ℕ → List ℕ) (size : ℕ) → ((i : ℕ) → length (f i) ≡ size) → (k m i n : ℕ) {p : List ℕ} → k ≡ m → p ≡ laid (zeros k) 0 (rowsBytes f (numbers i)) → i ≤ n → n ≤ i → n * size ≤ m
-    → p ≡ written (rowsBytes f (numbers n)) (zeros m)
+pub table_done : (f : ℕ → List ℕ) (size : ℕ) → ((i : ℕ) → length (f i) ≡ size) → (k m i n : ℕ) {p : List ℕ} → k ≡ m → p ≡ laid (zeros k) 0 (rows_bytes f (numbers i)) → i ≤ n → n ≤ i → n * size ≤ m
+    → p ≡ written (rows_bytes f (numbers n)) (zeros m)
 table_done f size sized k m i n {p} z e g h enough =
     let same : i ≡ n = omega arith in
-    let there : p ≡ laid (zeros m) 0 (rowsBytes f (numbers n)) = rw (z, same) at e in
+    let there : p ≡ laid (zeros m) 0 (rows_bytes f (numbers n)) = rw (z, same) at e in
     rows-done f size sized (zeros m) n there (rw (zeros-length m) enough)
 
-pub process-in-length : (x : List ℕ) (i : ℕ) → length (processIn x i) ≡ rowSize
-process-in-length x i = from-length x (headLength + i * processLength + frontSize) rowSize
+pub process-in-length : (x : List ℕ) (i : ℕ) → length (process_in x i) ≡ row_size
+process-in-length x i = from-length x (head_length + i * process_length + front_size) row_size
 
-pub variable-in-length : (x : List ℕ) (a v : ℕ) → length (variableIn x a v) ≡ cellSize
-variable-in-length x a v = from-length x (headLength + a * processLength + v * variableLength + frontSize) cellSize
+pub variable-in-length : (x : List ℕ) (a v : ℕ) → length (variable_in x a v) ≡ cell_size
+variable-in-length x a v = from-length x (head_length + a * process_length + v * variable_length + front_size) cell_size
 
 -- a whole row
 pub head_done : (h bs : List ℕ) {p : List ℕ} → length bs ≡ length h → p ≡ laid h 0 bs → p ≡ bs
@@ -102,30 +102,30 @@ head_done h bs same e =
 
 -- ---- the whole
 
-pub head-place : (o h : List ℕ) (image : ℕ) {p : List ℕ} {r : ℕ} → Lays o p 0 (headRecord h image) r → r ≡ headLength
+pub head-place : (o h : List ℕ) (image : ℕ) {p : List ℕ} {r : ℕ} → Lays o p 0 (head_record h image) r → r ≡ head_length
 head-place o h image a = a.place ∙ rw (head-record-length h image)
 
-pub processes-place : (o procs : List ℕ) (at n : ℕ) {p : List ℕ} {r : ℕ} → Lays o p at (rowsBytes (processRecord procs) (numbers n)) r → r ≡ at + n * processLength
-processes-place o procs at n a = a.place ∙ rw (stack-length (processRecord procs) processLength (process-record-length procs) n)
+pub processes-place : (o procs : List ℕ) (at n : ℕ) {p : List ℕ} {r : ℕ} → Lays o p at (rows_bytes (process_record procs) (numbers n)) r → r ≡ at + n * process_length
+processes-place o procs at n a = a.place ∙ rw (stack-length (process_record procs) process_length (process-record-length procs) n)
 
-pub whole-laid : (l : Lent) (image : ℕ) {o p q r : List ℕ} {n m i j k : ℕ} → n ≡ procCount l.head → m ≡ varCount l.head
-    → Lays o p 0 (headRecord l.head image) i → Lays p q i (rowsBytes (processRecord l.procs) (numbers n)) j → Lays q r j (rowsBytes (variableRecord l.vars) (numbers m)) k
-    → Lays o r 0 (savedBytes l image) k
-unfolding savedBytes
+pub whole-laid : (l : Lent) (image : ℕ) {o p q r : List ℕ} {n m i j k : ℕ} → n ≡ proc_count l.head → m ≡ var_count l.head
+    → Lays o p 0 (head_record l.head image) i → Lays p q i (rows_bytes (process_record l.procs) (numbers n)) j → Lays q r j (rows_bytes (variable_record l.vars) (numbers m)) k
+    → Lays o r 0 (saved_bytes l image) k
+unfolding saved_bytes
 whole-laid l image en em a b d = lays-then (lays-then a (rw en at b)) (rw em at d)
 
 -- ---- the counts
 
 module _ (x : List ℕ) where
-  counts-at : (k : ℕ) → k + 1 < headSize → u16At (headIn x) k ≡ u16At x (frontSize + k)
+  counts-at : (k : ℕ) → k + 1 < head_size → u16_at (head_in x) k ≡ u16_at x (front_size + k)
   counts-at k h =
-      let a : get_or (headIn x) k 0 ≡ get_or x (frontSize + k) 0 = from_at x frontSize headSize k (omega arith) in
-      let b : get_or (headIn x) (k + 1) 0 ≡ get_or x (frontSize + k + 1) 0 = simp add_assoc (from_at x frontSize headSize (k + 1) h) in
+      let a : get_or (head_in x) k 0 ≡ get_or x (front_size + k) 0 = from_at x front_size head_size k (omega arith) in
+      let b : get_or (head_in x) (k + 1) 0 ≡ get_or x (front_size + k + 1) 0 = simp add_assoc (from_at x front_size head_size (k + 1) h) in
       cc
 
-  pub counts-said : (a b : ℕ) {n m : ℕ} {q : Bool} → n ≡ u16At x 4 → m ≡ u16At x 6 → q ≡ (eqb n a && eqb m b) → q ≡ countsAgree x a b
-  unfolding countsAgree
+  pub counts-said : (a b : ℕ) {n m : ℕ} {q : Bool} → n ≡ u16_at x 4 → m ≡ u16_at x 6 → q ≡ (eqb n a && eqb m b) → q ≡ counts_agree x a b
+  unfolding counts_agree
   counts-said a b {n} {m} en em eq =
-      let u : procCount (headIn x) ≡ n = counts-at 0 (lit< tt) ∙ sym en in
-      let v : varCount (headIn x) ≡ m = counts-at 2 (lit< tt) ∙ sym em in
+      let u : proc_count (head_in x) ≡ n = counts-at 0 (lit< tt) ∙ sym en in
+      let v : var_count (head_in x) ≡ m = counts-at 2 (lit< tt) ∙ sym em in
       eq ∙ rw (u, v)

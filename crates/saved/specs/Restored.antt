@@ -1,44 +1,44 @@
 -- A saved run as tables: where each row stands in it, once its records have passed their tests. Lengths are fixed, so that places can be counted.
 use Rattle.std.specs.Prelude.{◌≡◌, ◌&&◌, Bool, List, ◌*◌, ◌+◌, ℕ, eqb}
 use Rattle.parlog.specs.Limits.{Limits}
-use Rattle.parlog.specs.Records.{frontSize, word_at}
-use Rattle.parlog.specs.Tables.{cellSize, headSize, lent, Lent, procCount, rowsBytes, rowSize, varCount, written, zeros}
-use Rattle.saved.specs.Form.{bytesFrom, headLength, numbers, processLength, variableLength}
+use Rattle.parlog.specs.Records.{front_size, word_at}
+use Rattle.parlog.specs.Tables.{cell_size, head_size, lent, Lent, proc_count, rows_bytes, row_size, var_count, written, zeros}
+use Rattle.saved.specs.Form.{bytes_from, head_length, numbers, process_length, variable_length}
 
 -- Saved 2: the ten bytes of the head
-abbrev pub headIn : List ℕ → List ℕ
-headIn x = bytesFrom x frontSize headSize
+abbrev pub head_in : List ℕ → List ℕ
+head_in x = bytes_from x front_size head_size
 
 -- Saved 2: the image's length
-abbrev pub imageLength : List ℕ → ℕ
-imageLength x = word_at x (frontSize + headSize)
+abbrev pub image_length : List ℕ → ℕ
+image_length x = word_at x (front_size + head_size)
 
 -- Saved 9: the head's counts are those of the records
-unfoldable pub countsAgree : List ℕ → ℕ → ℕ → Bool
-countsAgree x a b = eqb (procCount (headIn x)) a && eqb (varCount (headIn x)) b
+unfoldable pub counts_agree : List ℕ → ℕ → ℕ → Bool
+counts_agree x a b = eqb (proc_count (head_in x)) a && eqb (var_count (head_in x)) b
 
 -- Saved 3: the row of process i
-abbrev pub processIn : List ℕ → ℕ → List ℕ
-processIn x i = bytesFrom x (headLength + i * processLength + frontSize) rowSize
+abbrev pub process_in : List ℕ → ℕ → List ℕ
+process_in x i = bytes_from x (head_length + i * process_length + front_size) row_size
 
 -- Saved 3: the row of variable v, behind a processes
-abbrev pub variableIn : List ℕ → ℕ → ℕ → List ℕ
-variableIn x a v = bytesFrom x (headLength + a * processLength + v * variableLength + frontSize) cellSize
+abbrev pub variable_in : List ℕ → ℕ → ℕ → List ℕ
+variable_in x a v = bytes_from x (head_length + a * process_length + v * variable_length + front_size) cell_size
 
 -- Saved 10: the process table: a rows, and zeros behind
-unfoldable pub rowsIn : List ℕ → ℕ → ℕ → List ℕ
-rowsIn x a size = written (rowsBytes (processIn x) (numbers a)) (zeros size)
+unfoldable pub rows_in : List ℕ → ℕ → ℕ → List ℕ
+rows_in x a size = written (rows_bytes (process_in x) (numbers a)) (zeros size)
 
 -- Saved 10: the variable table: b rows, and zeros behind
 unfoldable pub cells_in : List ℕ → ℕ → ℕ → ℕ → List ℕ
-cells_in x a b size = written (rowsBytes (variableIn x a) (numbers b)) (zeros size)
+cells_in x a b size = written (rows_bytes (variable_in x a) (numbers b)) (zeros size)
 
 -- Saved 10: the tables of a saved run of a processes and b variables
-unfoldable pub resumedLent : Limits → List ℕ → ℕ → ℕ → Lent
-resumedLent lim x a b = lent (headIn x) (rowsIn x a (lim.procs * rowSize)) (cells_in x a b (lim.vars * cellSize))
+unfoldable pub resumed_lent : Limits → List ℕ → ℕ → ℕ → Lent
+resumed_lent lim x a b = lent (head_in x) (rows_in x a (lim.procs * row_size)) (cells_in x a b (lim.vars * cell_size))
 
 -- the bytes that a run read back leaves
 pub record RestoreSays (x : List ℕ) (a b p v : ℕ) (head procs vars : List ℕ) : Type 0 where
-  pub head-is : head ≡ headIn x
-  pub procs-are : procs ≡ rowsIn x a p
-  pub vars-are : vars ≡ cells_in x a b v
+  pub head_is : head ≡ head_in x
+  pub procs_are : procs ≡ rows_in x a p
+  pub vars_are : vars ≡ cells_in x a b v

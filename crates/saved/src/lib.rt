@@ -1,12 +1,12 @@
 // A run as a file in the house form: its records written one behind the other, tested, and read back into tables.
 ghost use Rattle.std.specs.Prelude.{◌≡◌, cond, false, not, ◌+◌, ◌*◌, ◌≤◌, ◌<◌, eqb, length};
 ghost use Rattle.parlog.specs.Load.{refusal};
-ghost use Rattle.parlog.specs.Records.{cut, kindAt, word_at};
-ghost use Rattle.parlog.specs.Tables.{cellSize, headSize, lent, procCount, rowsBytes, rowSize, varCount};
+ghost use Rattle.parlog.specs.Records.{cut, kind_at, word_at};
+ghost use Rattle.parlog.specs.Tables.{cell_size, head_size, lent, proc_count, rows_bytes, row_size, var_count};
 ghost use Rattle.lay.specs.Lay.{Lays};
-ghost use Rattle.saved.specs.Form.{bytesFrom, headRecord, length_of, numbers, processRecord, recordOf, savedBytes, savedSize, variableRecord};
-ghost use Rattle.saved.specs.Reading.{faultAt, formFault, kindWrong, readSaved, refusalIn, seenWith};
-ghost use Rattle.saved.specs.Restored.{cells_in, countsAgree, imageLength, RestoreSays, rowsIn};
+ghost use Rattle.saved.specs.Form.{bytes_from, head_record, length_of, numbers, process_record, record_of, saved_bytes, saved_size, variable_record};
+ghost use Rattle.saved.specs.Reading.{fault_at, form_fault, kind_wrong, read_saved, refusal_in, seen_with};
+ghost use Rattle.saved.specs.Restored.{cells_in, counts_agree, image_length, RestoreSays, rows_in};
 ghost use Rattle.saved.specs.declared.Reading.TheVariants.{Broken};
 
 use parlog::{Refusal, codes};
@@ -63,7 +63,7 @@ pub enum Reading {
 // How many bytes a saved run of n processes and m variables has.
 pub fn size(n: usize, m: usize) -> usize
     requires { (n ≤ 65535) × (m ≤ 65535) }
-    ensures { (result ≡ savedSize n m) × (result ≤ 4294967295) }
+    ensures { (result ≡ saved_size n m) × (result ≤ 4294967295) }
 {
     HEAD_LENGTH + n * PROCESS_LENGTH + m * VARIABLE_LENGTH
 }
@@ -73,7 +73,7 @@ pub fn size(n: usize, m: usize) -> usize
 // n bytes of a row from a place.
 fn put_bytes(out: &mut [u8], at: usize, row: &[u8], from: usize, n: usize) -> usize
     requires { (at + n ≤ 4294967295) × (from + n ≤ length row.now) }
-    ensures { Lays out.old out.new at (bytesFrom row.now from n) result }
+    ensures { Lays out.old out.new at (bytes_from row.now from n) result }
 {
     let mut next = at;
     let mut k = 0;
@@ -95,7 +95,7 @@ fn put_record(
     n: usize,
 ) -> usize
     requires { (at + n + 4 ≤ 4294967295) × (from + n ≤ length row.now) }
-    ensures { Lays out.old out.new at (recordOf size kind (bytesFrom row.now from n)) result }
+    ensures { Lays out.old out.new at (record_of size kind (bytes_from row.now from n)) result }
 {
     let second = lay::put2(out, at, size);
     let body = lay::put2(out, second, kind);
@@ -104,8 +104,8 @@ fn put_record(
 
 // The head's record, at the front of the row.
 fn put_head(out: &mut [u8], head: &[u8], image: usize) -> usize
-    requires { headSize ≤ length head.now }
-    ensures { Lays out.old out.new 0 (headRecord head.now image) result }
+    requires { head_size ≤ length head.now }
+    ensures { Lays out.old out.new 0 (head_record head.now image) result }
 {
     let last = put_record(out, 0, HEAD_LENGTH, HEAD_KIND, head, 0, codes::HEAD_SIZE);
     let rule = lay::put2(out, last, image);
@@ -114,8 +114,8 @@ fn put_head(out: &mut [u8], head: &[u8], image: usize) -> usize
 
 // The records of the first n processes.
 fn put_processes(out: &mut [u8], at: usize, procs: &[u8], n: usize) -> usize
-    requires { (at ≤ 65535) × (n ≤ 65535) × (n * rowSize ≤ length procs.now) }
-    ensures { Lays out.old out.new at (rowsBytes (processRecord procs.now) (numbers n)) result }
+    requires { (at ≤ 65535) × (n ≤ 65535) × (n * row_size ≤ length procs.now) }
+    ensures { Lays out.old out.new at (rows_bytes (process_record procs.now) (numbers n)) result }
 {
     let mut next = at;
     let mut i = 0;
@@ -136,8 +136,8 @@ fn put_processes(out: &mut [u8], at: usize, procs: &[u8], n: usize) -> usize
 
 // The records of the first n variables.
 fn put_variables(out: &mut [u8], at: usize, vars: &[u8], n: usize) -> usize
-    requires { (at ≤ 4194304) × (n ≤ 65535) × (n * cellSize ≤ length vars.now) }
-    ensures { Lays out.old out.new at (rowsBytes (variableRecord vars.now) (numbers n)) result }
+    requires { (at ≤ 4194304) × (n ≤ 65535) × (n * cell_size ≤ length vars.now) }
+    ensures { Lays out.old out.new at (rows_bytes (variable_record vars.now) (numbers n)) result }
 {
     let mut next = at;
     let mut i = 0;
@@ -158,8 +158,8 @@ fn put_variables(out: &mut [u8], at: usize, vars: &[u8], n: usize) -> usize
 
 // A run as a saved run, at the front of the row.
 pub fn write(out: &mut [u8], head: &[u8], procs: &[u8], vars: &[u8], image: usize) -> usize
-    requires { (headSize ≤ length head.now) × (procCount head.now * rowSize ≤ length procs.now) × (varCount head.now * cellSize ≤ length vars.now) }
-    ensures { Lays out.old out.new 0 (savedBytes (lent head.now procs.now vars.now) image) result }
+    requires { (head_size ≤ length head.now) × (proc_count head.now * row_size ≤ length procs.now) × (var_count head.now * cell_size ≤ length vars.now) }
+    ensures { Lays out.old out.new 0 (saved_bytes (lent head.now procs.now vars.now) image) result }
 {
     let n = head::proc_count(head);
     let m = head::var_count(head);
@@ -193,7 +193,7 @@ fn cut(s: &[u8], at: usize) -> bool
 
 // 3, KIND: the first record is the head's, a later one is of a process or a variable and no lower than the one before.
 fn kind_wrong(before: usize, kind: usize) -> bool
-    ensures { result ≡ kindWrong before kind }
+    ensures { result ≡ kind_wrong before kind }
 {
     let high = basics::or(VARIABLE_KIND < kind, kind < before);
     let later = basics::or(kind < PROCESS_KIND, high);
@@ -222,8 +222,8 @@ fn rule_fault(rule: usize) -> u8
 
 // The form of a whole record of this kind: 18 for the head's in its former length, 4 for another length, 18 for another rule number, or 0.
 fn form_fault(s: &[u8], at: usize, kind: usize) -> u8
-    requires { (cut s.now at ≡ false) × (kind ≡ kindAt s.now at) }
-    ensures { result ≡ formFault s.now at }
+    requires { (cut s.now at ≡ false) × (kind ≡ kind_at s.now at) }
+    ensures { result ≡ form_fault s.now at }
 {
     let size = word(s, at);
     if basics::and(kind == HEAD_KIND, size == FORMER_LENGTH) {
@@ -242,7 +242,7 @@ fn form_fault(s: &[u8], at: usize, kind: usize) -> u8
 // The tests of a record, 2, 3, then those of its form: the refusal, or 0.
 fn fault(s: &[u8], at: usize, before: usize) -> u8
     requires { at < length s.now }
-    ensures { result ≡ faultAt s.now before at }
+    ensures { result ≡ fault_at s.now before at }
 {
     if cut(s, at) {
         return codes::CUT;
@@ -257,7 +257,7 @@ fn fault(s: &[u8], at: usize, before: usize) -> u8
 // What is known behind a record of this kind.
 fn seen_with(g: Seen, kind: usize) -> Seen
     requires { (g.procs < 18446744073709551615) × (g.vars < 18446744073709551615) }
-    ensures { result ≡ seenWith g kind }
+    ensures { result ≡ seen_with g kind }
 {
     if kind == PROCESS_KIND {
         return Seen {
@@ -292,7 +292,7 @@ fn broken(number: u8, offset: usize) -> Reading
 
 // The records of a saved run in their order: how many processes and variables, or the first refusal.
 pub fn read(s: &[u8]) -> Reading
-    ensures { result ≡ readSaved s.now }
+    ensures { result ≡ read_saved s.now }
 {
     let n = s.len();
     let mut at = 0;
@@ -318,7 +318,7 @@ pub fn read(s: &[u8]) -> Reading
 
 // The refusal that an answer holds.
 pub fn refusal(a: Reading) -> Refusal
-    ensures { result ≡ refusalIn a }
+    ensures { result ≡ refusal_in a }
 {
     match a {
         Reading::Whole(_, _) => Refusal {
@@ -334,7 +334,7 @@ pub fn refusal(a: Reading) -> Refusal
 // The length of the image that the run belongs to.
 pub fn image_length(s: &[u8]) -> usize
     requires { 16 ≤ length s.now }
-    ensures { (result ≡ imageLength s.now) × (result ≤ 65535) }
+    ensures { (result ≡ image_length s.now) × (result ≤ 65535) }
 {
     word(s, IMAGE_LENGTH)
 }
@@ -342,7 +342,7 @@ pub fn image_length(s: &[u8]) -> usize
 // The head's counts are those of the records.
 pub fn counts_agree(s: &[u8], a: usize, b: usize) -> bool
     requires { 16 ≤ length s.now }
-    ensures { result ≡ countsAgree s.now a b }
+    ensures { result ≡ counts_agree s.now a b }
 {
     let n = basics::wide_u16(rows::get_u16(s, HEAD_PROCS));
     let m = basics::wide_u16(rows::get_u16(s, HEAD_VARS));
@@ -351,8 +351,8 @@ pub fn counts_agree(s: &[u8], a: usize, b: usize) -> bool
 
 // The rows of the first n processes, and zeros behind them.
 fn take_processes(s: &[u8], n: usize, procs: &mut [u8])
-    requires { (n ≤ 65535) × (18 + n * 28 ≤ length s.now) × (n * rowSize ≤ length procs.old) × (length procs.old ≤ 4194304) }
-    ensures { procs.new ≡ rowsIn s.now n (length procs.old) }
+    requires { (n ≤ 65535) × (18 + n * 28 ≤ length s.now) × (n * row_size ≤ length procs.old) × (length procs.old ≤ 4194304) }
+    ensures { procs.new ≡ rows_in s.now n (length procs.old) }
 {
     rows::wipe(procs, 0, procs.len());
     let mut i = 0;
@@ -365,7 +365,7 @@ fn take_processes(s: &[u8], n: usize, procs: &mut [u8])
 
 // The rows of the first n variables, behind a processes, and zeros behind them.
 fn take_variables(s: &[u8], a: usize, n: usize, vars: &mut [u8])
-    requires { (a ≤ 65535) × (n ≤ 65535) × (18 + a * 28 + n * 8 ≤ length s.now) × (n * cellSize ≤ length vars.old) × (length vars.old ≤ 4194304) }
+    requires { (a ≤ 65535) × (n ≤ 65535) × (18 + a * 28 + n * 8 ≤ length s.now) × (n * cell_size ≤ length vars.old) × (length vars.old ≤ 4194304) }
     ensures { vars.new ≡ cells_in s.now a n (length vars.old) }
 {
     rows::wipe(vars, 0, vars.len());
@@ -379,7 +379,7 @@ fn take_variables(s: &[u8], a: usize, n: usize, vars: &mut [u8])
 
 // A saved run of a processes and b variables into tables, every byte of them.
 pub fn restore(s: &[u8], a: usize, b: usize, head: &mut [u8], procs: &mut [u8], vars: &mut [u8])
-    requires { (a ≤ 65535) × (b ≤ 65535) × (18 + a * 28 + b * 8 ≤ length s.now) × (length head.old ≡ headSize) × (a * rowSize ≤ length procs.old) × (length procs.old ≤ 4194304) × (b * cellSize ≤ length vars.old) × (length vars.old ≤ 4194304) }
+    requires { (a ≤ 65535) × (b ≤ 65535) × (18 + a * 28 + b * 8 ≤ length s.now) × (length head.old ≡ head_size) × (a * row_size ≤ length procs.old) × (length procs.old ≤ 4194304) × (b * cell_size ≤ length vars.old) × (length vars.old ≤ 4194304) }
     ensures { RestoreSays s.now a b (length procs.old) (length vars.old) head.new procs.new vars.new }
 {
     put_bytes(head, 0, s, codes::RECORD_BODY, codes::HEAD_SIZE);

@@ -6,7 +6,7 @@ use Prim.Native.Nat.{ℕ}
 use native.Mathlib.Omega.{arith}
 use Rattle.spell.proofs.Language.{both, both_true}
 use Rattle.spell.specs.Forms.{◌or◌, ◌then◌, Form, in_span, many, nothing, span}
-use Rattle.spell.specs.Stuck.{after, afters, allBehind, behind, ends, hit, only}
+use Rattle.spell.specs.Stuck.{after, afters, all_behind, behind, ends, hit, only}
 
 -- each span of the form has both bytes or neither
 unfoldable pub alike : ℕ → ℕ → Form → Bool
@@ -54,8 +54,8 @@ module _ (b r : ℕ) where
   behind-alike (x or z) y e f = both e f
   behind-alike (many x) y e f = both e f
 
-  all-alikes : (xs : List Form) (y : Form) → alikes b r xs ≡ true → alike b r y ≡ true → alikes b r (allBehind xs y) ≡ true
-  unfolding alikes allBehind
+  all-alikes : (xs : List Form) (y : Form) → alikes b r xs ≡ true → alike b r y ≡ true → alikes b r (all_behind xs y) ≡ true
+  unfolding alikes all_behind
   all-alikes [] y e f = refl
   all-alikes (x ∷ xs) y e f = let w = both_true (alike b r x) (alikes b r xs) e in both (behind-alike x y w.0 f) (all-alikes xs y w.1 f)
 
@@ -75,7 +75,7 @@ module _ (b r : ℕ) where
   after-keeps d (span a n) e = hit-alikes (in_span a n d)
   after-keeps d (x then y) e =
       let w = both_true (alike b r x) (alike b r y) e in
-      append-alikes (allBehind (after d x) y) (only (ends x) (after d y)) (all-alikes (after d x) y (after-keeps d x w.0) w.1) (only-alikes (ends x) (after d y) (after-keeps d y w.1))
+      append-alikes (all_behind (after d x) y) (only (ends x) (after d y)) (all-alikes (after d x) y (after-keeps d x w.0) w.1) (only-alikes (ends x) (after d y) (after-keeps d y w.1))
   after-keeps d (x or y) e =
       let w = both_true (alike b r x) (alike b r y) e in append-alikes (after d x) (after d y) (after-keeps d x w.0) (after-keeps d y w.1)
   after-keeps d (many x) e = all-alikes (after d x) (many x) (after-keeps d x e) e

@@ -11,7 +11,7 @@ use native.Mathlib.Omega.{arith}
 use Rattle.spell.proofs.Language.{afters-back, afters-off, any-ends, ends-any, finish, finish-reads, here, Off, off_nil, there}
 use Rattle.spell.specs.Forms.{Form, Reads}
 use Rattle.spell.specs.Grammar.{ClauseText, text}
-use Rattle.spell.specs.Stuck.{afters, anyEnds, ended, goes, spelling, spellingOf, StuckAt}
+use Rattle.spell.specs.Stuck.{afters, any_ends, ended, goes, spelling, spelling_of, StuckAt}
 use Rattle.spell.specs.declared.Spelt.{Spelt}
 use Rattle.spell.specs.declared.Spelt.TheVariants.{Right, Stuck}
 
@@ -23,7 +23,7 @@ ended-none false i e = absurd (let z : ◌≡◌ {A = ℕ} 0 1 = cc in omega ari
 
 pub none_read : (s : List ℕ) (xs : List Form) (i : ℕ) → spelling s xs i ≡ Right → Off xs s []
 unfolding spelling
-none_read [] xs i e = ends-any xs (ended-none (anyEnds xs) i e)
+none_read [] xs i e = ends-any xs (ended-none (any_ends xs) i e)
 none_read (b ∷ s) xs i e = afters-back b xs (go (λ ys j. none_read s ys j) (afters b xs) e)
   where
     go : ((ys : List Form) (j : ℕ) → spelling s ys j ≡ Right → Off ys s []) → (l : List Form) → goes (spelling s) l i ≡ Right → Off l s []
@@ -54,7 +54,7 @@ Spelt-here xs s i j = (k : ℕ) × (j ≡ i + k) × Here xs s k
 begins : (x : Form) (xs : List Form) → Off (x ∷ xs) (finish x ++ []) []
 begins x xs = here (finish-reads x)
 
-at-end : (x : Form) (xs : List Form) (i j : ℕ) (h : Bool) → anyEnds (x ∷ xs) ≡ h → ended h i ≡ Stuck j → Spelt-here (x ∷ xs) [] i j
+at-end : (x : Form) (xs : List Form) (i j : ℕ) (h : Bool) → any_ends (x ∷ xs) ≡ h → ended h i ≡ Stuck j → Spelt-here (x ∷ xs) [] i j
 at-end x xs i j true e f = absurd (let z : ◌≡◌ {A = ℕ} 0 1 = cc in omega arith)
 at-end x xs i j false e f = (
   zero,
@@ -94,7 +94,7 @@ module _ (x : Form) (xs : List Form) (b : ℕ) (s : List ℕ) where
 
 pub found_here : (s : List ℕ) (x : Form) (xs : List Form) (i j : ℕ) → spelling s (x ∷ xs) i ≡ Stuck j → Spelt-here (x ∷ xs) s i j
 unfolding spelling
-found_here [] x xs i j e = at-end x xs i j (anyEnds (x ∷ xs)) refl e
+found_here [] x xs i j e = at-end x xs i j (any_ends (x ∷ xs)) refl e
 found_here (b ∷ s) x xs i j e = go (λ y ys k. found_here s y ys k j) (afters b (x ∷ xs)) refl e
   where
     go : ((y : Form) (ys : List Form) (k : ℕ) → spelling s (y ∷ ys) k ≡ Stuck j → Spelt-here (y ∷ ys) s k j) →
@@ -108,16 +108,16 @@ off-one : {x : Form} {s t : List ℕ} → Off (x ∷ []) s t → Reads x s t
 off-one (here p) = p
 off-one (there p) = off_nil [] p refl
 
-pub accepted-right : (s : List ℕ) → spellingOf s ≡ Right → ClauseText s
-unfolding spellingOf ClauseText
+pub accepted-right : (s : List ℕ) → spelling_of s ≡ Right → ClauseText s
+unfolding spelling_of ClauseText
 accepted-right s e = off-one (none_read s (text ∷ []) 0 e)
 
-pub right-accepted : (s : List ℕ) → ClauseText s → spellingOf s ≡ Right
-unfolding spellingOf ClauseText
+pub right-accepted : (s : List ℕ) → ClauseText s → spelling_of s ≡ Right
+unfolding spelling_of ClauseText
 right-accepted s p = read_none s (text ∷ []) 0 (here p)
 
-pub stuck-exact : (s : List ℕ) (i : ℕ) → spellingOf s ≡ Stuck i → StuckAt s i
-unfolding spellingOf ClauseText
+pub stuck-exact : (s : List ℕ) (i : ℕ) → spelling_of s ≡ Stuck i → StuckAt s i
+unfolding spelling_of ClauseText
 stuck-exact s i e = go (found_here s text [] 0 i e)
   where
     go : Spelt-here (text ∷ []) s 0 i → StuckAt s i
@@ -148,10 +148,10 @@ stuck-only s i j a b = go (ltb i j) refl (ltb j i) refl
     go false e false f = let g = ltb-false i j e in let h = ltb-false j i f in omega arith
 
 -- exactly: a text is spelling where the definition says
-pub stuck-found : (s : List ℕ) (i : ℕ) → StuckAt s i → spellingOf s ≡ Stuck i
-stuck-found s i a = go (spellingOf s) refl
+pub stuck-found : (s : List ℕ) (i : ℕ) → StuckAt s i → spelling_of s ≡ Stuck i
+stuck-found s i a = go (spelling_of s) refl
   where
-    go : (r : Spelt) → spellingOf s ≡ r → spellingOf s ≡ Stuck i
+    go : (r : Spelt) → spelling_of s ≡ r → spelling_of s ≡ Stuck i
     go (Stuck j) e = e ∙ ap Stuck (stuck-only s j i (stuck-exact s j e) a)
     go Right e = absurd (wrong (accepted-right s e) (ltb i (length s)) refl)
       where

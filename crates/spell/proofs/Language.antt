@@ -5,8 +5,8 @@ use mathlib.Core.List.{[], ◌++◌, ◌∷◌, append_assoc, List}
 use Prim.Native.Nat.{◌+◌, ℕ}
 use borrow.Author.Tests.{le-leb}
 use native.Mathlib.Omega.{arith}
-use Rattle.spell.specs.Forms.{◌or◌, ◌then◌, Form, in_span, many, nothing, read_byte, read-end, read_left, read_more, read_none, read_right, read-then, Reads, span}
-use Rattle.spell.specs.Stuck.{after, afters, allBehind, anyEnds, behind, ends, hit, only}
+use Rattle.spell.specs.Forms.{◌or◌, ◌then◌, Form, in_span, many, nothing, read_byte, read-end, read_left, read_more, read_none, read_right, read_then, Reads, span}
+use Rattle.spell.specs.Stuck.{after, afters, all_behind, any_ends, behind, ends, hit, only}
 
 -- ---- Booleans
 
@@ -56,26 +56,26 @@ off-cases (x ∷ xs) ys (there p) f g = off-cases xs ys p (λ o. f (there o)) g
 behind-reads : {x y : Form} {s t u : List ℕ} → Reads x s t → Reads y t u → Reads (behind x y) s u
 unfolding behind
 behind-reads read_none q = q
-behind-reads (read_byte e) q = read-then (read_byte e) q
-behind-reads (read-then a b) q = read-then a (behind-reads b q)
-behind-reads (read_left a) q = read-then (read_left a) q
-behind-reads (read_right a) q = read-then (read_right a) q
-behind-reads read-end q = read-then read-end q
-behind-reads (read_more a b) q = read-then (read_more a b) q
+behind-reads (read_byte e) q = read_then (read_byte e) q
+behind-reads (read_then a b) q = read_then a (behind-reads b q)
+behind-reads (read_left a) q = read_then (read_left a) q
+behind-reads (read_right a) q = read_then (read_right a) q
+behind-reads read-end q = read_then read-end q
+behind-reads (read_more a b) q = read_then (read_more a b) q
 
 rejoin : {x z y : Form} {s t u : List ℕ} → Reads x s t → Reads (z then y) t u → Reads ((x then z) then y) s u
-rejoin a (read-then b d) = read-then (read-then a b) d
+rejoin a (read_then b d) = read_then (read_then a b) d
 
 behind-back : (x : Form) {y : Form} {s u : List ℕ} → Reads (behind x y) s u → Reads (x then y) s u
 unfolding behind
-behind-back nothing p = read-then read_none p
+behind-back nothing p = read_then read_none p
 behind-back (span a n) p = p
-behind-back (x then z) (read-then a b) = rejoin a (behind-back z b)
+behind-back (x then z) (read_then a b) = rejoin a (behind-back z b)
 behind-back (x or z) p = p
 behind-back (many x) p = p
 
-all-behind : {xs : List Form} {y : Form} {s t u : List ℕ} → Off xs s t → Reads y t u → Off (allBehind xs y) s u
-unfolding allBehind
+all-behind : {xs : List Form} {y : Form} {s t u : List ℕ} → Off xs s t → Reads y t u → Off (all_behind xs y) s u
+unfolding all_behind
 all-behind (here p) q = here (behind-reads p q)
 all-behind (there p) q = there (all-behind p q)
 
@@ -87,10 +87,10 @@ behind-there : {x : Form} {xs : List Form} {y : Form} {s u : List ℕ} → Behin
 behind-there (parts a b) = parts (there a) b
 
 behind-here : {x : Form} {xs : List Form} {y : Form} {s u : List ℕ} → Reads (x then y) s u → Behind (x ∷ xs) y s u
-behind-here (read-then a b) = parts (here a) b
+behind-here (read_then a b) = parts (here a) b
 
-all_back : (xs : List Form) {y : Form} {s u : List ℕ} → Off (allBehind xs y) s u → Behind xs y s u
-unfolding allBehind
+all_back : (xs : List Form) {y : Form} {s u : List ℕ} → Off (all_behind xs y) s u → Behind xs y s u
+unfolding all_behind
 all_back [] p = off_nil [] p refl
 all_back (x ∷ xs) (here p) = behind-here (behind-back x p)
 all_back (x ∷ xs) (there p) = behind-there (all_back xs p)
@@ -102,7 +102,7 @@ unfolding ends
 ends-reads nothing e = read_none
 ends-reads (span a n) e = absurd (let z : ◌≡◌ {A = ℕ} 0 1 = cc in omega arith)
 ends-reads (x then y) e =
-    let w = both_true (ends x) (ends y) e in read-then (ends-reads x w.0) (ends-reads y w.1)
+    let w = both_true (ends x) (ends y) e in read_then (ends-reads x w.0) (ends-reads y w.1)
 ends-reads (x or y) e = or_cases (ends x) (ends y) e (λ f. read_left (ends-reads x f)) (λ f. read_right (ends-reads y f))
 ends-reads (many x) e = read-end
 
@@ -116,7 +116,7 @@ only-back true p f = f refl p
 only-back false p f = off_nil [] p refl
 
 then-back : {x y : Form} {xs : List Form} {b : ℕ} {s u : List ℕ} → Behind xs y s u → ((t : List ℕ) → Off xs s t → Reads x (b ∷ s) t) → Reads (x then y) (b ∷ s) u
-then-back (parts {t} a q) f = read-then (f t a) q
+then-back (parts {t} a q) f = read_then (f t a) q
 
 more-back : {x : Form} {xs : List Form} {b : ℕ} {s u : List ℕ} → Behind xs (many x) s u → ((t : List ℕ) → Off xs s t → Reads x (b ∷ s) t) → Reads (many x) (b ∷ s) u
 more-back (parts {t} a q) f = read_more (f t a) q
@@ -126,9 +126,9 @@ unfolding after
 after-back b nothing p = off_nil [] p refl
 after-back b (span a n) p = hit-back a n b (in_span a n b) refl p
 after-back b (x then y) {s} {t} p =
-    off-cases (allBehind (after b x) y) (only (ends x) (after b y)) p
+    off-cases (all_behind (after b x) y) (only (ends x) (after b y)) p
     (λ o. then-back (all_back (after b x) o) (λ u q. after-back b x q))
-    (λ o. only-back (ends x) o (λ e q. read-then (ends-reads x e) (after-back b y q)))
+    (λ o. only-back (ends x) o (λ e q. read_then (ends-reads x e) (after-back b y q)))
 after-back b (x or y) p = off-cases (after b x) (after b y) p (λ o. read_left (after-back b x o)) (λ o. read_right (after-back b y o))
 after-back b (many x) p = more-back (all_back (after b x) p) (λ u q. after-back b x q)
 
@@ -147,7 +147,7 @@ only-off e p = rw e p
 went_then : {x y : Form} {w t u : List ℕ} → Went x w t → Reads y t u → Went y t u → Went (x then y) w u
 unfolding ends after
 went_then (still e) q (still f) = still (both e f)
-went_then {x} {y} (still e) q (on {b = b} o) = on (off-right (allBehind (after b x) y) (only-off e o))
+went_then {x} {y} (still e) q (on {b = b} o) = on (off-right (all_behind (after b x) y) (only-off e o))
 went_then {x} {y} (on {b = b} o) q k = on (off-left (only (ends x) (after b y)) (all-behind o q))
 
 went-left : {x y : Form} {w t : List ℕ} → Went x w t → Went (x or y) w t
@@ -169,7 +169,7 @@ pub went : {x : Form} {w t : List ℕ} → Reads x w t → Went x w t
 unfolding ends after
 went read_none = still refl
 went (read_byte e) = on (hit-off e)
-went (read-then p q) = went_then (went p) q (went q)
+went (read_then p q) = went_then (went p) q (went q)
 went (read_left p) = went-left (went p)
 went (read_right p) = went-right (went p)
 went read-end = still refl
@@ -193,15 +193,15 @@ afters-off b (x ∷ xs) (there p) = off-right (after b x) (afters-off b xs p)
 went-ends : {x : Form} {t : List ℕ} → Went x [] t → ends x ≡ true
 went-ends (still e) = e
 
-pub any-ends : (xs : List Form) {t : List ℕ} → Off xs [] t → anyEnds xs ≡ true
-unfolding anyEnds
-any-ends (x ∷ xs) (here p) = left_or (anyEnds xs) (went-ends (went p))
+pub any-ends : (xs : List Form) {t : List ℕ} → Off xs [] t → any_ends xs ≡ true
+unfolding any_ends
+any-ends (x ∷ xs) (here p) = left_or (any_ends xs) (went-ends (went p))
 any-ends (x ∷ xs) (there p) = right_or (ends x) (any-ends xs p)
 
-pub ends-any : (xs : List Form) → anyEnds xs ≡ true → {s : List ℕ} → Off xs s s
-unfolding anyEnds
+pub ends-any : (xs : List Form) → any_ends xs ≡ true → {s : List ℕ} → Off xs s s
+unfolding any_ends
 ends-any [] e = absurd (let z : ◌≡◌ {A = ℕ} 0 1 = cc in omega arith)
-ends-any (x ∷ xs) e = or_cases (ends x) (anyEnds xs) e (λ f. here (ends-reads x f)) (λ f. there (ends-any xs f))
+ends-any (x ∷ xs) e = or_cases (ends x) (any_ends xs) e (λ f. here (ends-reads x f)) (λ f. there (ends-any xs f))
 
 -- ---- each form can be read off something
 
@@ -216,6 +216,6 @@ pub finish-reads : (x : Form) {s : List ℕ} → Reads x (finish x ++ s) s
 unfolding finish
 finish-reads nothing = read_none
 finish-reads (span a n) = read_byte (both (le-leb a a (omega arith)) (le-leb a (a + n) (omega arith)))
-finish-reads (x then y) {s} = rw append_assoc (read-then (finish-reads x) (finish-reads y))
+finish-reads (x then y) {s} = rw append_assoc (read_then (finish-reads x) (finish-reads y))
 finish-reads (x or y) = read_left (finish-reads x)
 finish-reads (many x) = read-end

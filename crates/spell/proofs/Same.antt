@@ -9,47 +9,47 @@ use lib.Dec.{eqb}
 use Rattle.spell.specs.Forms.{Form, ◌or◌, ◌then◌, many, nothing, span}
 use Rattle.spell.proofs.Language.{both_true}
 
-abbrev isNothing : Form → Bool
-isNothing nothing = true
-isNothing (span a n) = false
-isNothing (x then y) = false
-isNothing (x or y) = false
-isNothing (many x) = false
+abbrev is_nothing : Form → Bool
+is_nothing nothing = true
+is_nothing (span a n) = false
+is_nothing (x then y) = false
+is_nothing (x or y) = false
+is_nothing (many x) = false
 
-abbrev isSpan : ℕ → ℕ → Form → Bool
-isSpan a n nothing = false
-isSpan a n (span c m) = eqb a c && eqb n m
-isSpan a n (x then y) = false
-isSpan a n (x or y) = false
-isSpan a n (many x) = false
+abbrev is_span : ℕ → ℕ → Form → Bool
+is_span a n nothing = false
+is_span a n (span c m) = eqb a c && eqb n m
+is_span a n (x then y) = false
+is_span a n (x or y) = false
+is_span a n (many x) = false
 
-abbrev isThen : (Form → Bool) → (Form → Bool) → Form → Bool
-isThen f g nothing = false
-isThen f g (span a n) = false
-isThen f g (x then y) = f x && g y
-isThen f g (x or y) = false
-isThen f g (many x) = false
+abbrev is_then : (Form → Bool) → (Form → Bool) → Form → Bool
+is_then f g nothing = false
+is_then f g (span a n) = false
+is_then f g (x then y) = f x && g y
+is_then f g (x or y) = false
+is_then f g (many x) = false
 
-abbrev isOr : (Form → Bool) → (Form → Bool) → Form → Bool
-isOr f g nothing = false
-isOr f g (span a n) = false
-isOr f g (x then y) = false
-isOr f g (x or y) = f x && g y
-isOr f g (many x) = false
+abbrev is_or : (Form → Bool) → (Form → Bool) → Form → Bool
+is_or f g nothing = false
+is_or f g (span a n) = false
+is_or f g (x then y) = false
+is_or f g (x or y) = f x && g y
+is_or f g (many x) = false
 
-abbrev isMany : (Form → Bool) → Form → Bool
-isMany f nothing = false
-isMany f (span a n) = false
-isMany f (x then y) = false
-isMany f (x or y) = false
-isMany f (many x) = f x
+abbrev is_many : (Form → Bool) → Form → Bool
+is_many f nothing = false
+is_many f (span a n) = false
+is_many f (x then y) = false
+is_many f (x or y) = false
+is_many f (many x) = f x
 
 unfoldable pub same : Form → Form → Bool
-same nothing = isNothing
-same (span a n) = isSpan a n
-same (x then y) = isThen (same x) (same y)
-same (x or y) = isOr (same x) (same y)
-same (many x) = isMany (same x)
+same nothing = is_nothing
+same (span a n) = is_span a n
+same (x then y) = is_then (same x) (same y)
+same (x or y) = is_or (same x) (same y)
+same (many x) = is_many (same x)
 
 never : {P : Type 0} → false ≡ true → P
 never e = absurd (let z : ◌≡◌ {A = ℕ} 0 1 = cc in omega arith)

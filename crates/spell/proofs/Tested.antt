@@ -7,12 +7,12 @@ use lib.Dec.{eqb, ltb}
 use lib.ListN.{get_or}
 use Rattle.spell.specs.Forms.{Form}
 use Rattle.spell.specs.Grammar.{text}
-use Rattle.spell.specs.Stuck.{after, afters, allBehind, anyEnds, behind, ends}
+use Rattle.spell.specs.Stuck.{after, afters, all_behind, any_ends, behind, ends}
 use Rattle.spell.specs.Table.{follows}
-use Rattle.spell.specs.Rows.{cellCount, kindCount, kinds, lastState, rows, states}
+use Rattle.spell.specs.Rows.{cell_count, kind_count, kinds, last_state, rows, states}
 use Rattle.spell.proofs.Alike.{alike}
 use Rattle.spell.proofs.Same.{every, same, sames}
-use Rattle.spell.proofs.Ways.{sortCount, sortOf, sorts, ways}
+use Rattle.spell.proofs.Ways.{sort_count, sort_of, sorts, ways}
 
 unfoldable pub along : List ℕ → List Form → List Form
 along [] xs = xs
@@ -30,35 +30,35 @@ empty (x ∷ xs) = false
 unfoldable pub sort : ℕ → ℕ
 sort i = get_or sorts i 0
 
-unfoldable pub stepRight : ℕ → ℕ → Bool
-stepRight q i = sames (afters (sort i) (stands q)) (stands (follows q (sort i)))
+unfoldable pub step_right : ℕ → ℕ → Bool
+step_right q i = sames (afters (sort i) (stands q)) (stands (follows q (sort i)))
 
-unfoldable pub rowRight : ℕ → Bool
-rowRight q = every (stepRight q) sortCount
+unfoldable pub row_right : ℕ → Bool
+row_right q = every (step_right q) sort_count
 
-pub rows_right : every rowRight states ≡ true
-unfolding rowRight stepRight stands along follows ways kinds rows sames same afters after allBehind behind ends text sorts sort every
+pub rows_right : every row_right states ≡ true
+unfolding row_right step_right stands along follows ways kinds rows sames same afters after all_behind behind ends text sorts sort every
 rows_right = refl
 
 -- where a state may end, and that only state 0 has nothing
-unfoldable pub stateRight : ℕ → Bool
-stateRight q = beq (anyEnds (stands q)) (eqb q lastState) && beq (empty (stands q)) (eqb q 0)
+unfoldable pub state_right : ℕ → Bool
+state_right q = beq (any_ends (stands q)) (eqb q last_state) && beq (empty (stands q)) (eqb q 0)
 
-pub states-right : every stateRight states ≡ true
-unfolding stateRight stands along ways afters after allBehind behind ends anyEnds text every
+pub states-right : every state_right states ≡ true
+unfolding state_right stands along ways afters after all_behind behind ends any_ends text every
 states-right = refl
 
 -- each byte is like that of its sort
-unfoldable pub byteRight : ℕ → Bool
-byteRight b = alike b (sort (get_or sortOf b 0)) text && (ltb (get_or sortOf b 0) sortCount && (eqb (get_or kinds b 0) (get_or kinds (sort (get_or sortOf b 0)) 0) && ltb (get_or kinds b 0) kindCount))
+unfoldable pub byte_right : ℕ → Bool
+byte_right b = alike b (sort (get_or sort_of b 0)) text && (ltb (get_or sort_of b 0) sort_count && (eqb (get_or kinds b 0) (get_or kinds (sort (get_or sort_of b 0)) 0) && ltb (get_or kinds b 0) kind_count))
 
-pub bytes-right : every byteRight 256 ≡ true
-unfolding byteRight alike text sortOf sorts sort kinds every
+pub bytes-right : every byte_right 256 ≡ true
+unfolding byte_right alike text sort_of sorts sort kinds every
 bytes-right = refl
 
-unfoldable pub cellRight : ℕ → Bool
-cellRight i = ltb (get_or rows i 0) states
+unfoldable pub cell_right : ℕ → Bool
+cell_right i = ltb (get_or rows i 0) states
 
-pub cells_right : every cellRight cellCount ≡ true
-unfolding cellRight rows every
+pub cells_right : every cell_right cell_count ≡ true
+unfolding cell_right rows every
 cells_right = refl

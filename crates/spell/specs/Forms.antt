@@ -19,7 +19,7 @@ in_span a n b = leb a b && leb b (a + n)
 pub data Reads : Form → List ℕ → List ℕ → Type 0 where
   read_none : {s : List ℕ} → Reads nothing s s
   read_byte : {a n b : ℕ} {s : List ℕ} → in_span a n b ≡ true → Reads (span a n) (b ∷ s) s
-  read-then : {x y : Form} {s t u : List ℕ} → Reads x s t → Reads y t u → Reads (x then y) s u
+  read_then : {x y : Form} {s t u : List ℕ} → Reads x s t → Reads y t u → Reads (x then y) s u
   read_left : {x y : Form} {s t : List ℕ} → Reads x s t → Reads (x or y) s t
   read_right : {x y : Form} {s t : List ℕ} → Reads y s t → Reads (x or y) s t
   read-end : {x : Form} {s : List ℕ} → Reads (many x) s s

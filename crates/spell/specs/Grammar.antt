@@ -17,8 +17,8 @@ abbrev pub capital : Form
 capital = span 65 25
 
 -- Text 1: letters, digits and `_`
-abbrev pub nameByte : Form
-nameByte = small or capital or span 48 9 or byte 95
+abbrev pub name_byte : Form
+name_byte = small or capital or span 48 9 or byte 95
 
 -- Text 2: blanks and line ends
 abbrev pub blank : Form
@@ -44,11 +44,11 @@ arrow = byte 60 then mark 45
 
 -- Text 1: the name of a constant or a relation
 abbrev pub lower : Form
-lower = word (small then many nameByte)
+lower = word (small then many name_byte)
 
 -- Text 1, 4: the name of a constant or a variable
 abbrev pub term : Form
-term = word ((small or capital) then many nameByte)
+term = word ((small or capital) then many name_byte)
 
 -- ---- lines
 
@@ -61,8 +61,8 @@ abbrev pub bracketed : Form → Form
 bracketed f = perhaps (mark 40 then f then many (mark 44 then f) then mark 41)
 
 -- Text 3: `mode p(?,^).`
-abbrev pub modeLine : Form
-modeLine = byte 109 then byte 111 then byte 100 then byte 101 then word blank then lower then bracketed (mark 63 or mark 94) then mark 46
+abbrev pub mode_line : Form
+mode_line = byte 109 then byte 111 then byte 100 then byte 101 then word blank then lower then bracketed (mark 63 or mark 94) then mark 46
 
 -- Text 4: `p(a,B)` or `A = b`
 abbrev pub literal : Form
@@ -77,12 +77,12 @@ abbrev pub clause : Form
 clause = lower then bracketed term then perhaps (arrow then goal then perhaps (mark 58 then perhaps goal)) then (mark 46 or mark 59)
 
 -- Text 7: `<- body.` or `<- .`
-abbrev pub goalLine : Form
-goalLine = arrow then perhaps goal then mark 46
+abbrev pub goal_line : Form
+goal_line = arrow then perhaps goal then mark 46
 
 -- Text 8: mode lines, clauses, one goal line
 unfoldable pub text : Form
-text = blanks then many modeLine then many clause then goalLine
+text = blanks then many mode_line then many clause then goal_line
 
 -- Text 8: s is a clause text
 unfoldable pub ClauseText : List ℕ → Type 0

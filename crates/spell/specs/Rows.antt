@@ -6,16 +6,16 @@ abbrev pub states : ℕ
 states = 62
 
 -- how many kinds of bytes there are
-abbrev pub kindCount : ℕ
-kindCount = 20
+abbrev pub kind_count : ℕ
+kind_count = 20
 
 -- how many numbers the rows have
-abbrev pub cellCount : ℕ
-cellCount = 1240
+abbrev pub cell_count : ℕ
+cell_count = 1240
 
 -- the one state in which a text may end
-abbrev pub lastState : ℕ
-lastState = 11
+abbrev pub last_state : ℕ
+last_state = 11
 
 -- the kind of each byte
 unfoldable pub kinds : List ℕ

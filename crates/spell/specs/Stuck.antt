@@ -29,9 +29,9 @@ behind (x or z) y = (x or z) then y
 behind (many x) y = many x then y
 
 -- each of these, and then y
-unfoldable pub allBehind : List Form → Form → List Form
-allBehind [] y = []
-allBehind (x ∷ xs) y = behind x y ∷ allBehind xs y
+unfoldable pub all_behind : List Form → Form → List Form
+all_behind [] y = []
+all_behind (x ∷ xs) y = behind x y ∷ all_behind xs y
 
 -- nothing is left of a byte that fits
 abbrev pub hit : Bool → List Form
@@ -47,9 +47,9 @@ only false xs = []
 unfoldable pub after : ℕ → Form → List Form
 after b nothing = []
 after b (span a n) = hit (in_span a n b)
-after b (x then y) = let r = after b y in allBehind (after b x) y ++ only (ends x) r
+after b (x then y) = let r = after b y in all_behind (after b x) y ++ only (ends x) r
 after b (x or y) = after b x ++ after b y
-after b (many x) = allBehind (after b x) (many x)
+after b (many x) = all_behind (after b x) (many x)
 
 -- where any of these may stand
 unfoldable pub afters : ℕ → List Form → List Form
@@ -57,9 +57,9 @@ afters b [] = []
 afters b (x ∷ xs) = after b x ++ afters b xs
 
 -- one of them can be read off nothing
-unfoldable pub anyEnds : List Form → Bool
-anyEnds [] = false
-anyEnds (x ∷ xs) = ends x || anyEnds xs
+unfoldable pub any_ends : List Form → Bool
+any_ends [] = false
+any_ends (x ∷ xs) = ends x || any_ends xs
 
 -- the bytes end at place i
 abbrev pub ended : Bool → ℕ → Spelt
@@ -73,9 +73,9 @@ goes f (x ∷ xs) i = f (x ∷ xs) (i + 1)
 
 -- what is left of a text from place i on, with one of these forms to be read off it
 unfoldable pub spelling : List ℕ → List Form → ℕ → Spelt
-spelling [] xs i = ended (anyEnds xs) i
+spelling [] xs i = ended (any_ends xs) i
 spelling (b ∷ s) xs i = goes (spelling s) (afters b xs) i
 
 -- Text 9: a clause text, or the place of the first byte that no clause text could continue with
-unfoldable pub spellingOf : List ℕ → Spelt
-spellingOf s = spelling s (text ∷ []) 0
+unfoldable pub spelling_of : List ℕ → Spelt
+spelling_of s = spelling s (text ∷ []) 0

@@ -2,9 +2,9 @@
 mod tables;
 
 ghost use Rattle.std.specs.Prelude.{◌≡◌, ◌+◌, ◌≤◌};
-ghost use Rattle.spell.specs.Rows.{cellCount, kindCount, kinds};
-ghost use Rattle.spell.specs.Stuck.{spellingOf};
-ghost use Rattle.spell.specs.Table.{rowAfter, steps};
+ghost use Rattle.spell.specs.Rows.{cell_count, kind_count, kinds};
+ghost use Rattle.spell.specs.Stuck.{spelling_of};
+ghost use Rattle.spell.specs.Table.{row_after, steps};
 
 // A clause text, or the place of the first byte that no clause text could continue with.
 #[derive(Drop)]
@@ -15,8 +15,8 @@ pub enum Spelt {
 
 // The row that follows the one at place row, at byte b.
 fn follows(ks: &[u8; 256], rs: &[u16; 1240], row: usize, b: u8) -> usize
-    requires { (ks.now ≡ kinds) × (rs.now ≡ steps) × (row + kindCount ≤ cellCount) }
-    ensures { (result ≡ rowAfter row b) × (result + kindCount ≤ cellCount) }
+    requires { (ks.now ≡ kinds) × (rs.now ≡ steps) × (row + kind_count ≤ cell_count) }
+    ensures { (result ≡ row_after row b) × (result + kind_count ≤ cell_count) }
 {
     let at = basics::wide(b);
     let to = row + basics::wide(ks[at]);
@@ -26,7 +26,7 @@ fn follows(ks: &[u8; 256], rs: &[u16; 1240], row: usize, b: u8) -> usize
 // The run over the tables.
 fn scan(ks: &[u8; 256], rs: &[u16; 1240], text: &[u8]) -> Spelt
     requires { (ks.now ≡ kinds) × (rs.now ≡ steps) }
-    ensures { result ≡ spellingOf text.now }
+    ensures { result ≡ spelling_of text.now }
 {
     let mut row: usize = tables::FIRST_ROW;
     let mut i: usize = 0;
@@ -45,7 +45,7 @@ fn scan(ks: &[u8; 256], rs: &[u16; 1240], text: &[u8]) -> Spelt
 
 // 16, TEXT.
 pub fn spelling(text: &[u8]) -> Spelt
-    ensures { result ≡ spellingOf text.now }
+    ensures { result ≡ spelling_of text.now }
 {
     scan(&tables::KINDS, &tables::STEPS, text)
 }

@@ -4,7 +4,7 @@ ghost use Rattle.children.specs.Telling.{Tells};
 ghost use Rattle.entry.specs.Entered.{Inside};
 ghost use Rattle.parlog.specs.Limits.{small};
 ghost use Rattle.parlog.specs.Run.{counted};
-ghost use Rattle.parlog.specs.Tables.{at, lent, procCount, procsOf, rowSize};
+ghost use Rattle.parlog.specs.Tables.{at, lent, proc_count, procs_of, row_size};
 ghost use Rattle.program_index.specs.Indexed.{Indexed};
 ghost use Rattle.step.specs.Stepping.{CarriedOut, Carries, PlannedSays, StepSays, SteppedSays};
 
@@ -46,7 +46,7 @@ pub fn planned(
     p: usize,
     told: Told,
 ) -> Planning
-    requires { Inside small image.now rels clauses (lent head.now procs.now vars.now) × (p < procCount head.now) × ((at (procsOf procs.now (procCount head.now)) p).mode ≡ 3 → Tells (procsOf procs.now (procCount head.now)) p told) × Indexed image.now rels clauses ix.now }
+    requires { Inside small image.now rels clauses (lent head.now procs.now vars.now) × (p < proc_count head.now) × ((at (procs_of procs.now (proc_count head.now)) p).mode ≡ 3 → Tells (procs_of procs.now (proc_count head.now)) p told) × Indexed image.now rels clauses ix.now }
     ensures { PlannedSays small image.now rels clauses (lent head.now procs.now vars.now) p result }
 {
     let n = head::proc_count(head);
@@ -91,7 +91,7 @@ pub fn stepped(
     p: usize,
     told: Told,
 ) -> Stepped
-    requires { Inside small image.now rels clauses (lent head.old procs.old vars.old) × (p < procCount head.old) × ((at (procsOf procs.old (procCount head.old)) p).mode ≡ 3 → Tells (procsOf procs.old (procCount head.old)) p told) × Indexed image.now rels clauses ix.now }
+    requires { Inside small image.now rels clauses (lent head.old procs.old vars.old) × (p < proc_count head.old) × ((at (procs_of procs.old (proc_count head.old)) p).mode ≡ 3 → Tells (procs_of procs.old (proc_count head.old)) p told) × Indexed image.now rels clauses ix.now }
     ensures { SteppedSays small image.now rels clauses (lent head.old procs.old vars.old) p result head.new procs.new vars.new }
 {
     let d = planned(image, rels, clauses, ix, head, procs, vars, p, told);
@@ -107,8 +107,8 @@ pub fn stepped(
 
 // What process p is told of its children; only one that waits asks.
 pub fn ask(procs: &[u8], n: usize, p: usize) -> Told
-    requires { (n * rowSize ≤ length procs.now) × (n ≤ 65535) }
-    ensures { (at (procsOf procs.now n) p).mode ≡ 3 → Tells (procsOf procs.now n) p result }
+    requires { (n * row_size ≤ length procs.now) × (n ≤ 65535) }
+    ensures { (at (procs_of procs.now n) p).mode ≡ 3 → Tells (procs_of procs.now n) p result }
 {
     if rows::mode_at(procs, n, p) == 3 {
         return children::asked(procs, n, p);

@@ -9,86 +9,86 @@ use borrow.Author.Tests.{eq-eqb, le-leb, le-ltb, lt-ltb, ltb-true, ne_eqb}
 use native.Mathlib.Omega.{arith}
 use Rattle.parlog.proofs.Bools.{split}
 use Rattle.parlog.specs.Codes.{kind_of, tag_of}
-use Rattle.parlog.specs.Program.{blockCount, clauseAt, goalAt, goalBy, literalAt, Program, program_of, splitAt, splitBy, stageAt, varsOf}
+use Rattle.parlog.specs.Program.{block_count, clause_at, goal_at, goal_by, literal_at, Program, program_of, split_at, split_by, stage_at, vars_of}
 use Rattle.parlog.specs.Scan.{implies}
-use Rattle.parlog.specs.TableRules.{blockIn, call_in, clauseIn, equalityIn, foundIn, goalIn, goalInBy, goingOk, isEquality, literalIn, placesOk, succeeds, tryIn}
+use Rattle.parlog.specs.TableRules.{block_in, call_in, clause_in, equality_in, found_in, goal_in, goal_in_by, going_ok, is_equality, literal_in, places_ok, succeeds, try_in}
 use Rattle.parlog.specs.declared.Process.{Process}
 use Rattle.parlog.specs.declared.Spot.{Spot}
 use Rattle.place.proofs.Clauses.{clause-count}
 use Rattle.row_tests.proofs.Laws.{and_one}
-use Rattle.table_rules.specs.Parts.{behindCall, behindGoal, behindLiteral}
+use Rattle.table_rules.specs.Parts.{behind_call, behind_goal, behind_literal}
 
 -- ---- clauses
 
 module _ (s : List ℕ) (r c n k v : ℕ) where
-  pub clause-none : c ≤ k → false ≡ clauseIn (program_of s r c) n k v
-  unfolding clauseIn
+  pub clause-none : c ≤ k → false ≡ clause_in (program_of s r c) n k v
+  unfolding clause_in
   clause-none h = rw (clause-count s r c, le-ltb k c h)
 
-  pub clause-some : k < c → {m : ℕ} → m ≡ varsOf (program_of s r c) k → leb (v + m) n ≡ clauseIn (program_of s r c) n k v
-  unfolding clauseIn
+  pub clause-some : k < c → {m : ℕ} → m ≡ vars_of (program_of s r c) k → leb (v + m) n ≡ clause_in (program_of s r c) n k v
+  unfolding clause_in
   clause-some h e = rw (clause-count s r c, lt-ltb k c h, e)
 
 -- ---- goals
 
 module _ (pr : Program) (n : ℕ) (z : Spot) where
-  pub goal-own : z.kind ≡ 0 → {m : ℕ} → m ≡ pr.goalVars → {b : Bool} → b ≡ (eqb z.base 0 && leb m n) → b ≡ goalIn pr n z
-  unfolding goalIn goalInBy kind_of
+  pub goal-own : z.kind ≡ 0 → {m : ℕ} → m ≡ pr.goal_vars → {b : Bool} → b ≡ (eqb z.base 0 && leb m n) → b ≡ goal_in pr n z
+  unfolding goal_in goal_in_by kind_of
   goal-own k e q = rw (k, q, e)
 
-  by_kind : (k : ℕ) → (k ≡ 0 → ⊥) → clauseIn pr n z.clause z.base ≡ goalInBy (kind_of k) pr n z
-  unfolding goalInBy kind_of
+  by_kind : (k : ℕ) → (k ≡ 0 → ⊥) → clause_in pr n z.clause z.base ≡ goal_in_by (kind_of k) pr n z
+  unfolding goal_in_by kind_of
   by_kind zero h = absurd (h refl)
   by_kind (suc zero) h = refl
   by_kind (suc (suc zero)) h = refl
   by_kind (suc (suc (suc k))) h = refl
 
-  pub goal-clause : (z.kind ≡ 0 → ⊥) → {b : Bool} → b ≡ clauseIn pr n z.clause z.base → b ≡ goalIn pr n z
-  unfolding goalIn
+  pub goal-clause : (z.kind ≡ 0 → ⊥) → {b : Bool} → b ≡ clause_in pr n z.clause z.base → b ≡ goal_in pr n z
+  unfolding goal_in
   goal-clause h e = e ∙ by_kind z.kind h
 
 -- ---- the parts behind
 
 module _ (pr : Program) (n : ℕ) (z : Spot) (rel : ℕ) (waits : Bool) (t : ℕ) where
-  pub call-block : {u a : Bool} → u ≡ (eqb t 3 && waits) → a ≡ (eqb t 4 || u) → a ≡ true → {m : ℕ} → m ≡ blockCount pr rel → ltb z.block m ≡ behindCall t waits pr n z rel
-  unfolding behindCall
+  pub call-block : {u a : Bool} → u ≡ (eqb t 3 && waits) → a ≡ (eqb t 4 || u) → a ≡ true → {m : ℕ} → m ≡ block_count pr rel → ltb z.block m ≡ behind_call t waits pr n z rel
+  unfolding behind_call
   call-block eu ea q e = rw (← eu, sym ea ∙ q, e)
 
   module _ {u a : Bool} (eu : u ≡ (eqb t 3 && waits)) (ea : a ≡ (eqb t 4 || u)) (f : a ≡ false) where
-    pub call_none : t < 4 → true ≡ behindCall t waits pr n z rel
-    unfolding behindCall
+    pub call_none : t < 4 → true ≡ behind_call t waits pr n z rel
+    unfolding behind_call
     call_none h = rw (← eu, sym ea ∙ f, lt-ltb t 4 h)
 
-    pub call-try : 4 ≤ t → {d b : Bool} {m : ℕ} → d ≡ foundIn pr n z → m ≡ (clauseAt pr z.found).rel → b ≡ (d && eqb m rel) → b ≡ behindCall t waits pr n z rel
-    unfolding behindCall
+    pub call-try : 4 ≤ t → {d b : Bool} {m : ℕ} → d ≡ found_in pr n z → m ≡ (clause_at pr z.found).rel → b ≡ (d && eqb m rel) → b ≡ behind_call t waits pr n z rel
+    unfolding behind_call
     call-try h ed em e = rw (← eu, sym ea ∙ f, le-ltb t 4 h, e, ed, em)
 
-  pub literal-equality : 7 < t → eqb rel 255 ≡ behindLiteral t waits pr n z rel
-  unfolding behindLiteral
+  pub literal-equality : 7 < t → eqb rel 255 ≡ behind_literal t waits pr n z rel
+  unfolding behind_literal
   literal-equality h = rw (lt-ltb 7 t h)
 
-  pub literal-none : t ≤ 7 → rel ≡ 255 → false ≡ behindLiteral t waits pr n z rel
-  unfolding behindLiteral
+  pub literal-none : t ≤ 7 → rel ≡ 255 → false ≡ behind_literal t waits pr n z rel
+  unfolding behind_literal
   literal-none h e = rw (le-ltb 7 t h, eq-eqb rel 255 e)
 
-  pub literal-call : t ≤ 7 → (rel ≡ 255 → ⊥) → {b : Bool} → b ≡ behindCall t waits pr n z rel → b ≡ behindLiteral t waits pr n z rel
-  unfolding behindLiteral
+  pub literal-call : t ≤ 7 → (rel ≡ 255 → ⊥) → {b : Bool} → b ≡ behind_call t waits pr n z rel → b ≡ behind_literal t waits pr n z rel
+  unfolding behind_literal
   literal-call h o e = rw (le-ltb 7 t h, ne_eqb rel 255 o, e)
 
 module _ (pr : Program) (n : ℕ) (z : Spot) (waits : Bool) (t : ℕ) where
-  pub goal-stage : t < 2 → {m : ℕ} {a d u v b : Bool} → m ≡ length (goalBy (kind_of z.kind) pr z.clause) → a ≡ (eqb t 0 || waits) → d ≡ cond a (ltb z.stage m) (leb z.stage m)
-      → u ≡ splitBy (kind_of z.kind) pr z.clause → v ≡ (eqb t 0 || not u) → b ≡ (d && v) → b ≡ behindGoal t waits pr n z
-  unfolding behindGoal goalAt splitAt
+  pub goal-stage : t < 2 → {m : ℕ} {a d u v b : Bool} → m ≡ length (goal_by (kind_of z.kind) pr z.clause) → a ≡ (eqb t 0 || waits) → d ≡ cond a (ltb z.stage m) (leb z.stage m)
+      → u ≡ split_by (kind_of z.kind) pr z.clause → v ≡ (eqb t 0 || not u) → b ≡ (d && v) → b ≡ behind_goal t waits pr n z
+  unfolding behind_goal goal_at split_at
   goal-stage h em ea ed eu ev e = rw (lt-ltb t 2 h, e, ed, ev, eu, ea, em)
 
-  module _ (h : 2 ≤ t) {m : ℕ} (em : m ≡ length (stageAt pr z)) where
-    pub goal-none : m ≤ z.literal → false ≡ behindGoal t waits pr n z
-    unfolding behindGoal
+  module _ (h : 2 ≤ t) {m : ℕ} (em : m ≡ length (stage_at pr z)) where
+    pub goal-none : m ≤ z.literal → false ≡ behind_goal t waits pr n z
+    unfolding behind_goal
     goal-none l = rw (le-ltb t 2 h, ← em, le-ltb z.literal m l)
 
-    pub goal-literal : z.literal < m → {rel : ℕ} → rel ≡ (literalAt pr z).rel → {b : Bool} → b ≡ behindLiteral t waits pr n z rel → b ≡ behindGoal t waits pr n z
-    unfolding behindGoal
-    goal-literal lt el e = rw (le-ltb t 2 h, ← em, lt-ltb z.literal m lt) (e ∙ ap (behindLiteral t waits pr n z) el)
+    pub goal-literal : z.literal < m → {rel : ℕ} → rel ≡ (literal_at pr z).rel → {b : Bool} → b ≡ behind_literal t waits pr n z rel → b ≡ behind_goal t waits pr n z
+    unfolding behind_goal
+    goal-literal lt el e = rw (le-ltb t 2 h, ← em, lt-ltb z.literal m lt) (e ∙ ap (behind_literal t waits pr n z) el)
 
 pub told-one : {told : Bool} → told ≡ true → {a b : Bool} → b ≡ a → b ≡ implies told a
 told-one h e = rw h e
@@ -135,16 +135,16 @@ module _ (pr : Program) (n : ℕ) (x : Process) where
   z = x.spot
 
   placed-code : (t : ℕ) → (t ≡ 7 → ⊥)
-      → ((goalIn pr n z && implies ((eqb t 3 || eqb t 4) && (eqb x.mode 4 && eqb x.result 1)) (foundIn pr n z)) && behindGoal t (eqb x.mode 3) pr n z)
-      ≡ (placesOk (tag_of t) pr n z && goingOk (tag_of t) pr n x)
-  unfolding behindGoal behindLiteral behindCall placesOk goingOk tag_of call_in equalityIn literalIn tryIn
+      → ((goal_in pr n z && implies ((eqb t 3 || eqb t 4) && (eqb x.mode 4 && eqb x.result 1)) (found_in pr n z)) && behind_goal t (eqb x.mode 3) pr n z)
+      ≡ (places_ok (tag_of t) pr n z && going_ok (tag_of t) pr n x)
+  unfolding behind_goal behind_literal behind_call places_ok going_ok tag_of call_in equality_in literal_in try_in
   placed-code zero h = simp and_one
-  placed-code (suc zero) h = stage-order (goalIn pr n z) (eqb x.mode 3) (not (splitAt pr z)) z.stage (length (goalAt pr z))
+  placed-code (suc zero) h = stage-order (goal_in pr n z) (eqb x.mode 3) (not (split_at pr z)) z.stage (length (goal_at pr z))
   placed-code (suc (suc zero)) h = simp (and_one, and-more)
   placed-code (suc (suc (suc zero))) h =
-      wait-order (goalIn pr n z) (implies (succeeds x) (foundIn pr n z)) (ltb z.literal (length (stageAt pr z))) (not (isEquality (literalAt pr z))) (eqb x.mode 3) (blockIn pr z)
+      wait-order (goal_in pr n z) (implies (succeeds x) (found_in pr n z)) (ltb z.literal (length (stage_at pr z))) (not (is_equality (literal_at pr z))) (eqb x.mode 3) (block_in pr z)
   placed-code (suc (suc (suc (suc zero)))) h =
-      search-order (goalIn pr n z) (implies (succeeds x) (foundIn pr n z)) (ltb z.literal (length (stageAt pr z))) (not (isEquality (literalAt pr z))) (blockIn pr z)
+      search-order (goal_in pr n z) (implies (succeeds x) (found_in pr n z)) (ltb z.literal (length (stage_at pr z))) (not (is_equality (literal_at pr z))) (block_in pr z)
   placed-code (suc (suc (suc (suc (suc zero))))) h = simp (and_one, and-more)
   placed-code (suc (suc (suc (suc (suc (suc zero)))))) h = simp (and_one, and-more)
   placed-code (suc (suc (suc (suc (suc (suc (suc zero))))))) h = absurd (h refl)
@@ -152,17 +152,17 @@ module _ (pr : Program) (n : ℕ) (x : Process) where
       rw (ne_eqb (suc (suc (suc (suc (suc (suc (suc (suc t)))))))) 3 (λ e. omega arith), ne_eqb (suc (suc (suc (suc (suc (suc (suc (suc t)))))))) 4 (λ e. omega arith), le-ltb (suc (suc (suc (suc (suc (suc (suc (suc t)))))))) 2 (omega arith), lt-ltb 7 (suc (suc (suc (suc (suc (suc (suc (suc t)))))))) (omega arith))
       (simp (and_one, and-more))
 
-  pub placed-guard : x.tag ≡ 7 → {b : Bool} → b ≡ foundIn pr n z → b ≡ (placesOk (tag_of x.tag) pr n z && goingOk (tag_of x.tag) pr n x)
-  unfolding placesOk goingOk tag_of
+  pub placed-guard : x.tag ≡ 7 → {b : Bool} → b ≡ found_in pr n z → b ≡ (places_ok (tag_of x.tag) pr n z && going_ok (tag_of x.tag) pr n x)
+  unfolding places_ok going_ok tag_of
   placed-guard h e = rw (h, e, and_one)
 
   module _ (h : x.tag ≡ 7 → ⊥) {u w q g f a : Bool} (eu : u ≡ (eqb x.tag 3 || eqb x.tag 4)) (ew : w ≡ (eqb x.mode 4 && eqb x.result 1)) (eq : q ≡ (u && w))
-      (eg : g ≡ goalIn pr n z) (ef : f ≡ implies q (foundIn pr n z)) (ea : a ≡ (g && f)) where
-    front : a ≡ (goalIn pr n z && implies ((eqb x.tag 3 || eqb x.tag 4) && (eqb x.mode 4 && eqb x.result 1)) (foundIn pr n z))
+      (eg : g ≡ goal_in pr n z) (ef : f ≡ implies q (found_in pr n z)) (ea : a ≡ (g && f)) where
+    front : a ≡ (goal_in pr n z && implies ((eqb x.tag 3 || eqb x.tag 4) && (eqb x.mode 4 && eqb x.result 1)) (found_in pr n z))
     front = rw (ea, eg, ef, eq, eu, ew)
 
-    pub placed-none : a ≡ false → false ≡ (placesOk (tag_of x.tag) pr n z && goingOk (tag_of x.tag) pr n x)
+    pub placed-none : a ≡ false → false ≡ (places_ok (tag_of x.tag) pr n z && going_ok (tag_of x.tag) pr n x)
     placed-none o = rw (← placed-code x.tag h, sym front ∙ o)
 
-    pub placed-rest : a ≡ true → {b : Bool} → b ≡ behindGoal x.tag (eqb x.mode 3) pr n z → b ≡ (placesOk (tag_of x.tag) pr n z && goingOk (tag_of x.tag) pr n x)
+    pub placed-rest : a ≡ true → {b : Bool} → b ≡ behind_goal x.tag (eqb x.mode 3) pr n z → b ≡ (places_ok (tag_of x.tag) pr n z && going_ok (tag_of x.tag) pr n x)
     placed-rest o e = rw (← placed-code x.tag h, sym front ∙ o) e

@@ -14,11 +14,11 @@ use Rattle.parlog.proofs.Bools.{and-true}
 use Rattle.parlog.specs.Limits.{Limits}
 use Rattle.parlog.specs.Program.{Program}
 use Rattle.parlog.specs.Scan.{every, implies}
-use Rattle.parlog.specs.TableRules.{bindingOk, cellKnown, countsOk, fullSize, lentOk, rowOk, stateOk, tablesOk, varOk}
-use Rattle.parlog.specs.Tables.{bindingAt, bindingBy, cellSize, headSize, Lent, markerLast, number_at, procCount, procsOf, rowSize, sortAt, tablesIn, varCount, varsIn}
+use Rattle.parlog.specs.TableRules.{binding_ok, cell_known, counts_ok, full_size, lent_ok, row_ok, state_ok, tables_ok, var_ok}
+use Rattle.parlog.specs.Tables.{binding_at, binding_by, cell_size, head_size, Lent, marker_last, number_at, proc_count, procs_of, row_size, sort_at, tables_in, var_count, vars_in}
 use Rattle.rows.proofs.Tables.{procs-length}
 use Rattle.table_rules.proofs.Places.{and_none}
-use Rattle.table_rules.specs.Parts.{cellOk}
+use Rattle.table_rules.specs.Parts.{cell_ok}
 use Rattle.vars.proofs.Tables.{vars-at, vars-length}
 
 -- ---- counting down
@@ -46,14 +46,14 @@ four-way true false false d = refl
 four-way true false true d = refl
 four-way true true c d = refl
 
-pub cells-both : (l : List ℕ) (n k : ℕ) → every (cellOk l n) k ≡ (every (cellKnown l) k && every (varOk (varsIn l n)) k)
-unfolding every cellOk
+pub cells-both : (l : List ℕ) (n k : ℕ) → every (cell_ok l n) k ≡ (every (cell_known l) k && every (var_ok (vars_in l n)) k)
+unfolding every cell_ok
 cells-both l n zero = refl
-cells-both l n (suc k) = ap (λ (b : Bool). (cellKnown l k && varOk (varsIn l n) k) && b) (cells-both l n k) ∙ four-way (cellKnown l k) (varOk (varsIn l n) k) (every (cellKnown l) k) (every (varOk (varsIn l n)) k)
+cells-both l n (suc k) = ap (λ (b : Bool). (cell_known l k && var_ok (vars_in l n) k) && b) (cells-both l n k) ∙ four-way (cell_known l k) (var_ok (vars_in l n) k) (every (cell_known l) k) (every (var_ok (vars_in l n)) k)
 
 pub cell-is : (l : List ℕ) (n v : ℕ) → v < n → {m : ℕ} {b : Bool} → m ≡ number_at l v
-    → b ≡ ((ltb (sortAt l v) 3 && implies (eqb (sortAt l v) 0) (eqb m 0)) && bindingOk v (bindingBy (sortAt l v) m)) → b ≡ cellOk l n v
-unfolding cellOk cellKnown varOk bindingAt
+    → b ≡ ((ltb (sort_at l v) 3 && implies (eqb (sort_at l v) 0) (eqb m 0)) && binding_ok v (binding_by (sort_at l v) m)) → b ≡ cell_ok l n v
+unfolding cell_ok cell_known var_ok binding_at
 cell-is l n v h em e = rw (e, em, vars-at l n v h)
 
 -- ---- the tables
@@ -65,9 +65,9 @@ whole-order false true r v true = refl
 whole-order true true false v true = sym (and_none v)
 whole-order true true true v true = refl
 
-pub size_is : (most cap : ℕ) (h l w : List ℕ) {a b : Bool} → a ≡ (eqb (length l) (most * rowSize) && eqb (length w) (cap * cellSize)) → b ≡ (eqb (length h) headSize && a)
-    → b ≡ fullSize (record { procs = most; vars = cap }) (record { head = h; procs = l; vars = w })
-unfolding fullSize
+pub size_is : (most cap : ℕ) (h l w : List ℕ) {a b : Bool} → a ≡ (eqb (length l) (most * row_size) && eqb (length w) (cap * cell_size)) → b ≡ (eqb (length h) head_size && a)
+    → b ≡ full_size (record { procs = most; vars = cap }) (record { head = h; procs = l; vars = w })
+unfolding full_size
 size_is most cap h l w ea e = rw (e, ea)
 
 module _ (most cap : ℕ) (pr : Program) (h l w : List ℕ) where
@@ -78,37 +78,37 @@ module _ (most cap : ℕ) (pr : Program) (h l w : List ℕ) where
   lent = record { head = h; procs = l; vars = w }
 
   -- counts and marker in numbers
-  abbrev countsCode : ℕ → ℕ → ℕ → ℕ → Bool
-  countsCode p v k g = (leb 1 p && (leb p most && (leb v cap && leb g v))) && ltb k p
+  abbrev counts_code : ℕ → ℕ → ℕ → ℕ → Bool
+  counts_code p v k g = (leb 1 p && (leb p most && (leb v cap && leb g v))) && ltb k p
 
-  abbrev cellsCode : ℕ → Bool
-  cellsCode v = every (cellKnown w) v && every (varOk (varsIn w v)) v
+  abbrev cells_code : ℕ → Bool
+  cells_code v = every (cell_known w) v && every (var_ok (vars_in w v)) v
 
-  abbrev rowsCode : ℕ → ℕ → Bool
-  rowsCode p v = every (rowOk pr (procsOf l p) v) p
+  abbrev rows_code : ℕ → ℕ → Bool
+  rows_code p v = every (row_ok pr (procs_of l p) v) p
 
-  lent_is : lentOk lim pr lent
-      ≡ (fullSize lim lent && (countsCode (procCount h) (varCount h) (markerLast h) pr.goalVars && (cellsCode (varCount h) && rowsCode (procCount h) (varCount h))))
-  unfolding lentOk tablesOk stateOk countsOk tablesIn
+  lent_is : lent_ok lim pr lent
+      ≡ (full_size lim lent && (counts_code (proc_count h) (var_count h) (marker_last h) pr.goal_vars && (cells_code (var_count h) && rows_code (proc_count h) (var_count h))))
+  unfolding lent_ok tables_ok state_ok counts_ok tables_in
   lent_is =
-      rw (procs-length l (procCount h), vars-length w (varCount h))
-      (ap (λ (b : Bool). fullSize lim lent && b)
-      (whole-order (every (cellKnown w) (varCount h)) (leb 1 (procCount h) && (leb (procCount h) most && (leb (varCount h) cap && leb pr.goalVars (varCount h))))
-      (rowsCode (procCount h) (varCount h)) (every (varOk (varsIn w (varCount h))) (varCount h)) (ltb (markerLast h) (procCount h))))
+      rw (procs-length l (proc_count h), vars-length w (var_count h))
+      (ap (λ (b : Bool). full_size lim lent && b)
+      (whole-order (every (cell_known w) (var_count h)) (leb 1 (proc_count h) && (leb (proc_count h) most && (leb (var_count h) cap && leb pr.goal_vars (var_count h))))
+      (rows_code (proc_count h) (var_count h)) (every (var_ok (vars_in w (var_count h))) (var_count h)) (ltb (marker_last h) (proc_count h))))
 
-  module _ {a : Bool} (ea : a ≡ fullSize lim lent) where
-    pub lent-size : a ≡ false → false ≡ lentOk lim pr lent
+  module _ {a : Bool} (ea : a ≡ full_size lim lent) where
+    pub lent-size : a ≡ false → false ≡ lent_ok lim pr lent
     lent-size f = rw (lent_is, sym ea ∙ f)
 
     module _ (q : a ≡ true) where
       -- the sizes themselves
-      sizes : (length h ≡ headSize) × (length l ≡ most * rowSize) × (length w ≡ cap * cellSize)
+      sizes : (length h ≡ head_size) × (length l ≡ most * row_size) × (length w ≡ cap * cell_size)
       sizes = full-sizes lim lent (sym ea ∙ q)
 
-      pub head-fits : headSize ≤ length h
+      pub head-fits : head_size ≤ length h
       head-fits = omega (arith, sizes.0)
 
-      module _ (p v k g : ℕ) {b : Bool} (eb : b ≡ countsCode p v k g) where
+      module _ (p v k g : ℕ) {b : Bool} (eb : b ≡ counts_code p v k g) where
         counts : b ≡ true → (p ≤ most) × (v ≤ cap)
         counts t =
             let x = and-true (leb 1 p && (leb p most && (leb v cap && leb g v))) (ltb k p) (sym eb ∙ t) in
@@ -116,18 +116,18 @@ module _ (most cap : ℕ) (pr : Program) (h l w : List ℕ) where
             let z = and-true (leb p most) (leb v cap && leb g v) y.1 in
             (leb-true p most z.0, leb-true v cap (and-true (leb v cap) (leb g v) z.1).0)
 
-        module _ (ep : p ≡ procCount h) (ev : v ≡ varCount h) (ek : k ≡ markerLast h) (eg : g ≡ pr.goalVars) where
-          pub rows_fit : b ≡ true → p * rowSize ≤ length l
+        module _ (ep : p ≡ proc_count h) (ev : v ≡ var_count h) (ek : k ≡ marker_last h) (eg : g ≡ pr.goal_vars) where
+          pub rows_fit : b ≡ true → p * row_size ≤ length l
           rows_fit t = omega (arith, sizes.1, (counts t).0)
 
-          pub cells_fit : b ≡ true → v * cellSize ≤ length w
+          pub cells_fit : b ≡ true → v * cell_size ≤ length w
           cells_fit t = omega (arith, sizes.2, (counts t).1)
 
-          known-counts : countsCode (procCount h) (varCount h) (markerLast h) pr.goalVars ≡ b
+          known-counts : counts_code (proc_count h) (var_count h) (marker_last h) pr.goal_vars ≡ b
           known-counts = rw (ep, ev, ek, eg) at (sym eb)
 
-          pub lent-counts : b ≡ false → false ≡ lentOk lim pr lent
+          pub lent-counts : b ≡ false → false ≡ lent_ok lim pr lent
           lent-counts f = rw (lent_is, sym ea ∙ q, known-counts ∙ f)
 
-          pub lent-rest : b ≡ true → {x y z : Bool} → x ≡ cellsCode v → y ≡ rowsCode p v → z ≡ (x && y) → z ≡ lentOk lim pr lent
+          pub lent-rest : b ≡ true → {x y z : Bool} → x ≡ cells_code v → y ≡ rows_code p v → z ≡ (x && y) → z ≡ lent_ok lim pr lent
           lent-rest t ex ey ez = rw (lent_is, sym ea ∙ q, known-counts ∙ t, ez, ex, ey, ep, ev)

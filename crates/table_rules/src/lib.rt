@@ -4,9 +4,9 @@ ghost use Rattle.std.specs.Prelude.{◌≡◌, ◌&&◌, ◌+◌, ◌*◌, ◌�
 ghost use Rattle.parlog.specs.Codes.{tag_of};
 ghost use Rattle.parlog.specs.Program.{program_of};
 ghost use Rattle.parlog.specs.Scan.{every, implies};
-ghost use Rattle.parlog.specs.TableRules.{cellKnown, clauseIn, foundIn, fullSize, goalIn, goingOk, kinOk, known, lentOk, notesOk, placesOk, resultOk, rowOk, varOk};
-ghost use Rattle.parlog.specs.Tables.{cellSize, lent, procsOf, rowSize, varsIn};
-ghost use Rattle.table_rules.specs.Parts.{behindCall, behindGoal, behindLiteral, cellOk};
+ghost use Rattle.parlog.specs.TableRules.{cell_known, clause_in, found_in, full_size, goal_in, going_ok, kin_ok, known, lent_ok, notes_ok, places_ok, result_ok, row_ok, var_ok};
+ghost use Rattle.parlog.specs.Tables.{cell_size, lent, procs_of, row_size, vars_in};
+ghost use Rattle.table_rules.specs.Parts.{behind_call, behind_goal, behind_literal, cell_ok};
 
 use parlog::{Process, Spot, codes};
 
@@ -23,7 +23,7 @@ fn clause_in(
     v: u16,
 ) -> bool
     requires { (rels ≤ 32) × (clauses ≤ 64) × Indexed image.now rels clauses ix.now }
-    ensures { result ≡ clauseIn (program_of image.now rels clauses) n k v }
+    ensures { result ≡ clause_in (program_of image.now rels clauses) n k v }
 {
     let number = k as usize;
     if clauses <= number {
@@ -43,7 +43,7 @@ fn goal_in(
     z: Spot,
 ) -> bool
     requires { (rels ≤ 32) × (clauses ≤ 64) × Indexed image.now rels clauses ix.now }
-    ensures { result ≡ goalIn (program_of image.now rels clauses) n z }
+    ensures { result ≡ goal_in (program_of image.now rels clauses) n z }
 {
     if z.kind == codes::THE_GOAL {
         let size = program_clause::goal_vars(image, rels, clauses, ix);
@@ -63,7 +63,7 @@ fn told_ok(
     z: Spot,
 ) -> bool
     requires { (rels ≤ 32) × (clauses ≤ 64) × Indexed image.now rels clauses ix.now }
-    ensures { result ≡ implies told (foundIn (program_of image.now rels clauses) n z) }
+    ensures { result ≡ implies told (found_in (program_of image.now rels clauses) n z) }
 {
     if told {
         return clause_in(image, rels, clauses, ix, n, z.found, z.first);
@@ -84,7 +84,7 @@ fn behind_call(
     rel: usize,
 ) -> bool
     requires { (rels ≤ 32) × (clauses ≤ 64) × Indexed image.now rels clauses ix.now }
-    ensures { result ≡ behindCall t waits (program_of image.now rels clauses) n z rel }
+    ensures { result ≡ behind_call t waits (program_of image.now rels clauses) n z rel }
 {
     if basics::or(
         t == codes::OR_SEARCH,
@@ -114,7 +114,7 @@ fn behind_literal(
     rel: usize,
 ) -> bool
     requires { (rels ≤ 32) × (clauses ≤ 64) × Indexed image.now rels clauses ix.now }
-    ensures { result ≡ behindLiteral t waits (program_of image.now rels clauses) n z rel }
+    ensures { result ≡ behind_literal t waits (program_of image.now rels clauses) n z rel }
 {
     if codes::GUARD_EVAL < t {
         return rel == codes::EQUALITY;
@@ -137,7 +137,7 @@ fn behind_goal(
     z: Spot,
 ) -> bool
     requires { (rels ≤ 32) × (clauses ≤ 64) × Indexed image.now rels clauses ix.now }
-    ensures { result ≡ behindGoal t waits (program_of image.now rels clauses) n z }
+    ensures { result ≡ behind_goal t waits (program_of image.now rels clauses) n z }
 {
     if t < codes::OR_PAR {
         let stages = program_goal::goal_size(image, rels, clauses, ix, z.kind, z.clause);
@@ -168,7 +168,7 @@ fn placed_ok(
     x: Process,
 ) -> bool
     requires { (rels ≤ 32) × (clauses ≤ 64) × Indexed image.now rels clauses ix.now }
-    ensures { result ≡ (placesOk (tag_of x.tag) (program_of image.now rels clauses) n x.spot && goingOk (tag_of x.tag) (program_of image.now rels clauses) n x) }
+    ensures { result ≡ (places_ok (tag_of x.tag) (program_of image.now rels clauses) n x.spot && going_ok (tag_of x.tag) (program_of image.now rels clauses) n x) }
 {
     if x.tag == codes::GUARD_EVAL {
         return clause_in(image, rels, clauses, ix, n, x.spot.found, x.spot.first);
@@ -209,8 +209,8 @@ fn kin_ok(
     i: usize,
     x: Process,
 ) -> bool
-    requires { (rels ≤ 32) × (clauses ≤ 64) × (count * rowSize ≤ length procs.now) × Indexed image.now rels clauses ix.now }
-    ensures { result ≡ kinOk (program_of image.now rels clauses) (procsOf procs.now count) i x }
+    requires { (rels ≤ 32) × (clauses ≤ 64) × (count * row_size ≤ length procs.now) × Indexed image.now rels clauses ix.now }
+    ensures { result ≡ kin_ok (program_of image.now rels clauses) (procs_of procs.now count) i x }
 {
     if i == 0 {
         let goal = program_goal::tag_of_goal(image, rels, clauses, ix, codes::THE_GOAL, 0);
@@ -229,7 +229,7 @@ fn kin_ok(
 
 // What a row says of itself: known numbers, a result, notes.
 fn own_ok(n: usize, i: usize, x: Process) -> bool
-    ensures { result ≡ (known x && (resultOk i x && notesOk n x)) }
+    ensures { result ≡ (known x && (result_ok i x && notes_ok n x)) }
 {
     let numbers = row_tests::known(x.tag, x.mode, x.result, x.spot.kind);
     let result = row_tests::result_ok(i, x.mode, x.result);
@@ -249,8 +249,8 @@ fn row_ok(
     n: usize,
     i: usize,
 ) -> bool
-    requires { (rels ≤ 32) × (clauses ≤ 64) × (count * rowSize ≤ length procs.now) × Indexed image.now rels clauses ix.now }
-    ensures { result ≡ rowOk (program_of image.now rels clauses) (procsOf procs.now count) n i }
+    requires { (rels ≤ 32) × (clauses ≤ 64) × (count * row_size ≤ length procs.now) × Indexed image.now rels clauses ix.now }
+    ensures { result ≡ row_ok (program_of image.now rels clauses) (procs_of procs.now count) n i }
 {
     let x = rows::get(procs, count, i);
     let own = own_ok(n, i, x);
@@ -276,8 +276,8 @@ fn rows_ok(
     count: usize,
     n: usize,
 ) -> bool
-    requires { (rels ≤ 32) × (clauses ≤ 64) × (count * rowSize ≤ length procs.now) × Indexed image.now rels clauses ix.now }
-    ensures { result ≡ every (rowOk (program_of image.now rels clauses) (procsOf procs.now count) n) count }
+    requires { (rels ≤ 32) × (clauses ≤ 64) × (count * row_size ≤ length procs.now) × Indexed image.now rels clauses ix.now }
+    ensures { result ≡ every (row_ok (program_of image.now rels clauses) (procs_of procs.now count) n) count }
 {
     let mut q = count;
     while 0 < q {
@@ -292,8 +292,8 @@ fn rows_ok(
 
 // The row of variable v of the first n.
 fn cell_ok(vars: &[u8], n: usize, v: usize) -> bool
-    requires { (n * cellSize ≤ length vars.now) × (v < n) }
-    ensures { result ≡ cellOk vars.now n v }
+    requires { (n * cell_size ≤ length vars.now) × (v < n) }
+    ensures { result ≡ cell_ok vars.now n v }
 {
     let b = v * codes::CELL_SIZE;
     let number = basics::wide_u32(vars::join(vars[b + 1], vars[b + 2], vars[b + 3]));
@@ -302,8 +302,8 @@ fn cell_ok(vars: &[u8], n: usize, v: usize) -> bool
 
 // Each of the first n rows of variables.
 fn cells_ok(vars: &[u8], n: usize) -> bool
-    requires { n * cellSize ≤ length vars.now }
-    ensures { result ≡ (every (cellKnown vars.now) n && every (varOk (varsIn vars.now n)) n) }
+    requires { n * cell_size ≤ length vars.now }
+    ensures { result ≡ (every (cell_known vars.now) n && every (var_ok (vars_in vars.now n)) n) }
 {
     let mut q = n;
     while 0 < q {
@@ -319,7 +319,7 @@ fn cells_ok(vars: &[u8], n: usize) -> bool
 // Each lent row of bytes has its full size.
 pub fn full_size(head: &[u8], procs: &[u8], vars: &[u8], most: usize, cap: usize) -> bool
     requires { (most ≤ 65535) × (cap ≤ 65535) }
-    ensures { result ≡ fullSize (record { procs = most; vars = cap }) (lent head.now procs.entry.now vars.now) }
+    ensures { result ≡ full_size (record { procs = most; vars = cap }) (lent head.now procs.entry.now vars.now) }
 {
     let tables = basics::and(
         procs.len() == most * codes::ROW_SIZE,
@@ -341,7 +341,7 @@ pub fn lent_ok(
     cap: usize,
 ) -> bool
     requires { (rels ≤ 32) × (clauses ≤ 64) × (most ≤ 65535) × (cap ≤ 65535) × Indexed image.now rels clauses ix.now }
-    ensures { result ≡ lentOk (record { procs = most; vars = cap }) (program_of image.now rels clauses) (lent head.now procs.entry.now vars.now) }
+    ensures { result ≡ lent_ok (record { procs = most; vars = cap }) (program_of image.now rels clauses) (lent head.now procs.entry.now vars.now) }
 {
     let full = full_size(head, procs, vars, most, cap);
     if !full {

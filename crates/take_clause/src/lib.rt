@@ -5,13 +5,13 @@ ghost use Rattle.lay_text.specs.Laying.{Writes};
 ghost use Rattle.mode_table.specs.Moded.{Moded};
 ghost use Rattle.name_index.specs.Index.{Indexed};
 ghost use Rattle.read_clause.specs.Parts.{part_of};
-ghost use Rattle.read_names.specs.Tables.{Finds, modesFrom};
-ghost use Rattle.take_clause.specs.TakesClause.{askFront, clauseFront, frontBytes, saidAt, starting, takenAs, TakesAsk, TakesClause, TakesParts};
+ghost use Rattle.read_names.specs.Tables.{Finds, modes_from};
+ghost use Rattle.take_clause.specs.TakesClause.{ask_front, clause_front, front_bytes, said_at, starting, taken_as, TakesAsk, TakesClause, TakesParts};
 ghost use Rattle.take_goal.specs.TakesGoal.{TakesGoal};
 ghost use Rattle.take_term.specs.Takes.{Ready, rows, stands};
 ghost use Rattle.text_names.specs.Bytes.{front};
-ghost use Rattle.text_program.specs.Numbered.{markBy};
-ghost use Rattle.text_program.specs.Source.{read_body, readClause};
+ghost use Rattle.text_program.specs.Numbered.{mark_by};
+ghost use Rattle.text_program.specs.Source.{read_body, read_clause};
 
 use lay_text::To;
 use mode_table::Lines;
@@ -85,7 +85,7 @@ fn behind(w: Reading, at: usize) -> Reading
 
 // How long a record is, and its kind.
 fn front_of(out: &mut [u8], at: usize, size: usize, kind: usize) -> To
-    ensures { Writes out.old (record { at = at; named = true }) (lows (frontBytes size kind)) true out.new result }
+    ensures { Writes out.old (record { at = at; named = true }) (lows (front_bytes size kind)) true out.new result }
 {
     let to = To {
         at: at,
@@ -97,7 +97,7 @@ fn front_of(out: &mut [u8], at: usize, size: usize, kind: usize) -> To
 
 // The mark of a clause that opens a block.
 fn mark_of(opens: bool) -> usize
-    ensures { result ≡ markBy opens }
+    ensures { result ≡ mark_by opens }
 {
     if opens { 1 } else { 0 }
 }
@@ -112,7 +112,7 @@ fn clause_front(
     opens: bool,
     vars: usize,
 ) -> To
-    ensures { Writes out.old (record { at = at; named = true }) (lows (clauseFront size number arity opens vars)) true out.new result }
+    ensures { Writes out.old (record { at = at; named = true }) (lows (clause_front size number arity opens vars)) true out.new result }
 {
     let a = front_of(out, at, size, codes::CLAUSE_KIND);
     let b = lay_literal::number(out, a, number);
@@ -123,7 +123,7 @@ fn clause_front(
 
 // What stands in the goal's record before its stages.
 fn ask_front(out: &mut [u8], at: usize, size: usize, vars: usize) -> To
-    ensures { Writes out.old (record { at = at; named = true }) (lows (askFront size vars)) true out.new result }
+    ensures { Writes out.old (record { at = at; named = true }) (lows (ask_front size vars)) true out.new result }
 {
     let a = front_of(out, at, size, codes::GOAL_KIND);
     lay_literal::number(out, a, vars)
@@ -146,7 +146,7 @@ fn part(
     how: usize,
 ) -> Reading
     requires { Ready s.now (rows out.old consts.old links.old vars.old) w × Moded s.now rels.now arities.now chains.now lines }
-    ensures { TakesGoal s.now (modesFrom s.now lines.from) (rows out.old consts.old links.old vars.old) w (part_of how (drop w.end s.now)) (rows out.new consts.new links.new vars.new) result }
+    ensures { TakesGoal s.now (modes_from s.now lines.from) (rows out.old consts.old links.old vars.old) w (part_of how (drop w.end s.now)) (rows out.new consts.new links.new vars.new) result }
 {
     if how == NO_GOAL {
         let to = To {
@@ -177,7 +177,7 @@ fn parts(
     c: ClauseAt,
 ) -> Reading
     requires { Ready s.now (rows out.old consts.old links.old vars.old) w × Moded s.now rels.now arities.now chains.now m × (w.end ≡ c.terms) × (c.guard ≤ length s.now) × (c.body ≤ length s.now) }
-    ensures { TakesParts s.now (modesFrom s.now m.from) (rows out.old consts.old links.old vars.old) w (saidAt s.now c) (rows out.new consts.new links.new vars.new) result }
+    ensures { TakesParts s.now (modes_from s.now m.from) (rows out.old consts.old links.old vars.old) w (said_at s.now c) (rows out.new consts.new links.new vars.new) result }
 {
     let a = take_term::terms(s, out, consts, links, vars, w);
     let b = take_term::move_to(a, c.guard, 0);
@@ -200,7 +200,7 @@ fn relation_at(
     from: usize,
 ) -> Entry
     requires { (from ≤ length s.now) × Moded s.now rels.now arities.now chains.now lines }
-    ensures { Finds (modesFrom s.now lines.from) (front (drop from s.now)) result }
+    ensures { Finds (modes_from s.now lines.from) (front (drop from s.now)) result }
 {
     let word = name_index::name_at(s, from);
     mode_table::relation(s, rels, arities, chains, lines, from, word.chain)
@@ -208,7 +208,7 @@ fn relation_at(
 
 // What was taken; it is right only with at most 16 variables.
 fn told(end: usize, number: usize, semicolon: bool, right: bool, x: Reading) -> Taken
-    ensures { result ≡ takenAs end number semicolon right x }
+    ensures { result ≡ taken_as end number semicolon right x }
 {
     Taken {
         end: end,
@@ -238,7 +238,7 @@ pub fn clause(
     opens: bool,
 ) -> Taken
     requires { (from ≤ length s.now) × (at ≤ 65536) × Indexed s.now consts.old links.old n × Moded s.now rels.now arities.now chains.now lines }
-    ensures { TakesClause s.now (modesFrom s.now lines.from) out.old consts.old at n opens (readClause (drop from s.now)) out.new consts.new links.new result }
+    ensures { TakesClause s.now (modes_from s.now lines.from) out.old consts.old at n opens (read_clause (drop from s.now)) out.new consts.new links.new result }
 {
     let c = read_clause::clause(s, from);
     let head = relation_at(s, rels, arities, chains, lines, from);
@@ -267,7 +267,7 @@ pub fn ask(
     n: usize,
 ) -> Taken
     requires { (from ≤ length s.now) × (at ≤ 65536) × Indexed s.now consts.old links.old n × Moded s.now rels.now arities.now chains.now lines }
-    ensures { TakesAsk s.now (modesFrom s.now lines.from) out.old consts.old at n (read_body (drop from s.now)) out.new consts.new links.new result }
+    ensures { TakesAsk s.now (modes_from s.now lines.from) out.old consts.old at n (read_body (drop from s.now)) out.new consts.new links.new result }
 {
     let body = read_goal::body(s, from);
     let mut vars = [0; VARIABLES];

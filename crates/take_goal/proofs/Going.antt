@@ -12,12 +12,12 @@ use Rattle.take_term.specs.Takes.{moved, Ready, Rows, Takes}
 use Rattle.take_term.specs.declared.Reading.{Reading}
 use Rattle.text_names.specs.Bytes.{next}
 use Rattle.text_names.specs.Names.{Name}
-use Rattle.text_program.specs.Source.{got, Reader, row, rowFor}
+use Rattle.text_program.specs.Source.{got, Reader, row, row_for}
 
 module _ {A : Type 0} (read : Reader A) (mark : ℕ) (names : A → List Name) (bytes : List Name → List Name → A → List ℕ) (right known : A → Bool) (s : List ℕ) (a : Rows) (w : Reading) where
   -- n items of the row are taken, and not more than `left` are to come
   abbrev pub Going : Rows → Reading → ℕ → ℕ → Type 0
-  Going b x n left = TakesRow names bytes right known s a w (row read mark (drop w.end s)) b x n (rowFor left read mark (drop x.end s))
+  Going b x n left = TakesRow names bytes right known s a w (row read mark (drop w.end s)) b x n (row_for left read mark (drop x.end s))
 
   -- a row begins
   pub going_start : (left : ℕ) → left ≡ length s - w.end → Ready s a w → length a.out ≤ most → w.at ≤ most → Going a w 0 left
@@ -31,7 +31,7 @@ module _ {A : Type 0} (read : Reader A) (mark : ℕ) (names : A → List Name) (
       pub going_on : {z : Reading} (f k : ℕ) → byte ≡ mark → drop f s ≡ next (drop y.end s) → f ≤ length s → z ≡ moved y f k → Going c z (n + 1) (left - 1)
       going_on f k e g h v =
           rw v
-          (takes-row-on names bytes right known here (read (drop x.end s)).value (rowFor (left - 1) read mark (drop f s)) f k
+          (takes-row-on names bytes right known here (read (drop x.end s)).value (row_for (left - 1) read mark (drop f s)) f k
           (row_more read mark s left x.end y.end byte item.end is f more e g) item refl h)
 
       -- the last item

@@ -1,15 +1,15 @@
 -- The steps of a taking: a number laid, and items taken one behind the other.
 use Rattle.std.specs.Prelude.{Bool, false, true, [], ◌∷◌, List, map, ◌≡◌, ◌+◌, ◌≤◌, ℕ, length}
 use Rattle.lay.specs.Lay.{laid}
-use Rattle.lay_literal.specs.Fits.{stageFits}
-use Rattle.lay_literal.specs.Lows.{literalFits, lows}
+use Rattle.lay_literal.specs.Fits.{stage_fits}
+use Rattle.lay_literal.specs.Lows.{literal_fits, lows}
 use Rattle.lay_text.specs.Laying.{capped, most}
-use Rattle.read_names.specs.Tables.{modeNames}
-use Rattle.take_term.specs.Takes.{numbersBy, Rows, stands, Takes}
+use Rattle.read_names.specs.Tables.{mode_names}
+use Rattle.take_term.specs.Takes.{numbers_by, Rows, stands, Takes}
 use Rattle.take_term.specs.declared.Reading.{Reading}
 use Rattle.text_names.specs.Names.{Name}
-use Rattle.text_program.specs.Encoded.{literalBytes, stageBytes}
-use Rattle.text_program.specs.Numbered.{joined, literalNumbered, saidTerms}
+use Rattle.text_program.specs.Encoded.{literal_bytes, stage_bytes}
+use Rattle.text_program.specs.Numbered.{joined, literal_numbered, said_terms}
 use Rattle.text_program.specs.Parsing.{all_of}
 use Rattle.text_program.specs.Source.{Got, ModeLine, Said}
 
@@ -26,17 +26,17 @@ TakesItems names bytes right known s a w g b x =
     Takes s a w g.rest (length g.value) (joined names g.value) (λ cs vs. joined (bytes cs vs) g.value) (all_of right g.value) (all_of known g.value) b x
 
 -- the bytes of a literal, by the names of the constants and of the variables
-abbrev pub literalIn : List ModeLine → List Name → List Name → Said → List ℕ
-literalIn ms cs vs l = literalBytes (literalNumbered (numbersBy (modeNames ms) cs vs) l)
+abbrev pub literal_in : List ModeLine → List Name → List Name → Said → List ℕ
+literal_in ms cs vs l = literal_bytes (literal_numbered (numbers_by (mode_names ms) cs vs) l)
 
 -- and of a stage
-abbrev pub stageIn : List ModeLine → List Name → List Name → List Said → List ℕ
-stageIn ms cs vs st = stageBytes (map (literalNumbered (numbersBy (modeNames ms) cs vs)) st)
+abbrev pub stage_in : List ModeLine → List Name → List Name → List Said → List ℕ
+stage_in ms cs vs st = stage_bytes (map (literal_numbered (numbers_by (mode_names ms) cs vs)) st)
 
 -- the literals of a stage
 abbrev pub TakesLiterals : List ℕ → List ModeLine → Rows → Reading → Got (List Said) → Rows → Reading → Type 0
-TakesLiterals s ms a w g b x = TakesItems saidTerms (literalIn ms) (literalFits true ms) (literalFits false ms) s a w g b x
+TakesLiterals s ms a w g b x = TakesItems said_terms (literal_in ms) (literal_fits true ms) (literal_fits false ms) s a w g b x
 
 -- the stages of a goal
 abbrev pub TakesStages : List ℕ → List ModeLine → Rows → Reading → Got (List (List Said)) → Rows → Reading → Type 0
-TakesStages s ms a w g b x = TakesItems (joined saidTerms) (stageIn ms) (stageFits true ms) (stageFits false ms) s a w g b x
+TakesStages s ms a w g b x = TakesItems (joined said_terms) (stage_in ms) (stage_fits true ms) (stage_fits false ms) s a w g b x

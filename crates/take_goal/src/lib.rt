@@ -3,13 +3,13 @@ ghost use Rattle.std.specs.Prelude.{false, true, [], ◌∷◌, ◌≡◌, ◌�
 ghost use Rattle.lay.specs.Lay.{laid};
 ghost use Rattle.lay_literal.specs.Lows.{lows};
 ghost use Rattle.mode_table.specs.Moded.{Moded};
-ghost use Rattle.name_index.specs.Index.{chainOf};
-ghost use Rattle.read_names.specs.Tables.{modesFrom};
+ghost use Rattle.name_index.specs.Index.{chain_of};
+ghost use Rattle.read_names.specs.Tables.{modes_from};
 ghost use Rattle.take_goal.specs.TakesGoal.{TakesEquality, TakesGoal, TakesLiteral, TakesStage};
 ghost use Rattle.take_goal.specs.Turns.{Puts, TakesLiterals, TakesStages};
 ghost use Rattle.take_term.specs.Takes.{Ready, rows};
 ghost use Rattle.text_names.specs.Bytes.{front, past};
-ghost use Rattle.text_program.specs.Source.{literalBy, read_body, readGoal, readLiteral, row};
+ghost use Rattle.text_program.specs.Source.{literal_by, read_body, read_goal, read_literal, row};
 
 use lay_text::To;
 use mode_table::Lines;
@@ -64,7 +64,7 @@ fn equality(
     w: Reading,
 ) -> Reading
     requires { Ready s.now (rows out.old consts.old links.old vars.old) w }
-    ensures { TakesEquality s.now (rows out.old consts.old links.old vars.old) w (literalBy true (drop w.end s.now)) (rows out.new consts.new links.new vars.new) result }
+    ensures { TakesEquality s.now (rows out.old consts.old links.old vars.old) w (literal_by true (drop w.end s.now)) (rows out.new consts.new links.new vars.new) result }
 {
     let a = number(out, w, codes::EQUALITY);
     let b = number(out, a, EQUAL_TERMS);
@@ -89,8 +89,8 @@ fn call(
     behind: usize,
     chain: usize,
 ) -> Reading
-    requires { Ready s.now (rows out.old consts.old links.old vars.old) w × Moded s.now rels.now arities.now chains.now lines × (drop behind s.now ≡ past (drop w.end s.now)) × (behind ≤ length s.now) × (chain ≡ chainOf (front (drop w.end s.now))) }
-    ensures { TakesLiteral s.now (modesFrom s.now lines.from) (rows out.old consts.old links.old vars.old) w (literalBy false (drop w.end s.now)) (rows out.new consts.new links.new vars.new) result }
+    requires { Ready s.now (rows out.old consts.old links.old vars.old) w × Moded s.now rels.now arities.now chains.now lines × (drop behind s.now ≡ past (drop w.end s.now)) × (behind ≤ length s.now) × (chain ≡ chain_of (front (drop w.end s.now))) }
+    ensures { TakesLiteral s.now (modes_from s.now lines.from) (rows out.old consts.old links.old vars.old) w (literal_by false (drop w.end s.now)) (rows out.new consts.new links.new vars.new) result }
 {
     let entry = mode_table::relation(s, rels, arities, chains, lines, w.end, chain);
     let a = number(out, w, entry.number);
@@ -123,7 +123,7 @@ fn literal(
     w: Reading,
 ) -> Reading
     requires { Ready s.now (rows out.old consts.old links.old vars.old) w × Moded s.now rels.now arities.now chains.now lines }
-    ensures { TakesLiteral s.now (modesFrom s.now lines.from) (rows out.old consts.old links.old vars.old) w (readLiteral (drop w.end s.now)) (rows out.new consts.new links.new vars.new) result }
+    ensures { TakesLiteral s.now (modes_from s.now lines.from) (rows out.old consts.old links.old vars.old) w (read_literal (drop w.end s.now)) (rows out.new consts.new links.new vars.new) result }
 {
     let word = name_index::name_at(s, w.end);
     let behind = text_names::skip_blanks(s, word.end);
@@ -151,7 +151,7 @@ fn literals(
     w: Reading,
 ) -> Reading
     requires { Ready s.now (rows out.old consts.old links.old vars.old) w × Moded s.now rels.now arities.now chains.now lines }
-    ensures { TakesLiterals s.now (modesFrom s.now lines.from) (rows out.old consts.old links.old vars.old) w (row readLiteral 44 (drop w.end s.now)) (rows out.new consts.new links.new vars.new) result }
+    ensures { TakesLiterals s.now (modes_from s.now lines.from) (rows out.old consts.old links.old vars.old) w (row read_literal 44 (drop w.end s.now)) (rows out.new consts.new links.new vars.new) result }
 {
     let mut x = w;
     let mut n = 0;
@@ -182,7 +182,7 @@ fn stage(
     w: Reading,
 ) -> Reading
     requires { Ready s.now (rows out.old consts.old links.old vars.old) w × Moded s.now rels.now arities.now chains.now lines }
-    ensures { TakesStage s.now (modesFrom s.now lines.from) (rows out.old consts.old links.old vars.old) w (row readLiteral 44 (drop w.end s.now)) (rows out.new consts.new links.new vars.new) result }
+    ensures { TakesStage s.now (modes_from s.now lines.from) (rows out.old consts.old links.old vars.old) w (row read_literal 44 (drop w.end s.now)) (rows out.new consts.new links.new vars.new) result }
 {
     let a = number(out, w, 0);
     let b = literals(s, rels, arities, chains, lines, out, consts, links, vars, a);
@@ -204,7 +204,7 @@ fn stages(
     w: Reading,
 ) -> Reading
     requires { Ready s.now (rows out.old consts.old links.old vars.old) w × Moded s.now rels.now arities.now chains.now lines }
-    ensures { TakesStages s.now (modesFrom s.now lines.from) (rows out.old consts.old links.old vars.old) w (row (row readLiteral 44) 38 (drop w.end s.now)) (rows out.new consts.new links.new vars.new) result }
+    ensures { TakesStages s.now (modes_from s.now lines.from) (rows out.old consts.old links.old vars.old) w (row (row read_literal 44) 38 (drop w.end s.now)) (rows out.new consts.new links.new vars.new) result }
 {
     let mut x = w;
     let mut n = 0;
@@ -235,7 +235,7 @@ pub fn goal(
     w: Reading,
 ) -> Reading
     requires { Ready s.now (rows out.old consts.old links.old vars.old) w × Moded s.now rels.now arities.now chains.now lines }
-    ensures { TakesGoal s.now (modesFrom s.now lines.from) (rows out.old consts.old links.old vars.old) w (readGoal (drop w.end s.now)) (rows out.new consts.new links.new vars.new) result }
+    ensures { TakesGoal s.now (modes_from s.now lines.from) (rows out.old consts.old links.old vars.old) w (read_goal (drop w.end s.now)) (rows out.new consts.new links.new vars.new) result }
 {
     let a = number(out, w, 0);
     let b = stages(s, rels, arities, chains, lines, out, consts, links, vars, a);
@@ -257,7 +257,7 @@ pub fn body(
     w: Reading,
 ) -> Reading
     requires { Ready s.now (rows out.old consts.old links.old vars.old) w × Moded s.now rels.now arities.now chains.now lines }
-    ensures { TakesGoal s.now (modesFrom s.now lines.from) (rows out.old consts.old links.old vars.old) w (read_body (drop w.end s.now)) (rows out.new consts.new links.new vars.new) result }
+    ensures { TakesGoal s.now (modes_from s.now lines.from) (rows out.old consts.old links.old vars.old) w (read_body (drop w.end s.now)) (rows out.new consts.new links.new vars.new) result }
 {
     let mark = place::byte_at(s, w.end);
     if basics::or(mark == read_goal::DOT, mark == read_goal::SEMICOLON) {

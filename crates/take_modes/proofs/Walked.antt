@@ -9,22 +9,22 @@ use lib.Seq.{get_or-append_seam, take_all, take-suc-set}
 use borrow.Author.Tests.{eq-eqb, le-ltb, leb-false, leb-true, ne_eqb}
 use native.Mathlib.Omega.{arith}
 use native.Mathlib.Numerals.{add-one}
-use Rattle.judge_image.specs.Judged.{relationJudged, relationsJudged}
-use Rattle.judge_lines.proofs.Judging.{inGoes, never}
+use Rattle.judge_image.specs.Judged.{relation_judged, relations_judged}
+use Rattle.judge_lines.proofs.Judging.{in_goes, never}
 use Rattle.judge_lines.proofs.Moded.{line-sized, mode-length, mode-tested, modes-end, modes-on, modes-stop}
 use Rattle.judge_lines.specs.Whole.{Opening}
 use Rattle.judge_text.specs.Tests.{tested}
 use Rattle.lay.proofs.Laws.{laid-length, laid_then}
 use Rattle.lay.specs.Lay.{laid}
-use Rattle.lay_lines.specs.Lines.{modesOf}
+use Rattle.lay_lines.specs.Lines.{modes_of}
 use Rattle.lay_literal.proofs.Laid.{lows-append}
 use Rattle.lay_literal.specs.Lows.{lows}
 use Rattle.lay_text.proofs.Laws.{writes-both}
 use Rattle.lay_text.specs.Laying.{Writes}
 use Rattle.lay_text.specs.declared.To.{To}
-use Rattle.name_index.specs.Index.{AddsOne, chainOf, Indexed}
+use Rattle.name_index.specs.Index.{AddsOne, chain_of, Indexed}
 use Rattle.name_index.specs.declared.Added.{Added}
-use Rattle.parlog.specs.Load.{nothingRead, refusal}
+use Rattle.parlog.specs.Load.{nothing_read, refusal}
 use Rattle.parlog.specs.declared.Loaded.{Loaded}
 use Rattle.parlog.specs.declared.Loaded.TheVariants.{Refused}
 use Rattle.parlog.specs.declared.Progress.{Progress}
@@ -33,9 +33,9 @@ use Rattle.parlog.specs.declared.Verdict.TheVariants.{Goes, Refuses}
 use Rattle.read_goal.specs.Spans.{Spans}
 use Rattle.read_goal.specs.declared.Span.{Span}
 use Rattle.read_names.proofs.Short.{line-behind, lines_more}
-use Rattle.read_names.proofs.Tabled.{names-fit}
-use Rattle.read_names.specs.Tables.{modeNames, modesFrom, names_at}
-use Rattle.take_modes.specs.TakesModes.{EntersLine, modesFront, oneMore, ReadsLine, saidBy, TakesModes, toldBy}
+use Rattle.read_names.proofs.Tabled.{names_fit}
+use Rattle.read_names.specs.Tables.{mode_names, modes_from, names_at}
+use Rattle.take_modes.specs.TakesModes.{EntersLine, modes_front, one_more, ReadsLine, said_by, TakesModes, told_by}
 use Rattle.take_modes.specs.declared.Line.{Line}
 use Rattle.take_modes.specs.declared.Modes.{Modes}
 use Rattle.take_term.proofs.Laws.{laid-under, lows-length}
@@ -44,35 +44,35 @@ use Rattle.text_names.proofs.Rest.{first-at}
 use Rattle.text_names.specs.Bytes.{front, next, past}
 use Rattle.text_names.specs.Names.{add, adds, look, Name}
 use Rattle.text_program.proofs.Joined.{joined-append}
-use Rattle.text_program.specs.Encoded.{recordBytes, relationBytes, word_bytes}
+use Rattle.text_program.specs.Encoded.{record_bytes, relation_bytes, word_bytes}
 use Rattle.text_program.specs.Numbered.{joined}
-use Rattle.text_program.specs.Source.{consGot, Got, got, isModeLine, lines, ModeLine, readBrackets, readMode, readModeLine, row}
+use Rattle.text_program.specs.Source.{cons_got, Got, got, is_mode_line, lines, ModeLine, read_brackets, read_mode, read_mode_line, row}
 
 -- ---- bytes
 
 pub begin-bytes : {o o1 o2 o3 : List ℕ} {w w1 w2 w3 : To} (count : ℕ) → Writes o w (lows (word_bytes (5 + count))) true o1 w1 → Writes o1 w1 (lows (word_bytes 1)) true o2 w2 → Writes o2 w2 (lows (count ∷ [])) true o3 w3 →
-    o3 ≡ laid o w.at (lows (modesFront count))
+    o3 ≡ laid o w.at (lows (modes_front count))
 begin-bytes {w = w} count a b d =
     rw (lows-append (word_bytes (5 + count)) (word_bytes 1 ++ (count ∷ [])), lows-append (word_bytes 1) (count ∷ [])) (writes-both a (writes-both b d)).row
 
 -- the record of a mode line, its modes laid first
-line-bytes : (o q z : List ℕ) (at count : ℕ) (ms : List ℕ) → count ≡ length ms → q ≡ laid o (at + 5) (lows ms) → z ≡ laid q at (lows (modesFront count)) → z ≡ laid o at (lows (relationBytes ms))
-unfolding relationBytes recordBytes
+line-bytes : (o q z : List ℕ) (at count : ℕ) (ms : List ℕ) → count ≡ length ms → q ≡ laid o (at + 5) (lows ms) → z ≡ laid q at (lows (modes_front count)) → z ≡ laid o at (lows (relation_bytes ms))
+unfolding relation_bytes record_bytes
 line-bytes o q z at count ms c e f =
-    let k : modesFront count ++ ms ≡ word_bytes (5 + length ms) ++ (word_bytes 1 ++ (length ms ∷ ms)) = rw c refl in
+    let k : modes_front count ++ ms ≡ word_bytes (5 + length ms) ++ (word_bytes 1 ++ (length ms ∷ ms)) = rw c refl in
     let n : 4 + length (length ms ∷ ms) ≡ 5 + length ms = omega arith in
-    let d : q ≡ laid o (at + length (lows (modesFront count))) (lows ms) = e ∙ ap (λ (i : ℕ). laid o (at + i) (lows ms)) (sym (lows-length (modesFront count))) in
-    f ∙ rw (d, n, ← k, lows-append (modesFront count) ms) (laid-under (lows (modesFront count)) (lows ms) o at)
+    let d : q ≡ laid o (at + length (lows (modes_front count))) (lows ms) = e ∙ ap (λ (i : ℕ). laid o (at + i) (lows ms)) (sym (lows-length (modes_front count))) in
+    f ∙ rw (d, n, ← k, lows-append (modes_front count) ms) (laid-under (lows (modes_front count)) (lows ms) o at)
 
 -- ---- brackets
 
 module _ (s : List ℕ) (at b : ℕ) (is : b ≡ get_or s at 0) where
-  pub brackets-none : (o : List ℕ) (to : ℕ) → (b ≡ 40 → ⊥) → o ≡ laid o to (lows (readBrackets readMode (drop at s)).value)
-  unfolding readBrackets lows laid
+  pub brackets-none : (o : List ℕ) (to : ℕ) → (b ≡ 40 → ⊥) → o ≡ laid o to (lows (read_brackets read_mode (drop at s)).value)
+  unfolding read_brackets lows laid
   brackets-none o to h = rw (first-at s at, ← is, ne_eqb b 40 h)
 
-  pub brackets-some : (o p : List ℕ) (to from : ℕ) → b ≡ 40 → drop from s ≡ next (drop at s) → p ≡ laid o to (lows (row readMode 44 (drop from s)).value) → p ≡ laid o to (lows (readBrackets readMode (drop at s)).value)
-  unfolding readBrackets
+  pub brackets-some : (o p : List ℕ) (to from : ℕ) → b ≡ 40 → drop from s ≡ next (drop at s) → p ≡ laid o to (lows (row read_mode 44 (drop from s)).value) → p ≡ laid o to (lows (read_brackets read_mode (drop at s)).value)
+  unfolding read_brackets
   brackets-some o p to from h e v = rw (first-at s at, ← is, eq-eqb b 40 h, ← e) v
 
 -- ---- a new name
@@ -81,19 +81,19 @@ module _ (s t l : List ℕ) (n : ℕ) (x : Name) {u k : List ℕ} {r : Added} (r
   new-names : names_at s (take r.count u) ≡ names_at s (take n t) ++ (x ∷ [])
   unfolding adds add
   new-names =
-      let f = names-fit s t n (omega arith) in
+      let f = names_fit s t n (omega arith) in
       let a = length-append (names_at s (take n t)) (x ∷ []) in
       one.adds.names ∙ rw (le-ltb (look (names_at s (take n t)) x) (length (names_at s (take n t))) (omega arith)) (take_all (length t) (names_at s (take n t) ++ (x ∷ [])) (omega arith))
 
   new-count : r.count ≡ n + 1
   new-count =
-      let f = names-fit s t n (omega arith) in
+      let f = names_fit s t n (omega arith) in
       let a = length-append (names_at s (take n t)) (x ∷ []) in
-      let g = names-fit s u r.count one.adds.inside in
+      let g = names_fit s u r.count one.adds.inside in
       let h = ap length new-names in
       omega arith
 
-  pub enter-line : {o a q b : List ℕ} (at count : ℕ) → b ≡ set a n count → q ≡ laid o at (lows (modesFront count)) → EntersLine s x count o t a n at q u b k
+  pub enter-line : {o a q b : List ℕ} (at count : ℕ) → b ≡ set a n count → q ≡ laid o at (lows (modes_front count)) → EntersLine s x count o t a n at q u b k
   enter-line at count e f =
       record {
         names = rw (← new-count) new-names;
@@ -105,12 +105,12 @@ module _ (s t l : List ℕ) (n : ℕ) (x : Name) {u k : List ℕ} {r : Added} (r
 
 -- ---- one line
 
-pub reads-line : {o q : List ℕ} (s : List ℕ) (p at name chain from end : ℕ) (t : Span) → drop name s ≡ past (drop p s) → name ≤ length s → chain ≡ chainOf (front (drop name s)) → drop from s ≡ past (drop name s) →
-    Spans s (readBrackets readMode (drop from s)).rest (length (readBrackets readMode (drop from s)).value) true t → drop end s ≡ next (drop t.end s) → end ≤ length s →
-    q ≡ laid o (at + 5) (lows (readBrackets readMode (drop from s)).value) → ReadsLine s p o at q (record { name = name; chain = chain; end = end; count = t.count })
-unfolding readModeLine
+pub reads-line : {o q : List ℕ} (s : List ℕ) (p at name chain from end : ℕ) (t : Span) → drop name s ≡ past (drop p s) → name ≤ length s → chain ≡ chain_of (front (drop name s)) → drop from s ≡ past (drop name s) →
+    Spans s (read_brackets read_mode (drop from s)).rest (length (read_brackets read_mode (drop from s)).value) true t → drop end s ≡ next (drop t.end s) → end ≤ length s →
+    q ≡ laid o (at + 5) (lows (read_brackets read_mode (drop from s)).value) → ReadsLine s p o at q (record { name = name; chain = chain; end = end; count = t.count })
+unfolding read_mode_line
 reads-line {o} s p at name chain from end t after inside is opens v ends behind b =
-    let e : readBrackets readMode (drop from s) ≡ readBrackets readMode (past (past (drop p s))) = ap (readBrackets readMode) (opens ∙ ap past after) in
+    let e : read_brackets read_mode (drop from s) ≡ read_brackets read_mode (past (past (drop p s))) = ap (read_brackets read_mode) (opens ∙ ap past after) in
     record {
       name = ap front after;
       inside = inside;
@@ -123,9 +123,9 @@ reads-line {o} s p at name chain from end t after inside is opens v ends behind 
 
 -- ---- tests
 
-abbrev inRefuses : Verdict → ℕ
-inRefuses (Refuses k) = k
-inRefuses (Goes k) = 7
+abbrev in_refuses : Verdict → ℕ
+in_refuses (Refuses k) = k
+in_refuses (Goes k) = 7
 
 -- what a line that goes on has passed
 record Passes (many fits known : Bool) (h g : Progress) : Type 0 where
@@ -139,17 +139,17 @@ unfolding tested
 tested-goes true right known h g e = never 6 g e
 tested-goes false false known h g e = never 4 g e
 tested-goes false true false h g e = never 5 g e
-tested-goes false true true h g e = record { few = refl; right = refl; fresh = refl; goes = sym (ap (inGoes g) e) }
+tested-goes false true true h g e = record { few = refl; right = refl; fresh = refl; goes = sym (ap (in_goes g) e) }
 
 -- a refusal has a number
 tested-refuses : (many right known : Bool) (h : Progress) (n : ℕ) → tested many right known false h ≡ Refuses n → 0 < n
 unfolding tested
-tested-refuses true right known h n e = let z = ap inRefuses e in omega arith
-tested-refuses false false known h n e = let z = ap inRefuses e in omega arith
-tested-refuses false true false h n e = let z = ap inRefuses e in omega arith
+tested-refuses true right known h n e = let z = ap in_refuses e in omega arith
+tested-refuses false false known h n e = let z = ap in_refuses e in omega arith
+tested-refuses false true false h n e = let z = ap in_refuses e in omega arith
 tested-refuses false true true h n e = never n h (sym e)
 
-refused-with : (n at : ℕ) (next : Loaded) → 0 < n → Refused (refusal n at) ≡ saidBy n at next
+refused-with : (n at : ℕ) (next : Loaded) → 0 < n → Refused (refusal n at) ≡ said_by n at next
 refused-with zero at next h = absurd (omega arith)
 refused-with (suc n) at next h = refl
 
@@ -158,8 +158,8 @@ refused-with (suc n) at next h = refl
 -- the first mode lines of a text, each of another name, are in tables; the others stand behind them
 pub record Partly (s t a l : List ℕ) (m n p : ℕ) : Type 0 where
   pub lines : List ModeLine
-  pub whole : modesFrom s m ≡ lines ++ modesFrom s p
-  pub names : modeNames lines ≡ names_at s (take n t)
+  pub whole : modes_from s m ≡ lines ++ modes_from s p
+  pub names : mode_names lines ≡ names_at s (take n t)
   pub arities : map (λ (m : ModeLine). length m.modes) lines ≡ take n a
   pub index : Indexed s t l n
   pub size : length a ≡ length t
@@ -168,16 +168,16 @@ pub record Partly (s t a l : List ℕ) (m n p : ℕ) : Type 0 where
 -- what is known before a turn
 pub record ModesLeft (s : List ℕ) (m : ℕ) (o q t a l : List ℕ) (p at : ℕ) (g : Progress) (left : ℕ) : Type 0 where
   pub moded : Partly s t a l m g.relations p
-  pub said : (next : ℕ → Progress → Loaded) → relationsJudged (modeNames (modesFrom s m)) next (modesOf (modesFrom s p)) at g ≡ relationsJudged (modeNames (modesFrom s m)) next (modesOf (modesFrom s m)) 0 nothingRead
-  pub rest : (lines isModeLine readModeLine (drop p s)).rest ≡ (lines isModeLine readModeLine (drop m s)).rest
+  pub said : (next : ℕ → Progress → Loaded) → relations_judged (mode_names (modes_from s m)) next (modes_of (modes_from s p)) at g ≡ relations_judged (mode_names (modes_from s m)) next (modes_of (modes_from s m)) 0 nothing_read
+  pub rest : (lines is_mode_line read_mode_line (drop p s)).rest ≡ (lines is_mode_line read_mode_line (drop m s)).rest
   pub opening : Opening g
   pub fuel : length s ≤ p + left
   pub near : at ≤ 9 * g.relations
   pub room : 32 ≤ length t
-  pub place : at ≡ length (joined relationBytes (modesOf moded.lines))
-  pub bytes : q ≡ laid o 0 (lows (joined relationBytes (modesOf moded.lines)))
+  pub place : at ≡ length (joined relation_bytes (modes_of moded.lines))
+  pub bytes : q ≡ laid o 0 (lows (joined relation_bytes (modes_of moded.lines)))
 
-pub walk_start : (s : List ℕ) (m : ℕ) (o t a l : List ℕ) (left : ℕ) → m ≤ length s → 32 ≤ length t → length a ≡ length t → Indexed s t l 0 → left ≡ length s - m → ModesLeft s m o o t a l m 0 nothingRead left
+pub walk_start : (s : List ℕ) (m : ℕ) (o t a l : List ℕ) (left : ℕ) → m ≤ length s → 32 ≤ length t → length a ≡ length t → Indexed s t l 0 → left ≡ length s - m → ModesLeft s m o o t a l m 0 nothing_read left
 unfolding names_at joined lows laid
 walk_start s m o t a l left h r z i e =
     record {
@@ -194,70 +194,70 @@ walk_start s m o t a l left h r z i e =
 
 module _ {s : List ℕ} {m : ℕ} {o q t a l : List ℕ} {p at : ℕ} {g : Progress} {left : ℕ} (here : ModesLeft s m o q t a l p at g left) where
   pub bytes-long : length q ≡ length o
-  bytes-long = rw here.bytes (laid-length (lows (joined relationBytes (modesOf here.moded.lines))) o 0)
+  bytes-long = rw here.bytes (laid-length (lows (joined relation_bytes (modes_of here.moded.lines))) o 0)
 
   pub near-enough : at ≤ 16384
   near-enough = let h = here.near in let k = here.opening.relations in omega arith
 
   pub line-long : {q1 : List ℕ} {r : Line} → ReadsLine s p q at q1 r → length q1 ≡ length o
-  line-long line = rw line.bytes (laid-length (lows (readModeLine (drop p s)).value.modes) q (at + 5)) ∙ bytes-long
+  line-long line = rw line.bytes (laid-length (lows (read_mode_line (drop p s)).value.modes) q (at + 5)) ∙ bytes-long
 
   -- no line more
-  pub walk_end : {r : Modes} → lines isModeLine readModeLine (drop p s) ≡ got [] (drop p s) → r ≡ toldBy m p g 0 at → TakesModes s m o q t a l r
+  pub walk_end : {r : Modes} → lines is_mode_line read_mode_line (drop p s) ≡ got [] (drop p s) → r ≡ told_by m p g 0 at → TakesModes s m o q t a l r
   walk_end e f =
-      let whole : modesFrom s m ≡ here.moded.lines = here.moded.whole ∙ ap (λ (y : Got (List ModeLine)). here.moded.lines ++ y.value) e ∙ append-nil here.moded.lines in
+      let whole : modes_from s m ≡ here.moded.lines = here.moded.whole ∙ ap (λ (y : Got (List ModeLine)). here.moded.lines ++ y.value) e ∙ append-nil here.moded.lines in
       rw f
       (record {
         from = refl;
         moded = λ z.
             record {
-              names = ap modeNames whole ∙ here.moded.names;
+              names = ap mode_names whole ∙ here.moded.names;
               arities = ap (map (λ (y : ModeLine). length y.modes)) whole ∙ here.moded.arities;
               index = here.moded.index;
               size = here.moded.size;
             };
-        said = λ next. sym (here.said next) ∙ sym (modes-end (modeNames (modesFrom s m)) next at g (drop p s) (lines isModeLine readModeLine (drop p s)) e);
+        said = λ next. sym (here.said next) ∙ sym (modes-end (mode_names (modes_from s m)) next at g (drop p s) (lines is_mode_line read_mode_line (drop p s)) e);
         opening = here.opening;
         inside = here.moded.inside;
         rest = λ z. sym (ap (λ (y : Got (List ModeLine)). y.rest) e) ∙ here.rest;
-        place = λ z. here.place ∙ ap (λ (y : List ModeLine). length (joined relationBytes (modesOf y))) (sym whole);
-        bytes = λ z. here.bytes ∙ ap (λ (y : List ModeLine). laid o 0 (lows (joined relationBytes (modesOf y)))) (sym whole);
+        place = λ z. here.place ∙ ap (λ (y : List ModeLine). length (joined relation_bytes (modes_of y))) (sym whole);
+        bytes = λ z. here.bytes ∙ ap (λ (y : List ModeLine). laid o 0 (lows (joined relation_bytes (modes_of y)))) (sym whole);
         near = near-enough;
         size = bytes-long;
       })
 
-  module _ {q1 : List ℕ} {r : Line} (b : Bool) (is : b ≡ isModeLine (drop p s)) (yes : b ≡ true) (line : ReadsLine s p q at q1 r) where
-    line-cons : lines isModeLine readModeLine (drop p s) ≡ consGot (readModeLine (drop p s)).value (lines isModeLine readModeLine (drop r.end s))
+  module _ {q1 : List ℕ} {r : Line} (b : Bool) (is : b ≡ is_mode_line (drop p s)) (yes : b ≡ true) (line : ReadsLine s p q at q1 r) where
+    line-cons : lines is_mode_line read_mode_line (drop p s) ≡ cons_got (read_mode_line (drop p s)).value (lines is_mode_line read_mode_line (drop r.end s))
     line-cons = lines_more s p b is r.end yes line.end
 
-    names-here : modeNames (modesFrom s m) ≡ names_at s (take g.relations t) ++ (front (drop r.name s) ∷ modeNames (modesFrom s r.end))
+    names-here : mode_names (modes_from s m) ≡ names_at s (take g.relations t) ++ (front (drop r.name s) ∷ mode_names (modes_from s r.end))
     names-here =
-        ap modeNames (here.moded.whole ∙ ap (λ (y : Got (List ModeLine)). here.moded.lines ++ y.value) line-cons)
-        ∙ map-append (λ (y : ModeLine). y.name) here.moded.lines ((readModeLine (drop p s)).value ∷ modesFrom s r.end)
+        ap mode_names (here.moded.whole ∙ ap (λ (y : Got (List ModeLine)). here.moded.lines ++ y.value) line-cons)
+        ∙ map-append (λ (y : ModeLine). y.name) here.moded.lines ((read_mode_line (drop p s)).value ∷ modes_from s r.end)
         ∙ rw (here.moded.names, line.name) refl
 
     -- the tests of the line
-    line-judged : tested (leb 32 g.relations) (leb r.count 4) (leb g.relations (look (names_at s (take g.relations t)) (front (drop r.name s)))) false (oneMore g)
-        ≡ relationJudged (modeNames (modesFrom s m)) g (readModeLine (drop p s)).value.modes
+    line-judged : tested (leb 32 g.relations) (leb r.count 4) (leb g.relations (look (names_at s (take g.relations t)) (front (drop r.name s)))) false (one_more g)
+        ≡ relation_judged (mode_names (modes_from s m)) g (read_mode_line (drop p s)).value.modes
     line-judged =
-        let f = names-fit s t g.relations here.moded.index.inside in
-        mode-tested (modeNames (modesFrom s m)) g (readModeLine (drop p s)).value.modes (front (drop r.name s)) (look (names_at s (take g.relations t)) (front (drop r.name s))) (leb r.count 4) here.opening
+        let f = names_fit s t g.relations here.moded.index.inside in
+        mode-tested (mode_names (modes_from s m)) g (read_mode_line (drop p s)).value.modes (front (drop r.name s)) (look (names_at s (take g.relations t)) (front (drop r.name s))) (leb r.count 4) here.opening
         (ap (λ (n : ℕ). leb n 4) line.count) (line-sized (drop p s))
-        (rw names-here (rw f at (get_or-append_seam (names_at s (take g.relations t)) (front (drop r.name s)) (modeNames (modesFrom s r.end)) [])))
-        (rw names-here (sym (look-here (names_at s (take g.relations t)) (modeNames (modesFrom s r.end)) (front (drop r.name s)))))
+        (rw names-here (rw f at (get_or-append_seam (names_at s (take g.relations t)) (front (drop r.name s)) (mode_names (modes_from s r.end)) [])))
+        (rw names-here (sym (look-here (names_at s (take g.relations t)) (mode_names (modes_from s r.end)) (front (drop r.name s)))))
 
     -- a line that is refused
-    pub walk-stop : {x : Modes} (v : Verdict) (n : ℕ) → v ≡ tested (leb 32 g.relations) (leb r.count 4) (leb g.relations (look (names_at s (take g.relations t)) (front (drop r.name s)))) false (oneMore g) → v ≡ Refuses n → x ≡ toldBy m p g n at →
+    pub walk-stop : {x : Modes} (v : Verdict) (n : ℕ) → v ≡ tested (leb 32 g.relations) (leb r.count 4) (leb g.relations (look (names_at s (take g.relations t)) (front (drop r.name s)))) false (one_more g) → v ≡ Refuses n → x ≡ told_by m p g n at →
         TakesModes s m o q1 t a l x
     walk-stop v n e f h =
-        let k = tested-refuses (leb 32 g.relations) (leb r.count 4) (leb g.relations (look (names_at s (take g.relations t)) (front (drop r.name s)))) (oneMore g) n (sym e ∙ f) in
+        let k = tested-refuses (leb 32 g.relations) (leb r.count 4) (leb g.relations (look (names_at s (take g.relations t)) (front (drop r.name s)))) (one_more g) n (sym e ∙ f) in
         rw h
         (record {
           from = refl;
           moded = λ z. absurd (omega arith);
           said = λ next.
               sym (here.said next)
-              ∙ sym (modes-stop (modeNames (modesFrom s m)) next at g (readModeLine (drop p s)).value (lines isModeLine readModeLine (drop p s)) (lines isModeLine readModeLine (drop r.end s)) n line-cons (sym line-judged ∙ sym e ∙ f))
+              ∙ sym (modes-stop (mode_names (modes_from s m)) next at g (read_mode_line (drop p s)).value (lines is_mode_line read_mode_line (drop p s)) (lines is_mode_line read_mode_line (drop r.end s)) n line-cons (sym line-judged ∙ sym e ∙ f))
               ∙ refused-with n at (next at g) k;
           opening = here.opening;
           inside = here.moded.inside;
@@ -268,9 +268,9 @@ module _ {s : List ℕ} {m : ℕ} {o q t a l : List ℕ} {p at : ℕ} {g : Progr
           size = line-long line;
         })
 
-    module _ (v : Verdict) (h : Progress) (e : v ≡ tested (leb 32 g.relations) (leb r.count 4) (leb g.relations (look (names_at s (take g.relations t)) (front (drop r.name s)))) false (oneMore g)) (f : v ≡ Goes h) where
-      line-passes : Passes (leb 32 g.relations) (leb r.count 4) (leb g.relations (look (names_at s (take g.relations t)) (front (drop r.name s)))) (oneMore g) h
-      line-passes = tested-goes (leb 32 g.relations) (leb r.count 4) (leb g.relations (look (names_at s (take g.relations t)) (front (drop r.name s)))) (oneMore g) h (sym e ∙ f)
+    module _ (v : Verdict) (h : Progress) (e : v ≡ tested (leb 32 g.relations) (leb r.count 4) (leb g.relations (look (names_at s (take g.relations t)) (front (drop r.name s)))) false (one_more g)) (f : v ≡ Goes h) where
+      line-passes : Passes (leb 32 g.relations) (leb r.count 4) (leb g.relations (look (names_at s (take g.relations t)) (front (drop r.name s)))) (one_more g) h
+      line-passes = tested-goes (leb 32 g.relations) (leb r.count 4) (leb g.relations (look (names_at s (take g.relations t)) (front (drop r.name s)))) (one_more g) h (sym e ∙ f)
 
       pub line-few : g.relations < 32
       line-few = leb-false 32 g.relations line-passes.few
@@ -285,16 +285,16 @@ module _ {s : List ℕ} {m : ℕ} {o q t a l : List ℕ} {p at : ℕ} {g : Progr
       pub walk-on : {q2 u b2 k : List ℕ} → 0 < left → EntersLine s (front (drop r.name s)) r.count q1 t a g.relations at q2 u b2 k → ModesLeft s m o q2 u b2 k r.end (at + 5 + r.count) h (left - 1)
       unfolding joined
       walk-on {q2} {u} {b2} {k} some in_table =
-          let x = (readModeLine (drop p s)).value in
+          let x = (read_mode_line (drop p s)).value in
           let L = here.moded.lines in
           let few = line-few in
           let right = line-right in
           let c = line.count in
-          let long : at + 5 + r.count ≡ at + length (relationBytes x.modes) = let w = mode-length x.modes in omega arith in
-          let J = joined relationBytes (modesOf L) in
-          let row : joined relationBytes (modesOf (L ++ (x ∷ []))) ≡ J ++ relationBytes x.modes =
-          ap (joined relationBytes) (map-append (λ (y : ModeLine). y.modes) L (x ∷ [])) ∙ joined-append relationBytes (modesOf L) (x.modes ∷ []) ∙ ap (λ (y : List ℕ). J ++ y) (append-nil (relationBytes x.modes)) in
-          let laid-now : q2 ≡ laid q at (lows (relationBytes x.modes)) = line-bytes q q1 q2 at r.count x.modes c line.bytes in_table.bytes in
+          let long : at + 5 + r.count ≡ at + length (relation_bytes x.modes) = let w = mode-length x.modes in omega arith in
+          let J = joined relation_bytes (modes_of L) in
+          let row : joined relation_bytes (modes_of (L ++ (x ∷ []))) ≡ J ++ relation_bytes x.modes =
+          ap (joined relation_bytes) (map-append (λ (y : ModeLine). y.modes) L (x ∷ [])) ∙ joined-append relation_bytes (modes_of L) (x.modes ∷ []) ∙ ap (λ (y : List ℕ). J ++ y) (append-nil (relation_bytes x.modes)) in
+          let laid-now : q2 ≡ laid q at (lows (relation_bytes x.modes)) = line-bytes q q1 q2 at r.count x.modes c line.bytes in_table.bytes in
           let at-end : at ≡ 0 + length (lows J) = let w = lows-length J in let y = here.place in omega arith in
           let w = in_table.table in
           let z = here.moded.size in
@@ -308,7 +308,7 @@ module _ {s : List ℕ} {m : ℕ} {o q t a l : List ℕ} {p at : ℕ} {g : Progr
             moded =
                 record {
                   lines = L ++ (x ∷ []);
-                  whole = here.moded.whole ∙ ap (λ (y : Got (List ModeLine)). L ++ y.value) line-cons ∙ sym (append_assoc L (x ∷ []) (modesFrom s r.end));
+                  whole = here.moded.whole ∙ ap (λ (y : Got (List ModeLine)). L ++ y.value) line-cons ∙ sym (append_assoc L (x ∷ []) (modes_from s r.end));
                   names = map-append (λ (y : ModeLine). y.name) L (x ∷ []) ∙ rw (here.moded.names, ← line.name) (sym in_table.names);
                   arities =
                       map-append (λ (y : ModeLine). length y.modes) L (x ∷ [])
@@ -317,12 +317,12 @@ module _ {s : List ℕ} {m : ℕ} {o q t a l : List ℕ} {p at : ℕ} {g : Progr
                   size = rw in_table.arities (length-set a g.relations r.count) ∙ z ∙ sym w;
                   inside = line.behind;
                 };
-            said = λ next. modes-on (modeNames (modesFrom s m)) next at g x (lines isModeLine readModeLine (drop p s)) (lines isModeLine readModeLine (drop r.end s)) (oneMore g) (at + 5 + r.count) line-cons (sym line-judged ∙ sym e ∙ f ∙ ap Goes line-passes.goes) long ∙ here.said next;
+            said = λ next. modes-on (mode_names (modes_from s m)) next at g x (lines is_mode_line read_mode_line (drop p s)) (lines is_mode_line read_mode_line (drop r.end s)) (one_more g) (at + 5 + r.count) line-cons (sym line-judged ∙ sym e ∙ f ∙ ap Goes line-passes.goes) long ∙ here.said next;
             rest = sym (ap (λ (y : Got (List ModeLine)). y.rest) line-cons) ∙ here.rest;
             opening = record { relations = omega arith; clauses = here.opening.clauses; kind = omega arith; block = here.opening.block };
             fuel = omega arith;
             near = omega arith;
             room = omega arith;
-            place = long ∙ rw (row, length-append J (relationBytes x.modes)) (ap (λ (y : ℕ). y + length (relationBytes x.modes)) here.place);
-            bytes = laid-now ∙ rw (row, lows-append J (relationBytes x.modes)) (rw (here.bytes, at-end) (laid_then (lows J) (lows (relationBytes x.modes)) o 0));
+            place = long ∙ rw (row, length-append J (relation_bytes x.modes)) (ap (λ (y : ℕ). y + length (relation_bytes x.modes)) here.place);
+            bytes = laid-now ∙ rw (row, lows-append J (relation_bytes x.modes)) (rw (here.bytes, at-end) (laid_then (lows J) (lows (relation_bytes x.modes)) o 0));
           })

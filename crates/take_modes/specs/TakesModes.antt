@@ -1,43 +1,43 @@
 -- The mode lines as they are taken from a text, each tested.
 use Rattle.std.specs.Prelude.{◌≡◌, [], ◌++◌, ◌∷◌, List, ◌+◌, ◌≤◌, suc, zero, ℕ, drop, length, set, take}
-use Rattle.judge_image.specs.Judged.{relationsJudged}
+use Rattle.judge_image.specs.Judged.{relations_judged}
 use Rattle.judge_lines.specs.Whole.{Opening}
 use Rattle.lay.specs.Lay.{laid}
-use Rattle.lay_lines.specs.Lines.{modesOf}
+use Rattle.lay_lines.specs.Lines.{modes_of}
 use Rattle.lay_literal.specs.Lows.{lows}
 use Rattle.mode_table.specs.Moded.{Moded}
-use Rattle.name_index.specs.Index.{chainOf, Indexed}
-use Rattle.parlog.specs.Load.{nothingRead, refusal}
+use Rattle.name_index.specs.Index.{chain_of, Indexed}
+use Rattle.parlog.specs.Load.{nothing_read, refusal}
 use Rattle.parlog.specs.declared.Loaded.{Loaded}
 use Rattle.parlog.specs.declared.Loaded.TheVariants.{Refused}
 use Rattle.parlog.specs.declared.Progress.{Progress}
-use Rattle.read_names.specs.Tables.{modeNames, modesFrom, names_at}
+use Rattle.read_names.specs.Tables.{mode_names, modes_from, names_at}
 use Rattle.take_modes.specs.declared.Line.{Line}
 use Rattle.take_modes.specs.declared.Modes.{Modes}
 use Rattle.text_names.specs.Bytes.{front}
 use Rattle.text_names.specs.Names.{Name}
-use Rattle.text_program.specs.Encoded.{relationBytes, word_bytes}
+use Rattle.text_program.specs.Encoded.{relation_bytes, word_bytes}
 use Rattle.text_program.specs.Numbered.{joined}
-use Rattle.text_program.specs.Source.{isModeLine, lines, readModeLine}
+use Rattle.text_program.specs.Source.{is_mode_line, lines, read_mode_line}
 
 -- refused with a number and a place, or with number 0 what follows
-abbrev pub saidBy : ℕ → ℕ → Loaded → Loaded
-saidBy zero at next = next
-saidBy (suc n) at next = Refused (refusal (suc n) at)
+abbrev pub said_by : ℕ → ℕ → Loaded → Loaded
+said_by zero at next = next
+said_by (suc n) at next = Refused (refusal (suc n) at)
 
 -- a mode line that was read: its name, the place behind it, and how many modes it has, which are laid where they stand in its record
 pub record ReadsLine (s : List ℕ) (p : ℕ) (o : List ℕ) (at : ℕ) (q : List ℕ) (r : Line) : Type 0 where
-  pub name : front (drop r.name s) ≡ (readModeLine (drop p s)).value.name
+  pub name : front (drop r.name s) ≡ (read_mode_line (drop p s)).value.name
   pub inside : r.name ≤ length s
-  pub chain : r.chain ≡ chainOf (front (drop r.name s))
-  pub end : drop r.end s ≡ (readModeLine (drop p s)).rest
+  pub chain : r.chain ≡ chain_of (front (drop r.name s))
+  pub end : drop r.end s ≡ (read_mode_line (drop p s)).rest
   pub behind : r.end ≤ length s
-  pub count : r.count ≡ length (readModeLine (drop p s)).value.modes
-  pub bytes : q ≡ laid o (at + 5) (lows (readModeLine (drop p s)).value.modes)
+  pub count : r.count ≡ length (read_mode_line (drop p s)).value.modes
+  pub bytes : q ≡ laid o (at + 5) (lows (read_mode_line (drop p s)).value.modes)
 
 -- the record of a relation up to its modes
-abbrev pub modesFront : ℕ → List ℕ
-modesFront count = word_bytes (5 + count) ++ (word_bytes 1 ++ (count ∷ []))
+abbrev pub modes_front : ℕ → List ℕ
+modes_front count = word_bytes (5 + count) ++ (word_bytes 1 ++ (count ∷ []))
 
 -- a line in the tables: its name is number n, with so many modes, and its record begins at a place
 pub record EntersLine (s : List ℕ) (x : Name) (count : ℕ) (o t a : List ℕ) (n at : ℕ) (q u b l : List ℕ) : Type 0 where
@@ -45,25 +45,25 @@ pub record EntersLine (s : List ℕ) (x : Name) (count : ℕ) (o t a : List ℕ)
   pub index : Indexed s u l (n + 1)
   pub table : length u ≡ length t
   pub arities : b ≡ set a n count
-  pub bytes : q ≡ laid o at (lows (modesFront count))
+  pub bytes : q ≡ laid o at (lows (modes_front count))
 
 -- what is known behind a mode line
-abbrev pub oneMore : Progress → Progress
-oneMore g = record { relations = g.relations + 1; clauses = g.clauses; kind = 1; relation = g.relation; block = g.block }
+abbrev pub one_more : Progress → Progress
+one_more g = record { relations = g.relations + 1; clauses = g.clauses; kind = 1; relation = g.relation; block = g.block }
 
 -- what is told of mode lines
-abbrev pub toldBy : ℕ → ℕ → Progress → ℕ → ℕ → Modes
-toldBy m p g number at = record { lines = record { from = m; count = g.relations }; rest = p; number = number; at = at; known = g }
+abbrev pub told_by : ℕ → ℕ → Progress → ℕ → ℕ → Modes
+told_by m p g number at = record { lines = record { from = m; count = g.relations }; rest = p; number = number; at = at; known = g }
 
 -- the mode lines from place m on are tested one after the other; where none is refused, all are in the tables and their records are laid into row o
 pub record TakesModes (s : List ℕ) (m : ℕ) (o p t a l : List ℕ) (r : Modes) : Type 0 where
   pub from : r.lines.from ≡ m
   pub moded : r.number ≡ 0 → Moded s t a l r.lines
-  pub said : (next : ℕ → Progress → Loaded) → relationsJudged (modeNames (modesFrom s m)) next (modesOf (modesFrom s m)) 0 nothingRead ≡ saidBy r.number r.at (next r.at r.known)
+  pub said : (next : ℕ → Progress → Loaded) → relations_judged (mode_names (modes_from s m)) next (modes_of (modes_from s m)) 0 nothing_read ≡ said_by r.number r.at (next r.at r.known)
   pub opening : Opening r.known
   pub inside : r.rest ≤ length s
-  pub rest : r.number ≡ 0 → drop r.rest s ≡ (lines isModeLine readModeLine (drop m s)).rest
-  pub place : r.number ≡ 0 → r.at ≡ length (joined relationBytes (modesOf (modesFrom s m)))
-  pub bytes : r.number ≡ 0 → p ≡ laid o 0 (lows (joined relationBytes (modesOf (modesFrom s m))))
+  pub rest : r.number ≡ 0 → drop r.rest s ≡ (lines is_mode_line read_mode_line (drop m s)).rest
+  pub place : r.number ≡ 0 → r.at ≡ length (joined relation_bytes (modes_of (modes_from s m)))
+  pub bytes : r.number ≡ 0 → p ≡ laid o 0 (lows (joined relation_bytes (modes_of (modes_from s m))))
   pub near : r.at ≤ 16384
   pub size : length p ≡ length o

@@ -3,13 +3,13 @@ ghost use Rattle.std.specs.Prelude.{false, true, ◌≡◌, ◌<◌, ◌≤◌, 
 ghost use Rattle.judge_text.specs.Tests.{tested};
 ghost use Rattle.lay.specs.Lay.{laid};
 ghost use Rattle.lay_literal.specs.Lows.{lows};
-ghost use Rattle.name_index.specs.Index.{chainOf, Indexed};
+ghost use Rattle.name_index.specs.Index.{chain_of, Indexed};
 ghost use Rattle.read_goal.specs.Spans.{Spans};
 ghost use Rattle.read_names.specs.Tables.{names_at};
-ghost use Rattle.take_modes.specs.TakesModes.{EntersLine, modesFront, oneMore, ReadsLine, TakesModes, toldBy};
+ghost use Rattle.take_modes.specs.TakesModes.{EntersLine, modes_front, one_more, ReadsLine, TakesModes, told_by};
 ghost use Rattle.text_names.specs.Bytes.{front};
 ghost use Rattle.text_names.specs.Names.{look};
-ghost use Rattle.text_program.specs.Source.{readBrackets, readMode, row};
+ghost use Rattle.text_program.specs.Source.{read_brackets, read_mode, row};
 
 use lay_text::To;
 use mode_table::Lines;
@@ -43,7 +43,7 @@ pub struct Line {
 
 // The mode at a place.
 fn mode(s: &[u8], at: usize) -> usize
-    ensures { result ≡ (readMode (drop at s.now)).value }
+    ensures { result ≡ (read_mode (drop at s.now)).value }
 {
     if place::byte_at(s, at) == OUTPUT {
         1
@@ -55,7 +55,7 @@ fn mode(s: &[u8], at: usize) -> usize
 // Modes with a comma between them, laid into the row.
 fn marks(out: &mut [u8], w: To, s: &[u8], at: usize) -> Span
     requires { at ≤ length s.now }
-    ensures { Spans s.now (row readMode 44 (drop at s.now)).rest (length (row readMode 44 (drop at s.now)).value) true result × (out.new ≡ laid out.old w.at (lows (row readMode 44 (drop at s.now)).value)) }
+    ensures { Spans s.now (row read_mode 44 (drop at s.now)).rest (length (row read_mode 44 (drop at s.now)).value) true result × (out.new ≡ laid out.old w.at (lows (row read_mode 44 (drop at s.now)).value)) }
 {
     let mut to = w;
     let mut q = at;
@@ -85,7 +85,7 @@ fn marks(out: &mut [u8], w: To, s: &[u8], at: usize) -> Span
 // Modes in brackets, or no brackets.
 fn brackets(out: &mut [u8], w: To, s: &[u8], at: usize) -> Span
     requires { at ≤ length s.now }
-    ensures { Spans s.now (readBrackets readMode (drop at s.now)).rest (length (readBrackets readMode (drop at s.now)).value) true result × (out.new ≡ laid out.old w.at (lows (readBrackets readMode (drop at s.now)).value)) }
+    ensures { Spans s.now (read_brackets read_mode (drop at s.now)).rest (length (read_brackets read_mode (drop at s.now)).value) true result × (out.new ≡ laid out.old w.at (lows (read_brackets read_mode (drop at s.now)).value)) }
 {
     if place::byte_at(s, at) != read_goal::OPEN {
         return Span {
@@ -128,8 +128,8 @@ fn read_line(s: &[u8], out: &mut [u8], p: usize, at: usize) -> Line
 
 // The tests of a mode line.
 fn test_line(s: &[u8], rels: &[usize], chains: &[u16], g: Progress, line: Line) -> Verdict
-    requires { (line.name ≤ length s.now) × (line.chain ≡ chainOf (front (drop line.name s.now))) × Indexed s.now rels.now chains.now g.relations × (g.relations ≤ 32) }
-    ensures { result ≡ tested (leb 32 g.relations) (leb line.count 4) (leb g.relations (look (names_at s.now (take g.relations rels.now)) (front (drop line.name s.now)))) false (oneMore g) }
+    requires { (line.name ≤ length s.now) × (line.chain ≡ chain_of (front (drop line.name s.now))) × Indexed s.now rels.now chains.now g.relations × (g.relations ≤ 32) }
+    ensures { result ≡ tested (leb 32 g.relations) (leb line.count 4) (leb g.relations (look (names_at s.now (take g.relations rels.now)) (front (drop line.name s.now)))) false (one_more g) }
 {
     let n = g.relations;
     let k = name_index::find(s, rels, chains, n, line.name, line.chain);
@@ -152,7 +152,7 @@ fn test_line(s: &[u8], rels: &[usize], chains: &[u16], g: Progress, line: Line) 
 // The bytes of a relation's record before its modes.
 fn begin(out: &mut [u8], at: usize, count: usize)
     requires { (at ≤ 16384) × (count ≤ 4) }
-    ensures { out.new ≡ laid out.old at (lows (modesFront count)) }
+    ensures { out.new ≡ laid out.old at (lows (modes_front count)) }
 {
     let w = To {
         at: at,
@@ -174,7 +174,7 @@ fn enter(
     at: usize,
     line: Line,
 )
-    requires { (line.name ≤ length s.now) × (line.chain ≡ chainOf (front (drop line.name s.now))) × Indexed s.now rels.old chains.old n × (n < length rels.old) × (length arities.old ≡ length rels.old) × (n ≤ look (names_at s.now (take n rels.old)) (front (drop line.name s.now))) × (at ≤ 16384) × (line.count ≤ 4) }
+    requires { (line.name ≤ length s.now) × (line.chain ≡ chain_of (front (drop line.name s.now))) × Indexed s.now rels.old chains.old n × (n < length rels.old) × (length arities.old ≡ length rels.old) × (n ≤ look (names_at s.now (take n rels.old)) (front (drop line.name s.now))) × (at ≤ 16384) × (line.count ≤ 4) }
     ensures { EntersLine s.now (front (drop line.name s.now)) line.count out.old rels.old arities.old n at out.new rels.new arities.new chains.new }
 {
     name_index::add(s, rels, chains, n, line.name, line.chain);
@@ -184,7 +184,7 @@ fn enter(
 
 // What is told of the mode lines.
 fn told(m: usize, p: usize, g: Progress, number: u8, at: usize) -> Modes
-    ensures { result ≡ toldBy m p g number at }
+    ensures { result ≡ told_by m p g number at }
 {
     Modes {
         lines: Lines {

@@ -14,7 +14,7 @@ use Rattle.lay_literal.specs.Lows.{lows}
 use Rattle.lay_text.proofs.Laws.{capped-add, capped-in, capped-laid}
 use Rattle.lay_text.specs.Laying.{capped, most, Writes}
 use Rattle.lay_text.specs.declared.To.{To}
-use Rattle.read_names.proofs.Tabled.{adds-as, adds_none, adds_then, names-fit, sorted-append, sorted_none}
+use Rattle.read_names.proofs.Tabled.{adds-as, adds_none, adds_then, names_fit, sorted-append, sorted_none}
 use Rattle.read_names.specs.Tables.{Adds, names_at, sorted}
 use Rattle.take_term.specs.Takes.{Extends, flagged, moved, Ready, relaid, Rows, stands, Takes}
 use Rattle.take_term.specs.declared.Reading.{Reading}
@@ -23,7 +23,7 @@ use Rattle.text_names.specs.Names.{adds, look, Name}
 use Rattle.text_program.proofs.Joined.{all_append, joined-append}
 use Rattle.text_program.specs.Numbered.{joined}
 use Rattle.text_program.specs.Parsing.{all_of}
-use Rattle.text_program.specs.Source.{consGot, Got, got}
+use Rattle.text_program.specs.Source.{cons_got, Got, got}
 
 -- ---- tables that grow
 
@@ -40,7 +40,7 @@ module _ {s t : List ℕ} {n : ℕ} {u : List ℕ} {m : ℕ} {xs : List Name} (f
       go false e =
           let g = leb-false (length (adds (names_at s (take n t)) xs)) (length t) e in
           let l = length-take-le (length t) (adds (names_at s (take n t)) xs) (omega arith) in
-          let k = names-fit s u m f.inside in
+          let k = names_fit s u m f.inside in
           let o = ap length f.names in
           let z = f.size in
           absurd (omega arith)
@@ -50,15 +50,15 @@ module _ {s t : List ℕ} {n : ℕ} {u : List ℕ} {m : ℕ} {xs : List Name} (f
     where
       go : (b : Bool) → leb (length (adds (names_at s (take n t)) xs)) (length t) ≡ b → n ≤ m
       go true e =
-          let k = names-fit s u m f.inside in
-          let i = names-fit s t n h in
+          let k = names_fit s u m f.inside in
+          let i = names_fit s t n h in
           let o = ap length (f.names ∙ take_all (length t) (adds (names_at s (take n t)) xs) (leb-true (length (adds (names_at s (take n t)) xs)) (length t) e)) in
           let l = adds-grow xs (names_at s (take n t)) in
           omega arith
       go false e =
           let g = leb-false (length (adds (names_at s (take n t)) xs)) (length t) e in
           let l = length-take-le (length t) (adds (names_at s (take n t)) xs) (omega arith) in
-          let k = names-fit s u m f.inside in
+          let k = names_fit s u m f.inside in
           let o = ap length f.names in
           omega arith
 
@@ -368,7 +368,7 @@ module _ {A : Type 0} (terms : A → List Name) (bytes : List Name → List Name
 
   module _ {b : Rows} {x : Reading} {n : ℕ} {Y : Got (List A)} (here : TakesRow terms bytes ok sure s a w W b x n Y) {c : Rows} {y : Reading} {rest : List ℕ} {m : ℕ} where
     -- one item more, and others behind it
-    pub takes-row-on : {z : Reading} (i : A) (Z : Got (List A)) (e k : ℕ) → Y ≡ consGot i Z → Takes s b x rest m (terms i) (λ cs vs. bytes cs vs i) (ok i) (sure i) c y → z ≡ moved y e k → e ≤ length s →
+    pub takes-row-on : {z : Reading} (i : A) (Z : Got (List A)) (e k : ℕ) → Y ≡ cons_got i Z → Takes s b x rest m (terms i) (λ cs vs. bytes cs vs i) (ok i) (sure i) c y → z ≡ moved y e k → e ≤ length s →
         TakesRow terms bytes ok sure s a w W c z (n + 1) Z
     takes-row-on {z} i Z e k f u g h =
         record {

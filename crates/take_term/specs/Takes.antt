@@ -8,8 +8,8 @@ use Rattle.read_names.specs.Tables.{Adds, names_at, sorted}
 use Rattle.take_term.specs.declared.Reading.{Reading}
 use Rattle.text_names.specs.Bytes.{front, past}
 use Rattle.text_names.specs.Names.{known, look, Name}
-use Rattle.text_program.specs.Encoded.{termBytes}
-use Rattle.text_program.specs.Numbered.{joined, Numbering, termNumbered}
+use Rattle.text_program.specs.Encoded.{term_bytes}
+use Rattle.text_program.specs.Numbered.{joined, Numbering, term_numbered}
 use Rattle.text_program.specs.Source.{Got}
 
 -- the rows: bytes of an image, places of constants with their chains, places of variables
@@ -39,19 +39,19 @@ abbrev pub relaid : Rows → List ℕ → Rows
 relaid a p = rows p a.consts a.links a.vars
 
 -- the constants in the table, and the variables
-abbrev pub constsIn : List ℕ → Rows → Reading → List Name
-constsIn s a w = names_at s (take w.consts a.consts)
+abbrev pub consts_in : List ℕ → Rows → Reading → List Name
+consts_in s a w = names_at s (take w.consts a.consts)
 
-abbrev pub varsIn : List ℕ → Rows → Reading → List Name
-varsIn s a w = names_at s (take w.vars a.vars)
+abbrev pub vars_in : List ℕ → Rows → Reading → List Name
+vars_in s a w = names_at s (take w.vars a.vars)
 
 -- the names of one list have their numbers in another one too
 abbrev pub Extends : List Name → List Name → Type 0
 Extends xs ys = (x : Name) → known xs x ≡ true → look ys x ≡ look xs x
 
 -- names numbered by three lists
-abbrev pub numbersBy : List Name → List Name → List Name → Numbering
-numbersBy rels cs vs = record { relations = rels; constants = cs; variables = vs }
+abbrev pub numbers_by : List Name → List Name → List Name → Numbering
+numbers_by rels cs vs = record { relations = rels; constants = cs; variables = vs }
 
 -- what a taking needs
 pub record Ready (s : List ℕ) (a : Rows) (w : Reading) : Type 0 where
@@ -70,7 +70,7 @@ pub record Takes (s : List ℕ) (a : Rows) (w : Reading) (rest : List ℕ) (item
   pub fits : x.fits ≡ (w.fits && right)
   pub declared : x.declared ≡ (w.declared && known)
   pub place : (cs vs : List Name) → x.at ≡ capped (w.at + length (bs cs vs))
-  pub bytes : x.consts < length b.consts → x.vars < length b.vars → (cs vs : List Name) → Extends (constsIn s b x) cs → Extends (varsIn s b x) vs → b.out ≡ laid a.out w.at (lows (bs cs vs))
+  pub bytes : x.consts < length b.consts → x.vars < length b.vars → (cs vs : List Name) → Extends (consts_in s b x) cs → Extends (vars_in s b x) vs → b.out ≡ laid a.out w.at (lows (bs cs vs))
   pub small : length a.out ≤ most
   pub size : length b.out ≡ length a.out
 
@@ -78,9 +78,9 @@ pub record Takes (s : List ℕ) (a : Rows) (w : Reading) (rest : List ℕ) (item
 abbrev pub TakesTerm : List ℕ → Rows → Reading → Rows → Reading → Type 0
 TakesTerm s a w b x =
     (rels : List Name) →
-    Takes s a w (past (drop w.end s)) x.count (front (drop w.end s) ∷ []) (λ cs vs. termBytes (termNumbered (numbersBy rels cs vs) (front (drop w.end s)))) true true b x
+    Takes s a w (past (drop w.end s)) x.count (front (drop w.end s) ∷ []) (λ cs vs. term_bytes (term_numbered (numbers_by rels cs vs) (front (drop w.end s)))) true true b x
 
 -- some terms as they were read
 abbrev pub TakesTerms : List ℕ → Rows → Reading → Got (List Name) → Rows → Reading → Type 0
 TakesTerms s a w g b x =
-    (rels : List Name) → Takes s a w g.rest (length g.value) g.value (λ cs vs. joined termBytes (map (termNumbered (numbersBy rels cs vs)) g.value)) true true b x
+    (rels : List Name) → Takes s a w g.rest (length g.value) g.value (λ cs vs. joined term_bytes (map (term_numbered (numbers_by rels cs vs)) g.value)) true true b x

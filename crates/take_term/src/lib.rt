@@ -4,7 +4,7 @@ ghost use Rattle.read_names.specs.Tables.{Adds, names_at};
 ghost use Rattle.take_term.specs.Takes.{moved, Ready, rows, TakesTerm, TakesTerms};
 ghost use Rattle.text_names.specs.Bytes.{front};
 ghost use Rattle.text_names.specs.Names.{look};
-ghost use Rattle.text_program.specs.Source.{readBrackets, readTerm, row};
+ghost use Rattle.text_program.specs.Source.{read_brackets, read_term, row};
 
 use lay_text::To;
 use name_index::Added;
@@ -117,7 +117,7 @@ fn names(
     w: Reading,
 ) -> Reading
     requires { Ready s.now (rows out.old consts.old links.old vars.old) w }
-    ensures { TakesTerms s.now (rows out.old consts.old links.old vars.old) w (row readTerm 44 (drop w.end s.now)) (rows out.new consts.new links.new vars.new) result }
+    ensures { TakesTerms s.now (rows out.old consts.old links.old vars.old) w (row read_term 44 (drop w.end s.now)) (rows out.new consts.new links.new vars.new) result }
 {
     let mut r = w;
     let mut n = 0;
@@ -147,7 +147,7 @@ pub fn terms(
     w: Reading,
 ) -> Reading
     requires { Ready s.now (rows out.old consts.old links.old vars.old) w }
-    ensures { TakesTerms s.now (rows out.old consts.old links.old vars.old) w (readBrackets readTerm (drop w.end s.now)) (rows out.new consts.new links.new vars.new) result }
+    ensures { TakesTerms s.now (rows out.old consts.old links.old vars.old) w (read_brackets read_term (drop w.end s.now)) (rows out.new consts.new links.new vars.new) result }
 {
     let at = w.end;
     if place::byte_at(s, at) != read_goal::OPEN {

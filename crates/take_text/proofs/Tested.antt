@@ -6,35 +6,35 @@ use lib.Dec.{leb, ltb}
 use borrow.Author.Tests.{le-ltb, ne_eqb}
 use native.Mathlib.Omega.{arith}
 use mathlib.Core.List.{List}
-use Rattle.judge_image.specs.Judged.{judged, progressOf}
-use Rattle.judge_said.specs.Said.{clauseSaid}
+use Rattle.judge_image.specs.Judged.{judged, progress_of}
+use Rattle.judge_said.specs.Said.{clause_said}
 use Rattle.judge_text.specs.Tests.{Counted, tested}
-use Rattle.lay_lines.specs.Fields.{clauseFits}
-use Rattle.lay_lines.specs.Lines.{clauseRight}
-use Rattle.parlog.specs.Load.{blockWith, kindFault, refusal, tooMany}
+use Rattle.lay_lines.specs.Fields.{clause_fits}
+use Rattle.lay_lines.specs.Lines.{clause_right}
+use Rattle.parlog.specs.Load.{block_with, kind_fault, refusal, too_many}
 use Rattle.parlog.specs.declared.Loaded.{Loaded}
 use Rattle.parlog.specs.declared.Loaded.TheVariants.{Refused}
 use Rattle.parlog.specs.declared.Progress.{Progress}
-use Rattle.read_names.specs.Tables.{modeNames}
-use Rattle.take_modes.specs.TakesModes.{saidBy}
-use Rattle.take_text.specs.Turned.{takenSaid}
+use Rattle.read_names.specs.Tables.{mode_names}
+use Rattle.take_modes.specs.TakesModes.{said_by}
+use Rattle.take_text.specs.Turned.{taken_said}
 use Rattle.text_names.specs.Names.{look}
-use Rattle.text_program.specs.Numbered.{markBy}
+use Rattle.text_program.specs.Numbered.{mark_by}
 use Rattle.text_program.specs.Source.{ModeLine, SaidClause}
 
-no-fault : (g : Progress) → g.kind ≤ 2 → kindFault g 2 ≡ false
-unfolding kindFault
+no-fault : (g : Progress) → g.kind ≤ 2 → kind_fault g 2 ≡ false
+unfolding kind_fault
 no-fault g h = rw (le-ltb 2 g.kind h, ne_eqb g.kind 3 (λ e. omega arith)) refl
 
-pub taken-tested : (g : Progress) (opens : Bool) (r b : ℕ) (right known fits : Bool) → Counted g → known ≡ (fits && leb g.relation r) → b ≡ blockWith g r (markBy opens) →
-    tested (leb 64 g.clauses) right known (ltb 8 b) (record { relations = g.relations; clauses = g.clauses + 1; kind = 2; relation = r; block = b }) ≡ takenSaid g opens r right fits
-unfolding tested takenSaid judged progressOf tooMany
+pub taken-tested : (g : Progress) (opens : Bool) (r b : ℕ) (right known fits : Bool) → Counted g → known ≡ (fits && leb g.relation r) → b ≡ block_with g r (mark_by opens) →
+    tested (leb 64 g.clauses) right known (ltb 8 b) (record { relations = g.relations; clauses = g.clauses + 1; kind = 2; relation = r; block = b }) ≡ taken_said g opens r right fits
+unfolding tested taken_said judged progress_of too_many
 taken-tested g opens r b right known fits h l m = rw (no-fault g h.kind, ← m, l) refl
 
-pub taken-said : (ms : List ModeLine) (g : Progress) (opens : Bool) (x : SaidClause) (r : ℕ) (right fits : Bool) → r ≡ look (modeNames ms) x.name → right ≡ clauseRight x → fits ≡ clauseFits true ms x → takenSaid g opens r right fits ≡ clauseSaid ms g opens x
-unfolding takenSaid clauseSaid
+pub taken-said : (ms : List ModeLine) (g : Progress) (opens : Bool) (x : SaidClause) (r : ℕ) (right fits : Bool) → r ≡ look (mode_names ms) x.name → right ≡ clause_right x → fits ≡ clause_fits true ms x → taken_said g opens r right fits ≡ clause_said ms g opens x
+unfolding taken_said clause_said
 taken-said ms g opens x r right fits e f h = rw (e, f, h) refl
 
-pub said-refused : (n at : ℕ) (next : Loaded) → 1 ≤ n → Refused (refusal n at) ≡ saidBy n at next
+pub said-refused : (n at : ℕ) (next : Loaded) → 1 ≤ n → Refused (refusal n at) ≡ said_by n at next
 said-refused zero at next h = absurd (omega arith)
 said-refused (suc n) at next h = refl

@@ -9,26 +9,26 @@ use Rattle.take_clause.specs.TakesClause.{TakesClause}
 use Rattle.take_clause.specs.declared.Taken.{Taken}
 use Rattle.take_text.specs.declared.Behind.{Behind}
 use Rattle.take_text.specs.declared.Clauses.{Clauses}
-use Rattle.text_program.specs.Numbered.{markBy}
-use Rattle.text_program.specs.Source.{ModeLine, readClause}
+use Rattle.text_program.specs.Numbered.{mark_by}
+use Rattle.text_program.specs.Source.{ModeLine, read_clause}
 
 -- 6, 4, 5 and 6 for a clause by its relation, whether it is right and whether its calls fit
-unfoldable pub takenSaid : Progress → Bool → ℕ → Bool → Bool → Verdict
-takenSaid g opens number right fits = judged g 2 right (fits && leb g.relation number) number (markBy opens)
+unfoldable pub taken_said : Progress → Bool → ℕ → Bool → Bool → Verdict
+taken_said g opens number right fits = judged g 2 right (fits && leb g.relation number) number (mark_by opens)
 
 -- before the first clause
 abbrev pub started : ℕ → ℕ → ℕ → ℕ → Progress → Clauses
 started left from n at g = record { end = from; left = left; number = 0; at = at; consts = n; known = g; declared = true }
 
 -- behind a clause that goes or is refused; one that is refused has its record's place
-abbrev pub turnedBy : Verdict → Clauses → Taken → Clauses
-turnedBy (Refuses number) w c = record { end = c.end; left = w.left - 1; number = number; at = w.at; consts = c.consts; known = w.known; declared = w.declared && c.declared }
-turnedBy (Goes next) w c = record { end = c.end; left = w.left - 1; number = 0; at = c.at; consts = c.consts; known = next; declared = w.declared && c.declared }
+abbrev pub turned_by : Verdict → Clauses → Taken → Clauses
+turned_by (Refuses number) w c = record { end = c.end; left = w.left - 1; number = number; at = w.at; consts = c.consts; known = w.known; declared = w.declared && c.declared }
+turned_by (Goes next) w c = record { end = c.end; left = w.left - 1; number = 0; at = c.at; consts = c.consts; known = next; declared = w.declared && c.declared }
 
 -- one clause more is taken and tested
 pub record Turns (s : List ℕ) (ms : List ModeLine) (o t : List ℕ) (w : Clauses) (opens : Bool) (p u l : List ℕ) (r : Behind) : Type 0 where
   pub taken : Taken
-  pub takes : TakesClause s ms o t w.at w.consts opens (readClause (drop w.end s)) p u l taken
-  pub next : r.next ≡ turnedBy (takenSaid w.known opens taken.number taken.right taken.fits) w taken
-  pub kept : kept (takenSaid w.known opens taken.number taken.right taken.fits)
+  pub takes : TakesClause s ms o t w.at w.consts opens (read_clause (drop w.end s)) p u l taken
+  pub next : r.next ≡ turned_by (taken_said w.known opens taken.number taken.right taken.fits) w taken
+  pub kept : kept (taken_said w.known opens taken.number taken.right taken.fits)
   pub semicolon : r.semicolon ≡ taken.semicolon

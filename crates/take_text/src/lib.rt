@@ -3,9 +3,9 @@ ghost use Rattle.std.specs.Prelude.{◌≡◌, ◌≤◌, length};
 ghost use Rattle.judge_text.specs.Tests.{Counted, kept};
 ghost use Rattle.mode_table.specs.Moded.{Moded};
 ghost use Rattle.name_index.specs.Index.{Indexed};
-ghost use Rattle.read_names.specs.Tables.{modesFrom};
+ghost use Rattle.read_names.specs.Tables.{modes_from};
 ghost use Rattle.take_text.specs.TakesText.{TakesClauses};
-ghost use Rattle.take_text.specs.Turned.{started, takenSaid, turnedBy, Turns};
+ghost use Rattle.take_text.specs.Turned.{started, taken_said, turned_by, Turns};
 
 use mode_table::Lines;
 use parlog::{Progress, Verdict, codes};
@@ -36,7 +36,7 @@ const ARROW: usize = 60;
 // The tests of a clause by its relation, whether it has no more than it may have, and whether each call has its arity.
 fn test(g: Progress, opens: bool, number: usize, right: bool, fits: bool) -> Verdict
     requires { Counted g }
-    ensures { (result ≡ takenSaid g opens number right fits) × kept result }
+    ensures { (result ≡ taken_said g opens number right fits) × kept result }
 {
     let block = judge_text::block_with(g, number, opens);
     let known = basics::and(fits, g.relation <= number);
@@ -59,7 +59,7 @@ fn test(g: Progress, opens: bool, number: usize, right: bool, fits: bool) -> Ver
 // Behind a clause that goes or is refused; one that is refused has its record's place.
 fn turned(v: Verdict, w: Clauses, c: Taken) -> Clauses
     requires { 1 ≤ w.left }
-    ensures { result ≡ turnedBy v w c }
+    ensures { result ≡ turned_by v w c }
 {
     let known = w.known;
     let declared = basics::and(w.declared, c.declared);
@@ -99,7 +99,7 @@ fn turn(
     opens: bool,
 ) -> Behind
     requires { (w.end ≤ length s.now) × (w.at ≤ 65536) × Indexed s.now consts.old links.old w.consts × Moded s.now rels.now arities.now chains.now lines × Counted w.known × (1 ≤ w.left) }
-    ensures { Turns s.now (modesFrom s.now lines.from) out.old consts.old w opens out.new consts.new links.new result }
+    ensures { Turns s.now (modes_from s.now lines.from) out.old consts.old w opens out.new consts.new links.new result }
 {
     let c = take_clause::clause(
         s, rels, arities, chains, lines, out, consts, links, w.end, w.at, w.consts, opens,
@@ -143,7 +143,7 @@ pub fn clause_lines(
     known: Progress,
 ) -> Clauses
     requires { (from ≤ length s.now) × Indexed s.now consts.old links.old n × Moded s.now rels.now arities.now chains.now lines × Counted known × (known.clauses ≡ 0) × (at ≤ 16384) }
-    ensures { TakesClauses s.now (modesFrom s.now lines.from) out.old consts.old from at n known out.new consts.new links.new result }
+    ensures { TakesClauses s.now (modes_from s.now lines.from) out.old consts.old from at n known out.new consts.new links.new result }
 {
     let mut w = start(s.len() - from, from, n, at, known);
     let mut before = from;

@@ -14,26 +14,26 @@ use Rattle.parlog.proofs.Bools.{true-and}
 use Rattle.parlog.proofs.Scans.{below_suc}
 use Rattle.parlog.specs.Load.{load_of, long}
 use Rattle.parlog.specs.Orders.{Each}
-use Rattle.parlog.specs.Program.{Clause, Goal, Literal, modesOf, Program, program_of}
-use Rattle.parlog.specs.Records.{recordEnd}
+use Rattle.parlog.specs.Program.{Clause, Goal, Literal, modes_of, Program, program_of}
+use Rattle.parlog.specs.Records.{record_end}
 use Rattle.parlog.specs.Tables.{written}
 use Rattle.parlog.specs.declared.Loaded.TheVariants.{Accepted}
 use Rattle.text_back.proofs.Firsts.{firsts-length, look-first}
 use Rattle.text_back.proofs.Lines.{text-back}
 use Rattle.text_back.proofs.Made.{accepted-made}
 use Rattle.text_back.proofs.Numbers.{ClauseMade, constants-are, GoalMade, lines_ok, LiteralMade, Made, program-again, relations-are, rows-each}
-use Rattle.text_back.proofs.Said.{said, saidBy, saidClause, saidClauses, saidGoal, saidProgram}
+use Rattle.text_back.proofs.Said.{said, said_by, said_clause, said_clauses, said_goal, said_program}
 use Rattle.text_back.proofs.Spelling.{text-right}
-use Rattle.text_back.specs.Back.{Distinct, firsts, namesUsed, PrintParse, PrintsBack}
+use Rattle.text_back.specs.Back.{Distinct, firsts, names_used, PrintParse, PrintsBack}
 use Rattle.text_loads.proofs.Encoded.{encode-decode}
 use Rattle.text_loads.proofs.Parsed.{parse-steps}
 use Rattle.text_loads.proofs.Walked.{loads-text}
-use Rattle.text_names.specs.Entries.{entryName}
+use Rattle.text_names.specs.Entries.{entry_name}
 use Rattle.text_names.specs.Names.{known, Name}
-use Rattle.text_program.specs.Encoded.{programBytes}
-use Rattle.text_program.specs.Numbered.{relationNames}
-use Rattle.text_program.specs.Parsing.{all_of, clauseDeclared, declared, goalDeclared, imageIn, literalDeclared, namesIn, parseCall, recordsIn, repeated}
-use Rattle.text_program.specs.Printing.{nameable, nextMark, printCall, programNamed, programText, roomy}
+use Rattle.text_program.specs.Encoded.{program_bytes}
+use Rattle.text_program.specs.Numbered.{relation_names}
+use Rattle.text_program.specs.Parsing.{all_of, clause_declared, declared, goal_declared, image_in, literal_declared, names_in, parse_call, records_in, repeated}
+use Rattle.text_program.specs.Printing.{nameable, next_mark, print_call, program_named, program_text, roomy}
 use Rattle.text_program.specs.Source.{Source}
 use Rattle.text_program.specs.declared.Parsed.TheVariants.{Read}
 use Rattle.text_program.specs.declared.Printed.TheVariants.{Wrote}
@@ -59,29 +59,29 @@ unfolding all_of
 all_map P f g h [] p = refl
 all_map P f g h (x ∷ xs) p = true-and (f (g x)) (all_of f (map g xs)) (h x p.0) (all_map P f g h xs p.1)
 
-module _ (r : ℕ) (nm : List ℕ) (d : Distinct (entryName nm) r) where
+module _ (r : ℕ) (nm : List ℕ) (d : Distinct (entry_name nm) r) where
   abbrev rels : List Name
-  rels = firsts (entryName nm) r
+  rels = firsts (entry_name nm) r
 
-  literal-declared : (l : Literal) → LiteralMade r l → literalDeclared rels (said r nm l) ≡ true
+  literal-declared : (l : Literal) → LiteralMade r l → literal_declared rels (said r nm l) ≡ true
   unfolding said
   literal-declared l m = go (eqb l.rel 255) refl
     where
-      go : (b : Bool) → eqb l.rel 255 ≡ b → literalDeclared rels (saidBy r nm b l) ≡ true
+      go : (b : Bool) → eqb l.rel 255 ≡ b → literal_declared rels (said_by r nm b l) ≡ true
       go true e = refl
-      go false e = known-first (entryName nm) r l.rel d (m.known (eqb-false l.rel 255 e))
+      go false e = known-first (entry_name nm) r l.rel d (m.known (eqb-false l.rel 255 e))
 
-  goal-declared : (g : Goal) → GoalMade r g → goalDeclared rels (saidGoal r nm g) ≡ true
-  goal-declared g m = all_map (Each (LiteralMade r)) (all_of (literalDeclared rels)) (map (said r nm)) (λ st p. all_map (LiteralMade r) (literalDeclared rels) (said r nm) literal-declared st p) g (rows-each (LiteralMade r) g m)
+  goal-declared : (g : Goal) → GoalMade r g → goal_declared rels (said_goal r nm g) ≡ true
+  goal-declared g m = all_map (Each (LiteralMade r)) (all_of (literal_declared rels)) (map (said r nm)) (λ st p. all_map (LiteralMade r) (literal_declared rels) (said r nm) literal-declared st p) g (rows-each (LiteralMade r) g m)
 
-  clauses-declared : (cs : List Clause) → Each (ClauseMade r) cs → all_of (clauseDeclared rels) (saidClauses r nm cs) ≡ true
-  unfolding all_of saidClauses
+  clauses-declared : (cs : List Clause) → Each (ClauseMade r) cs → all_of (clause_declared rels) (said_clauses r nm cs) ≡ true
+  unfolding all_of said_clauses
   clauses-declared [] m = refl
   clauses-declared (c ∷ cs) m =
       let a = m.0 in
-      true-and (clauseDeclared rels (saidClause r nm c (nextMark cs))) (all_of (clauseDeclared rels) (saidClauses r nm cs))
-      (true-and (known rels (entryName nm c.rel)) (goalDeclared rels (saidGoal r nm c.guard) && goalDeclared rels (saidGoal r nm c.body)) (known-first (entryName nm) r c.rel d a.known)
-      (true-and (goalDeclared rels (saidGoal r nm c.guard)) (goalDeclared rels (saidGoal r nm c.body)) (goal-declared c.guard a.guard) (goal-declared c.body a.body)))
+      true-and (clause_declared rels (said_clause r nm c (next_mark cs))) (all_of (clause_declared rels) (said_clauses r nm cs))
+      (true-and (known rels (entry_name nm c.rel)) (goal_declared rels (said_goal r nm c.guard) && goal_declared rels (said_goal r nm c.body)) (known-first (entry_name nm) r c.rel d a.known)
+      (true-and (goal_declared rels (said_goal r nm c.guard)) (goal_declared rels (said_goal r nm c.body)) (goal-declared c.guard a.guard) (goal-declared c.body a.body)))
       (clauses-declared cs m.1)
 
 -- ---- the call
@@ -91,40 +91,40 @@ module _ (nm : List ℕ) (pr : Program) (n : ℕ) (made : Made pr) (fit : Prints
   r = length pr.relations
 
   abbrev p : Source
-  p = saidProgram nm pr
+  p = said_program nm pr
 
   abbrev s : List ℕ
-  s = programBytes pr
+  s = program_bytes pr
 
-  image-again : imageIn p ≡ s
-  unfolding imageIn
-  image-again = ap programBytes (program-again nm pr n made fit)
+  image-again : image_in p ≡ s
+  unfolding image_in
+  image-again = ap program_bytes (program-again nm pr n made fit)
 
-  names-are : namesIn p ≡ namesUsed nm r n
-  unfolding namesIn
+  names-are : names_in p ≡ names_used nm r n
+  unfolding names_in
   names-are = rw (relations-are nm pr n made fit, constants-are nm pr n made fit)
 
   declares : declared p ≡ true
   unfolding declared
   declares = rw (relations-are nm pr n made fit) (parts (true-and _ _ (clauses-declared r nm fit.relations pr.clauses made.clauses) (goal-declared r nm fit.relations pr.goal made.goal)))
     where
-      parts : (all_of (clauseDeclared (firsts (entryName nm) r)) (saidClauses r nm pr.clauses) && goalDeclared (firsts (entryName nm) r) (saidGoal r nm pr.goal)) ≡ true →
-          (all_of (clauseDeclared (firsts (entryName nm) r)) p.clauses && goalDeclared (firsts (entryName nm) r) p.goal) ≡ true
-      parts e = unfold saidProgram in e
+      parts : (all_of (clause_declared (firsts (entry_name nm) r)) (said_clauses r nm pr.clauses) && goal_declared (firsts (entry_name nm) r) (said_goal r nm pr.goal)) ≡ true →
+          (all_of (clause_declared (firsts (entry_name nm) r)) p.clauses && goal_declared (firsts (entry_name nm) r) p.goal) ≡ true
+      parts e = unfold said_program in e
 
-  passes : (c : ℕ) → load_of s ≡ Accepted r c → recordsIn (relationNames p) s ≡ Accepted r c
-  passes c e = rw (relations-are nm pr n made fit) (loads-text (firsts (entryName nm) r) s r c (λ k h. not-repeated (entryName nm) r k fit.relations h) e)
+  passes : (c : ℕ) → load_of s ≡ Accepted r c → records_in (relation_names p) s ≡ Accepted r c
+  passes c e = rw (relations-are nm pr n made fit) (loads-text (firsts (entry_name nm) r) s r c (λ k h. not-repeated (entry_name nm) r k fit.relations h) e)
 
   not-long : (c : ℕ) → load_of s ≡ Accepted r c → long s ≡ false
   unfolding long
   not-long c e = le-ltb 32768 (length s) (accepted s r c e).short
 
   -- THE LAW: over programs
-  pub parsed-again : (c : ℕ) (image names : List ℕ) → load_of s ≡ Accepted r c → length s ≤ length image → length (namesUsed nm r n) ≤ length names →
-      parseCall image names (programText nm pr) ≡ record { answer = Read (length s) (length (namesUsed nm r n)); image = written s image; names = written (namesUsed nm r n) names }
+  pub parsed-again : (c : ℕ) (image names : List ℕ) → load_of s ≡ Accepted r c → length s ≤ length image → length (names_used nm r n) ≤ length names →
+      parse_call image names (program_text nm pr) ≡ record { answer = Read (length s) (length (names_used nm r n)); image = written s image; names = written (names_used nm r n) names }
   parsed-again c image names e g h =
       let ok = lines_ok nm pr made fit.named in
-      let w = parse-steps image names (programText nm pr) p r c (text-right nm pr ok) (text-back nm pr ok) declares (rw image-again (passes c e)) (rw image-again (not-long c e)) (rw image-again g) (rw names-are h) in
+      let w = parse-steps image names (program_text nm pr) p r c (text-right nm pr ok) (text-back nm pr ok) declares (rw image-again (passes c e)) (rw image-again (not-long c e)) (rw image-again g) (rw names-are h) in
       rw (image-again, names-are) at w
 
 -- ---- what was printed
@@ -139,13 +139,13 @@ module _ (row : List ℕ) (k : ℕ) (t : List ℕ) where
   with-names false x = absurd (let z : ◌≡◌ {A = ℕ} 0 1 = cc in omega arith)
   with-names true x = with-room (leb (length t) (length row)) x
 
-pub printed : (s nm row : List ℕ) (r c k : ℕ) → load_of s ≡ Accepted r c → (printCall row s nm).answer ≡ Wrote k → take k (printCall row s nm).text ≡ programText nm (program_of s r c)
-unfolding printCall
-printed s nm row r c k e f = rw e (with-names row k (programText nm (program_of s r c)) (programNamed nm (program_of s r c)) (rw e at f))
+pub printed : (s nm row : List ℕ) (r c k : ℕ) → load_of s ≡ Accepted r c → (print_call row s nm).answer ≡ Wrote k → take k (print_call row s nm).text ≡ program_text nm (program_of s r c)
+unfolding print_call
+printed s nm row r c k e f = rw e (with-names row k (program_text nm (program_of s r c)) (program_named nm (program_of s r c)) (rw e at f))
 
 pub relations-many : (s : List ℕ) (r c : ℕ) → length (program_of s r c).relations ≡ r
 unfolding program_of
-relations-many s r c = list_length (modesOf s) (recordEnd s) r 0
+relations-many s r c = list_length (modes_of s) (record_end s) r 0
 
 -- THE LAW: over calls
 pub print-parse : PrintParse

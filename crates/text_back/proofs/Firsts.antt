@@ -10,14 +10,14 @@ use native.Mathlib.Omega.{arith}
 use Rattle.parlog.proofs.Bools.{not_so}
 use Rattle.parlog.proofs.Scans.{below_suc}
 use Rattle.parlog.specs.Orders.{Each}
-use Rattle.text_back.specs.Back.{Appear, Distinct, first-time, firsts, met-before, no_more}
+use Rattle.text_back.specs.Back.{Appear, Distinct, first_time, firsts, met_before, no_more}
 use Rattle.text_names.proofs.Looked.{look-behind, look-front, look-here, same-is}
-use Rattle.text_names.specs.Names.{add, adds, look, Name, sameName}
+use Rattle.text_names.specs.Names.{add, adds, look, Name, same_name}
 
 -- ---- the same name
 
-not_same : (x y : Name) → x ≢ y → sameName x y ≡ false
-not_same x y h = not_so (sameName x y) (λ e. h (same-is x y e))
+not_same : (x y : Name) → x ≢ y → same_name x y ≡ false
+not_same x y h = not_so (same_name x y) (λ e. h (same-is x y e))
 
 look-other : (y x : Name) → y ≢ x → look (y ∷ []) x ≡ 1
 unfolding look
@@ -61,24 +61,24 @@ add-new f m d = rw (look_none f m (f m) (λ i h. d i m h (omega arith)), firsts-
 
 pub appear-up : {m n : ℕ} {ks : List ℕ} → Appear m n ks → m ≤ n
 appear-up no_more = omega arith
-appear-up (met-before h a) = appear-up a
-appear-up (first-time a) = let h = appear-up a in omega arith
+appear-up (met_before h a) = appear-up a
+appear-up (first_time a) = let h = appear-up a in omega arith
 
 abbrev pub Below : ℕ → ℕ → Type 0
 Below n k = k < n
 
 pub appear-below : {m n : ℕ} {ks : List ℕ} → Appear m n ks → Each (Below n) ks
 appear-below no_more = tt
-appear-below (met-before h a) = let u = appear-up a in (omega arith, appear-below a)
-appear-below (first-time a) = let u = appear-up a in (omega arith, appear-below a)
+appear-below (met_before h a) = let u = appear-up a in (omega arith, appear-below a)
+appear-below (first_time a) = let u = appear-up a in (omega arith, appear-below a)
 
 -- THE LAW: names that appear in order are added in order
 pub adds-appear : (f : ℕ → Name) {m n : ℕ} {ks : List ℕ} → Distinct f n → Appear m n ks → adds (firsts f m) (map f ks) ≡ firsts f n
 unfolding adds
 adds-appear f d no_more = refl
-adds-appear f {m} {n} d (met-before {k = k} {ks} h a) =
+adds-appear f {m} {n} d (met_before {k = k} {ks} h a) =
     let u = appear-up a in
     ap (λ (ys : List Name). adds ys (map f ks)) (add-known f m k (λ i j x y. d i j x (omega arith)) h) ∙ adds-appear f d a
-adds-appear f {m} {n} d (first-time {ks = ks} a) =
+adds-appear f {m} {n} d (first_time {ks = ks} a) =
     let u = appear-up a in
     ap (λ (ys : List Name). adds ys (map f ks)) (add-new f m (λ i j x y. d i j x (omega arith))) ∙ adds-appear f d a

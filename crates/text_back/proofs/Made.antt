@@ -12,17 +12,17 @@ use Rattle.load.proofs.Accepted.{accepted, ClauseRight, Right}
 use Rattle.load.proofs.Inside.{ask-fields, clause-fields}
 use Rattle.parlog.proofs.Along.{along-add, list_length}
 use Rattle.parlog.proofs.Bools.{and-true, split}
-use Rattle.parlog.specs.Body.{clauseBody, goalRange, literalCount, modeRange, modesRange, relationBody, stageRange, stagesRange}
-use Rattle.parlog.specs.Image.{body_at, guardAt, literalEnd, modeEnd, stageEnd, termAt, termEnd}
+use Rattle.parlog.specs.Body.{clause_body, goal_range, literal_count, mode_range, modes_range, relation_body, stage_range, stages_range}
+use Rattle.parlog.specs.Image.{body_at, guard_at, literal_end, mode_end, stage_end, term_at, term_end}
 use Rattle.parlog.specs.Load.{load_of}
-use Rattle.parlog.specs.Names.{clauseInside, goalNamed, literalNamed, relationNamed, stageNamed, termsNamed}
+use Rattle.parlog.specs.Names.{clause_inside, goal_named, literal_named, relation_named, stage_named, terms_named}
 use Rattle.parlog.specs.Orders.{Each}
-use Rattle.parlog.specs.Program.{Clause, clauseOf, goalOf, literalOf, modesOf, program_of, stageOf}
-use Rattle.parlog.specs.Records.{byte_at, kindAt, recordAt, recordEnd}
+use Rattle.parlog.specs.Program.{Clause, clause_of, goal_of, literal_of, modes_of, program_of, stage_of}
+use Rattle.parlog.specs.Records.{byte_at, kind_at, record_at, record_end}
 use Rattle.parlog.specs.Scan.{along, each, list_of}
 use Rattle.parlog.specs.declared.Loaded.TheVariants.{Accepted}
 use Rattle.refusals.proofs.Exactly.{accepted-right}
-use Rattle.refusals.specs.Right.{ClauseNamed, recordKind, relationIn, RightImage}
+use Rattle.refusals.specs.Right.{ClauseNamed, record_kind, relation_in, RightImage}
 use Rattle.text_back.proofs.Lines.{ModeOk}
 use Rattle.text_back.proofs.Numbers.{ClauseMade, GoalMade, LiteralMade, Made, MarkBehind, MarksBehind, MarksMade}
 use Rattle.text_back.proofs.Rows.{RowOk}
@@ -51,82 +51,82 @@ row-tested P f read next h (suc n) at l e = each-tested P f f read next (λ i a 
 module _ (s : List ℕ) where
   -- ---- relations
 
-  modes-made : (at : ℕ) → relationBody s at ≡ true → Each ModeOk (modesOf s at)
-  unfolding relationBody modesOf
+  modes-made : (at : ℕ) → relation_body s at ≡ true → Each ModeOk (modes_of s at)
+  unfolding relation_body modes_of
   modes-made at e =
       let n = byte_at s (at + 4) in
-      let a = and-true (leb n 4) (modesRange s n (at + 5) && eqb (at + 5 + n) (recordEnd s at)) e in
-      let b = and-true (modesRange s n (at + 5)) (eqb (at + 5 + n) (recordEnd s at)) a.1 in
-      each-tested ModeOk (modeRange s) (modeRange s) (byte_at s) modeEnd (λ i x y. leb-true (byte_at s i) 1 x) n (at + 5) b.0 b.0
+      let a = and-true (leb n 4) (modes_range s n (at + 5) && eqb (at + 5 + n) (record_end s at)) e in
+      let b = and-true (modes_range s n (at + 5)) (eqb (at + 5 + n) (record_end s at)) a.1 in
+      each-tested ModeOk (mode_range s) (mode_range s) (byte_at s) mode_end (λ i x y. leb-true (byte_at s i) 1 x) n (at + 5) b.0 b.0
 
   -- ---- goals
 
   module _ (r vars : ℕ) where
-    relation-known : (q a : ℕ) → relationNamed s r q a ≡ true → q < r
-    unfolding relationNamed
+    relation-known : (q a : ℕ) → relation_named s r q a ≡ true → q < r
+    unfolding relation_named
     relation-known q a e = ltb-true q r (and-true (ltb q r) _ e).0
 
-    literal-made : (at : ℕ) → literalNamed s r vars at ≡ true → LiteralMade r (literalOf s at)
-    unfolding literalNamed literalOf
+    literal-made : (at : ℕ) → literal_named s r vars at ≡ true → LiteralMade r (literal_of s at)
+    unfolding literal_named literal_of
     literal-made at e =
         let q = byte_at s at in
         let a = byte_at s (at + 1) in
-        let w = (and-true (cond (eqb q 255) (eqb a 2) (relationNamed s r q a)) (termsNamed s vars a (at + 2)) e).0 in
+        let w = (and-true (cond (eqb q 255) (eqb a 2) (relation_named s r q a)) (terms_named s vars a (at + 2)) e).0 in
         record {
-          pair = λ z. list_length (termAt s) termEnd a (at + 2) ∙ eqb-true a 2 (rw (eq-eqb q 255 z) at w);
+          pair = λ z. list_length (term_at s) term_end a (at + 2) ∙ eqb-true a 2 (rw (eq-eqb q 255 z) at w);
           known = λ z. relation-known q a (rw (ne_eqb q 255 z) at w);
         }
 
-    stage-made : (at : ℕ) → stageRange s at ≡ true → stageNamed s r vars at ≡ true → RowOk (LiteralMade r) (stageOf s at)
-    unfolding stageRange stageOf
+    stage-made : (at : ℕ) → stage_range s at ≡ true → stage_named s r vars at ≡ true → RowOk (LiteralMade r) (stage_of s at)
+    unfolding stage_range stage_of
     stage-made at d e =
         let n = byte_at s at in
-        row-tested (LiteralMade r) (literalNamed s r vars) (literalOf s) (literalEnd s) literal-made n (at + 1) (leb-true 1 n (and-true (leb 1 n) _ d).0) e
+        row-tested (LiteralMade r) (literal_named s r vars) (literal_of s) (literal_end s) literal-made n (at + 1) (leb-true 1 n (and-true (leb 1 n) _ d).0) e
 
-    goal-made : (at : ℕ) → goalRange s at ≡ true → goalNamed s r vars at ≡ true → GoalMade r (goalOf s at)
-    unfolding goalRange goalNamed goalOf
+    goal-made : (at : ℕ) → goal_range s at ≡ true → goal_named s r vars at ≡ true → GoalMade r (goal_of s at)
+    unfolding goal_range goal_named goal_of
     goal-made at d e =
         let n = byte_at s at in
-        let a = and-true (leb n 8) (stagesRange s n (at + 1) && leb (literalCount s n (at + 1)) 8) d in
-        let b = and-true (stagesRange s n (at + 1)) (leb (literalCount s n (at + 1)) 8) a.1 in
-        each-tested (RowOk (LiteralMade r)) (stageRange s) (stageNamed s r vars) (stageOf s) (stageEnd s) stage-made n (at + 1) b.0 e
+        let a = and-true (leb n 8) (stages_range s n (at + 1) && leb (literal_count s n (at + 1)) 8) d in
+        let b = and-true (stages_range s n (at + 1)) (leb (literal_count s n (at + 1)) 8) a.1 in
+        each-tested (RowOk (LiteralMade r)) (stage_range s) (stage_named s r vars) (stage_of s) (stage_end s) stage-made n (at + 1) b.0 e
 
   -- ---- clauses
 
-  clause-made : (r at : ℕ) → ClauseRight s r at → ClauseMade r (clauseOf s at)
-  unfolding clauseOf clauseInside
+  clause-made : (r at : ℕ) → ClauseRight s r at → ClauseMade r (clause_of s at)
+  unfolding clause_of clause_inside
   clause-made r at p =
       let v = byte_at s (at + 7) in
       let f = clause-fields s at p.body in
-      let a = and-true (termsNamed s v (byte_at s (at + 5)) (at + 8)) (goalNamed s r v (guardAt s at) && goalNamed s r v (body_at s at)) p.names in
-      let b = and-true (goalNamed s r v (guardAt s at)) (goalNamed s r v (body_at s at)) a.1 in
+      let a = and-true (terms_named s v (byte_at s (at + 5)) (at + 8)) (goal_named s r v (guard_at s at) && goal_named s r v (body_at s at)) p.names in
+      let b = and-true (goal_named s r v (guard_at s at)) (goal_named s r v (body_at s at)) a.1 in
       record {
         known = relation-known r v (byte_at s (at + 4)) (byte_at s (at + 5)) p.head;
         vars = f.vars;
-        guard = goal-made r v (guardAt s at) f.guard b.0;
+        guard = goal-made r v (guard_at s at) f.guard b.0;
         body = goal-made r v (body_at s at) f.body b.1;
       }
 
-  mark-small : (at : ℕ) → clauseBody s at ≡ true → byte_at s (at + 6) ≤ 1
-  unfolding clauseBody
+  mark-small : (at : ℕ) → clause_body s at ≡ true → byte_at s (at + 6) ≤ 1
+  unfolding clause_body
   mark-small at e = leb-true (byte_at s (at + 6)) 1 (and-true (leb (byte_at s (at + 6)) 1) _ (and-true (leb (byte_at s (at + 5)) 4) _ e).1).0
 
   -- ---- marks
 
-  behind-listed : (n at : ℕ) (b : Clause) → (0 < n → MarkBehind b (clauseOf s at)) → ((i : ℕ) → suc i < n → MarkBehind (clauseOf s (along (recordEnd s) i at)) (clauseOf s (along (recordEnd s) (suc i) at)))
-      → MarksBehind b (list_of (clauseOf s) (recordEnd s) n at)
+  behind-listed : (n at : ℕ) (b : Clause) → (0 < n → MarkBehind b (clause_of s at)) → ((i : ℕ) → suc i < n → MarkBehind (clause_of s (along (record_end s) i at)) (clause_of s (along (record_end s) (suc i) at)))
+      → MarksBehind b (list_of (clause_of s) (record_end s) n at)
   unfolding list_of along
   behind-listed zero at b g h = tt
-  behind-listed (suc n) at b g h = (g (omega arith), behind-listed n (recordEnd s at) (clauseOf s at) (λ l. h 0 (omega arith)) (λ i l. h (suc i) (omega arith)))
+  behind-listed (suc n) at b g h = (g (omega arith), behind-listed n (record_end s at) (clause_of s at) (λ l. h 0 (omega arith)) (λ i l. h (suc i) (omega arith)))
 
-  marks-listed : (n at : ℕ) → (0 < n → (clauseOf s at).mark ≡ 0) → ((i : ℕ) → suc i < n → MarkBehind (clauseOf s (along (recordEnd s) i at)) (clauseOf s (along (recordEnd s) (suc i) at)))
-      → MarksMade (list_of (clauseOf s) (recordEnd s) n at)
+  marks-listed : (n at : ℕ) → (0 < n → (clause_of s at).mark ≡ 0) → ((i : ℕ) → suc i < n → MarkBehind (clause_of s (along (record_end s) i at)) (clause_of s (along (record_end s) (suc i) at)))
+      → MarksMade (list_of (clause_of s) (record_end s) n at)
   unfolding list_of along
   marks-listed zero at g h = tt
-  marks-listed (suc n) at g h = (g (omega arith), behind-listed n (recordEnd s at) (clauseOf s at) (λ l. h 0 (omega arith)) (λ i l. h (suc i) (omega arith)))
+  marks-listed (suc n) at g h = (g (omega arith), behind-listed n (record_end s at) (clause_of s at) (λ l. h 0 (omega arith)) (λ i l. h (suc i) (omega arith)))
 
   module _ (r c : ℕ) (R : Right s r c) (I : RightImage s r c) where
-    past_end : (x : ℕ) → length s ≤ x → kindAt s x ≡ 0
+    past_end : (x : ℕ) → length s ≤ x → kind_at s x ≡ 0
     past_end x h =
         let a = get_or-eq_default s 0 {n = x + 2} (omega arith) in
         let b = get_or-eq_default s 0 {n = x + 2 + 1} (omega arith) in
@@ -139,25 +139,25 @@ module _ (s : List ℕ) where
         outside l =
             let d = r + i - I.count in
             let z : I.count + d ≡ r + i = omega arith in
-            let a : along (recordEnd s) d (recordAt s I.count) ≡ recordAt s (r + i) = (rw z at (along-add (recordEnd s) d I.count 0)) in
-            let u = along-up (recordEnd s) (λ at. omega arith) d (recordAt s I.count) in
+            let a : along (record_end s) d (record_at s I.count) ≡ record_at s (r + i) = (rw z at (along-add (record_end s) d I.count 0)) in
+            let u = along-up (record_end s) (λ at. omega arith) d (record_at s I.count) in
             let e = I.ends in
-            let k = past_end (recordAt s (r + i)) (omega arith) in
+            let k = past_end (record_at s (r + i)) (omega arith) in
             let q = (R.clause i h).kind in
             omega arith
 
-    clause-names : (i : ℕ) → i < c → ClauseNamed s (r + i) (byte_at s (recordAt s (r + i) + 7))
+    clause-names : (i : ℕ) → i < c → ClauseNamed s (r + i) (byte_at s (record_at s (r + i) + 7))
     clause-names i h = (I.right (r + i) (in_count i h)).names.clause (R.clause i h).kind
 
-    first-mark : 0 < c → byte_at s (recordAt s r + 6) ≡ 0
+    first-mark : 0 < c → byte_at s (record_at s r + 6) ≡ 0
     first-mark h =
         let z : r + 0 ≡ r = omega arith in
         (rw z at ((clause-names 0 h).first (λ j l q. let k = (R.relation j (omega arith)).kind in absurd (omega arith))))
 
-    mark-behind : (i : ℕ) → suc i < c → (byte_at s (recordAt s (r + suc i) + 6) ≡ 0) ⊎ ((byte_at s (recordAt s (r + suc i) + 6) ≡ 1) × (relationIn s (r + i) ≡ relationIn s (r + suc i)))
+    mark-behind : (i : ℕ) → suc i < c → (byte_at s (record_at s (r + suc i) + 6) ≡ 0) ⊎ ((byte_at s (record_at s (r + suc i) + 6) ≡ 1) × (relation_in s (r + i) ≡ relation_in s (r + suc i)))
     mark-behind i h =
-        let m = byte_at s (recordAt s (r + suc i) + 6) in
-        let small = mark-small (recordAt s (r + suc i)) (R.clause (suc i) h).body in
+        let m = byte_at s (record_at s (r + suc i) + 6) in
+        let small = mark-small (record_at s (r + suc i)) (R.clause (suc i) h).body in
         let before = clause-names i (omega arith) in
         let here = clause-names (suc i) h in
         let up = here.order (r + i) (omega arith) (R.clause i (omega arith)).kind in
@@ -165,8 +165,8 @@ module _ (s : List ℕ) where
         (λ e. let one : m ≡ 1 = (let n = eqb-false m 0 e in small_one m small n) in
         inr (
           one,
-          split (eqb (relationIn s (r + i)) (relationIn s (r + suc i))) (λ f. eqb-true (relationIn s (r + i)) (relationIn s (r + suc i)) f)
-              (λ f. let other = eqb-false (relationIn s (r + i)) (relationIn s (r + suc i)) f in
+          split (eqb (relation_in s (r + i)) (relation_in s (r + suc i))) (λ f. eqb-true (relation_in s (r + i)) (relation_in s (r + suc i)) f)
+              (λ f. let other = eqb-false (relation_in s (r + i)) (relation_in s (r + suc i)) f in
               let zero-mark = here.first (λ j l q w. none j l q w before other) in
               absurd (let x : m ≡ 0 = zero-mark in omega arith)),
         ))
@@ -176,7 +176,7 @@ module _ (s : List ℕ) where
         small_one (suc zero) l n = refl
         small_one (suc (suc m)) l n = absurd (omega arith)
 
-        none : (j : ℕ) → j < r + suc i → recordKind s j ≡ 2 → relationIn s j ≡ relationIn s (r + suc i) → ClauseNamed s (r + i) (byte_at s (recordAt s (r + i) + 7)) → (relationIn s (r + i) ≡ relationIn s (r + suc i) → ⊥) → ⊥
+        none : (j : ℕ) → j < r + suc i → record_kind s j ≡ 2 → relation_in s j ≡ relation_in s (r + suc i) → ClauseNamed s (r + i) (byte_at s (record_at s (r + i) + 7)) → (relation_in s (r + i) ≡ relation_in s (r + suc i) → ⊥) → ⊥
         none j l q w before other =
             let here = clause-names (suc i) h in
             let up = here.order (r + i) (omega arith) (R.clause i (omega arith)).kind in
@@ -184,19 +184,19 @@ module _ (s : List ℕ) where
             (λ e. let b = before.order j (ltb-true j (r + i) e) q in other (omega arith))
             (λ e. let g = ltb-false j (r + i) e in let z : j ≡ r + i = omega arith in other (rw z at w))
 
-    marks-made : MarksMade (list_of (clauseOf s) (recordEnd s) c (recordAt s r))
-    unfolding clauseOf
-    marks-made = marks-listed c (recordAt s r) first-mark (λ i h. rw (along-add (recordEnd s) i r 0, along-add (recordEnd s) (suc i) r 0) (mark-behind i h))
+    marks-made : MarksMade (list_of (clause_of s) (record_end s) c (record_at s r))
+    unfolding clause_of
+    marks-made = marks-listed c (record_at s r) first-mark (λ i h. rw (along-add (record_end s) i r 0, along-add (record_end s) (suc i) r 0) (mark-behind i h))
 
     program-made : Made (program_of s r c)
     unfolding program_of
     program-made =
-        let z = list_length (modesOf s) (recordEnd s) r 0 in
-        let a = recordAt s (r + c) in
+        let z = list_length (modes_of s) (record_end s) r 0 in
+        let a = record_at s (r + c) in
         let f = ask-fields s a R.goal.body in
         record {
-          modes = each-listed (Each ModeOk) (modesOf s) (recordEnd s) r 0 (λ i h. modes-made (recordAt s i) (R.relation i h).body);
-          clauses = rw z (each-listed (ClauseMade r) (clauseOf s) (recordEnd s) c (recordAt s r) (λ i h. rw (along-add (recordEnd s) i r 0) (clause-made r (recordAt s (r + i)) (R.clause i h))));
+          modes = each-listed (Each ModeOk) (modes_of s) (record_end s) r 0 (λ i h. modes-made (record_at s i) (R.relation i h).body);
+          clauses = rw z (each-listed (ClauseMade r) (clause_of s) (record_end s) c (record_at s r) (λ i h. rw (along-add (record_end s) i r 0) (clause-made r (record_at s (r + i)) (R.clause i h))));
           marks = marks-made;
           vars = f.vars;
           goal = rw z (goal-made r (byte_at s (a + 4)) (a + 5) f.goal R.goal.names);

@@ -9,10 +9,10 @@ use borrow.Author.Tests.{ne_eqb}
 use native.Mathlib.Omega.{arith}
 use Rattle.parlog.proofs.Bools.{and-true, never}
 use Rattle.parlog.specs.Orders.{Each}
-use Rattle.text_back.proofs.Begin.{allName, back-of, end-no-name, first_of, front_of, Lower, lower-spelt}
+use Rattle.text_back.proofs.Begin.{all_name, back-of, end-no-name, first_of, front_of, Lower, lower-spelt}
 use Rattle.text_back.specs.Back.{firsts}
-use Rattle.text_names.specs.Bytes.{front, isName}
-use Rattle.text_names.specs.Entries.{behindEntry, entries, entryFrom, entryName, isEntry}
+use Rattle.text_names.specs.Bytes.{front, is_name}
+use Rattle.text_names.specs.Entries.{behind_entry, entries, entry_from, entry_name, is_entry}
 use Rattle.text_names.specs.Names.{Name}
 
 -- ---- lists
@@ -32,15 +32,15 @@ firsts-all f xs e = firsts-of f xs (length xs) (omega arith) e ∙ take-length x
 
 -- ---- an entry
 
-behind-name : (x s : List ℕ) → allName x ≡ true → behindEntry (x ++ (10 ∷ s)) ≡ s
-unfolding behindEntry allName
+behind-name : (x s : List ℕ) → all_name x ≡ true → behind_entry (x ++ (10 ∷ s)) ≡ s
+unfolding behind_entry all_name
 behind-name [] s e = refl
 behind-name (b ∷ x) s e =
-    let w = and-true (isName b) (allName x) e in
-    rw (ne_eqb b 10 (λ z. never (sym end-no-name ∙ ap isName (sym z) ∙ w.0))) (behind-name x s w.1)
+    let w = and-true (is_name b) (all_name x) e in
+    rw (ne_eqb b 10 (λ z. never (sym end-no-name ∙ ap is_name (sym z) ∙ w.0))) (behind-name x s w.1)
 
-entry-from : (xs : List Name) (k : ℕ) → Each Lower xs → k < length xs → entryFrom (entries xs) k ≡ get_or xs k [] ++ (10 ∷ entries (drop (suc k) xs))
-unfolding entries entryFrom
+entry-from : (xs : List Name) (k : ℕ) → Each Lower xs → k < length xs → entry_from (entries xs) k ≡ get_or xs k [] ++ (10 ∷ entries (drop (suc k) xs))
+unfolding entries entry_from
 entry-from [] k e h = absurd (omega arith)
 entry-from (x ∷ xs) zero e h = refl
 entry-from (x ∷ xs) (suc k) e h = rw (behind-name x (entries xs) e.0.all) (entry-from xs k e.1 (omega arith))
@@ -56,11 +56,11 @@ module _ (xs : List Name) (lowers : Each Lower xs) (k : ℕ) (h : k < length xs)
   lower = each_at Lower [] xs k lowers h
 
   -- THE LAW: entry k is name k
-  pub entry-name : entryName (entries xs) k ≡ x
+  pub entry-name : entry_name (entries xs) k ≡ x
   entry-name = ap front (entry-from xs k lowers h) ∙ front_of x rest lower.all end-no-name
 
-  pub entry-is : isEntry (entries xs) k ≡ true
-  unfolding isEntry
+  pub entry-is : is_entry (entries xs) k ≡ true
+  unfolding is_entry
   entry-is =
       let p = lower-spelt x lower in
       rw (entry-from xs k lowers h, first_of x rest p, lower.small, back-of x rest lower.all end-no-name)

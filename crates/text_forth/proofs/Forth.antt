@@ -18,11 +18,11 @@ use Rattle.text_back.proofs.Firsts.{appear-below, Below}
 use Rattle.text_back.proofs.Made.{accepted-made}
 use Rattle.text_back.proofs.Named.{ConstantNamed, program-named}
 use Rattle.text_back.proofs.Numbers.{each-also, each-join, Made}
-use Rattle.text_back.specs.Back.{constantsIn, Distinct, firsts, namesUsed, PrintsBack, termsOf, VariablesAppear}
+use Rattle.text_back.specs.Back.{constants_in, Distinct, firsts, names_used, PrintsBack, terms_of, VariablesAppear}
 use Rattle.text_forth.proofs.Entered.{entry-is, entry-name, firsts-all}
 use Rattle.text_forth.proofs.Followed.{ClauseSpelt, ModeSpelt, SourceSpelt, text-spelt}
 use Rattle.text_forth.proofs.Follows.{GoalSpelt, SaidSpelt}
-use Rattle.text_forth.proofs.Named.{clauses-appear, constants-appear, goal-appears}
+use Rattle.text_forth.proofs.Named.{clauses-appear, constants_appear, goal_appears}
 use Rattle.text_forth.proofs.Ordered.{adds-each, lowers-lower, none-unique, once-distinct, Unique, unique-adds, unique-distinct}
 use Rattle.text_forth.specs.Forth.{ParsePrint, PrintsAgain}
 use Rattle.text_loads.proofs.Counted.{counted}
@@ -30,38 +30,38 @@ use Rattle.text_loads.proofs.Fitting.{program-relations}
 use Rattle.text_loads.proofs.Parsed.{parses, source-loads}
 use Rattle.text_loads.proofs.Walked.{once-each, text-loads}
 use Rattle.text_loads.specs.Loads.{TextLoads}
-use Rattle.text_names.specs.Entries.{entries, entryName, isEntry}
+use Rattle.text_names.specs.Entries.{entries, entry_name, is_entry}
 use Rattle.text_names.specs.Names.{Name}
-use Rattle.text_program.specs.Encoded.{programBytes}
-use Rattle.text_program.specs.Numbered.{clauseTerms, constantNames, goalTerms, joined, lowers, programIn, relationNames, saidTerms}
-use Rattle.text_program.specs.Parsing.{imageIn, namesIn, parseCall, recordsIn}
-use Rattle.text_program.specs.Printing.{printCall, programText}
+use Rattle.text_program.specs.Encoded.{program_bytes}
+use Rattle.text_program.specs.Numbered.{clause_terms, constant_names, goal_terms, joined, lowers, program_in, relation_names, said_terms}
+use Rattle.text_program.specs.Parsing.{image_in, names_in, parse_call, records_in}
+use Rattle.text_program.specs.Printing.{print_call, program_text}
 use Rattle.text_program.specs.Source.{ModeLine, Said, SaidClause, Source, source_of}
 
 -- ---- the terms of a text are spelt
 
-spelt-goal : (g : List (List Said)) → GoalSpelt g → Each Spelt (goalTerms g)
+spelt-goal : (g : List (List Said)) → GoalSpelt g → Each Spelt (goal_terms g)
 unfolding joined
 spelt-goal [] e = tt
-spelt-goal (st ∷ g) e = each-join Spelt (joined saidTerms st) (goalTerms g) (go st e.0) (spelt-goal g e.1)
+spelt-goal (st ∷ g) e = each-join Spelt (joined said_terms st) (goal_terms g) (go st e.0) (spelt-goal g e.1)
   where
-    go : (st : List Said) → Each SaidSpelt st → Each Spelt (joined saidTerms st)
+    go : (st : List Said) → Each SaidSpelt st → Each Spelt (joined said_terms st)
     go [] e = unfold joined in tt
-    go (l ∷ ls) e = unfold joined in each-join Spelt (saidTerms l) (joined saidTerms ls) e.0 (go ls e.1)
+    go (l ∷ ls) e = unfold joined in each-join Spelt (said_terms l) (joined said_terms ls) e.0 (go ls e.1)
 
-spelt-clause : (c : SaidClause) → ClauseSpelt c → Each Spelt (clauseTerms c)
-spelt-clause c e = each-join Spelt c.terms (goalTerms c.guard ++ goalTerms c.body) e.terms (each-join Spelt (goalTerms c.guard) (goalTerms c.body) (spelt-goal c.guard e.guard) (spelt-goal c.body e.body))
+spelt-clause : (c : SaidClause) → ClauseSpelt c → Each Spelt (clause_terms c)
+spelt-clause c e = each-join Spelt c.terms (goal_terms c.guard ++ goal_terms c.body) e.terms (each-join Spelt (goal_terms c.guard) (goal_terms c.body) (spelt-goal c.guard e.guard) (spelt-goal c.body e.body))
 
-spelt-clauses : (cs : List SaidClause) → Each ClauseSpelt cs → Each Spelt (joined clauseTerms cs)
+spelt-clauses : (cs : List SaidClause) → Each ClauseSpelt cs → Each Spelt (joined clause_terms cs)
 unfolding joined
 spelt-clauses [] e = tt
-spelt-clauses (c ∷ cs) e = each-join Spelt (clauseTerms c) (joined clauseTerms cs) (spelt-clause c e.0) (spelt-clauses cs e.1)
+spelt-clauses (c ∷ cs) e = each-join Spelt (clause_terms c) (joined clause_terms cs) (spelt-clause c e.0) (spelt-clauses cs e.1)
 
-constants-lower : (p : Source) → SourceSpelt p → Each Lower (constantNames p)
-unfolding constantNames
+constants-lower : (p : Source) → SourceSpelt p → Each Lower (constant_names p)
+unfolding constant_names
 constants-lower p e =
-    let ts = joined clauseTerms p.clauses ++ goalTerms p.goal in
-    adds-each Lower (lowers ts) [] tt (lowers-lower ts (each-join Spelt (joined clauseTerms p.clauses) (goalTerms p.goal) (spelt-clauses p.clauses e.clauses) (spelt-goal p.goal e.goal)))
+    let ts = joined clause_terms p.clauses ++ goal_terms p.goal in
+    adds-each Lower (lowers ts) [] tt (lowers-lower ts (each-join Spelt (joined clause_terms p.clauses) (goal_terms p.goal) (spelt-clauses p.clauses e.clauses) (spelt-goal p.goal e.goal)))
 
 relations-lower : (ms : List ModeLine) → Each ModeSpelt ms → Each Lower (map (λ (m : ModeLine). m.name) ms)
 relations-lower [] e = tt
@@ -69,12 +69,12 @@ relations-lower (m ∷ ms) e = (e.0, relations-lower ms e.1)
 
 -- ---- of a source whose image loads
 
-module _ (p : Source) (spelt : SourceSpelt p) (r c : ℕ) (passes : recordsIn (relationNames p) (imageIn p) ≡ Accepted r c) (short : long (imageIn p) ≡ false) where
+module _ (p : Source) (spelt : SourceSpelt p) (r c : ℕ) (passes : records_in (relation_names p) (image_in p) ≡ Accepted r c) (short : long (image_in p) ≡ false) where
   abbrev rels : List Name
-  rels = relationNames p
+  rels = relation_names p
 
   abbrev consts : List Name
-  consts = constantNames p
+  consts = constant_names p
 
   abbrev nm : List ℕ
   nm = entries (rels ++ consts)
@@ -83,16 +83,16 @@ module _ (p : Source) (spelt : SourceSpelt p) (r c : ℕ) (passes : recordsIn (r
   n = length consts
 
   abbrev pr : Program
-  pr = programIn p
+  pr = program_in p
 
   abbrev k : ℕ
   k = length pr.relations
 
-  loads : TextLoads (imageIn p) p
+  loads : TextLoads (image_in p) p
   loads = source-loads p r c passes short
 
   made : Made pr
-  made = rw loads.means at (accepted-made (imageIn p) (length p.modes) (length p.clauses) loads.loads)
+  made = rw loads.means at (accepted-made (image_in p) (length p.modes) (length p.clauses) loads.loads)
 
   as_many : k ≡ length rels
   as_many = program-relations p ∙ sym (length-map p.modes (λ (m : ModeLine). m.name))
@@ -103,65 +103,65 @@ module _ (p : Source) (spelt : SourceSpelt p) (r c : ℕ) (passes : recordsIn (r
   in_all : length (rels ++ consts) ≡ length rels + n
   in_all = length-append rels consts
 
-  relation-name : (i : ℕ) → i < length rels → entryName nm i ≡ get_or rels i []
+  relation-name : (i : ℕ) → i < length rels → entry_name nm i ≡ get_or rels i []
   relation-name i h = let l = in_all in entry-name (rels ++ consts) all-lower i (omega arith) ∙ get_or-append rels consts [] i h
 
-  constant-name : (i : ℕ) → i < n → entryName nm (k + i) ≡ get_or consts i []
+  constant-name : (i : ℕ) → i < n → entry_name nm (k + i) ≡ get_or consts i []
   constant-name i h = let l = in_all in rw as_many (entry-name (rels ++ consts) all-lower (length rels + i) (omega arith) ∙ get_or-append-add rels consts i [])
 
-  relation-is : (i : ℕ) → i < k → isEntry nm i ≡ true
+  relation-is : (i : ℕ) → i < k → is_entry nm i ≡ true
   relation-is i h = let l = in_all in let e = as_many in entry-is (rels ++ consts) all-lower i (omega arith)
 
-  constant-is : (i : ℕ) → i < n → isEntry nm (k + i) ≡ true
+  constant-is : (i : ℕ) → i < n → is_entry nm (k + i) ≡ true
   constant-is i h = let l = in_all in let e = as_many in entry-is (rels ++ consts) all-lower (k + i) (omega arith)
 
   accepted-relations : r ≡ length rels
   accepted-relations = (counted pr r c (loaded-first)).0 ∙ as_many
     where
-      loaded-first : load_of (programBytes pr) ≡ Accepted r c
-      loaded-first = unfold imageIn in text-loads (relationNames p) (programBytes (programIn p)) r c passes short
+      loaded-first : load_of (program_bytes pr) ≡ Accepted r c
+      loaded-first = unfold image_in in text-loads (relation_names p) (program_bytes (program_in p)) r c passes short
 
-  relations-distinct : Distinct (entryName nm) k
+  relations-distinct : Distinct (entry_name nm) k
   relations-distinct i j h l e =
       let z = as_many in
       let y = accepted-relations in
-      once-distinct rels (λ q g. once-each rels (imageIn p) r c q (omega arith) passes) i j h (omega arith) (sym (relation-name i (omega arith)) ∙ e ∙ relation-name j (omega arith))
+      once-distinct rels (λ q g. once-each rels (image_in p) r c q (omega arith) passes) i j h (omega arith) (sym (relation-name i (omega arith)) ∙ e ∙ relation-name j (omega arith))
 
-  constants-distinct : Distinct (λ c. entryName nm (k + c)) n
+  constants-distinct : Distinct (λ c. entry_name nm (k + c)) n
   constants-distinct i j h l e = unique-distinct consts all-unique i j h l (sym (constant-name i (omega arith)) ∙ e ∙ constant-name j l)
     where
       all-unique : Unique consts
-      all-unique = unfold constantNames in unique-adds (lowers (joined clauseTerms p.clauses ++ goalTerms p.goal)) [] none-unique
+      all-unique = unfold constant_names in unique-adds (lowers (joined clause_terms p.clauses ++ goal_terms p.goal)) [] none-unique
 
   clauses-in-order : Each VariablesAppear pr.clauses
-  unfolding programIn
+  unfolding program_in
   clauses-in-order = clauses-appear p p.clauses
 
   fits : PrintsBack nm pr n
   fits = record {
-    named = program-named nm pr made relation-is (each-also (Below n) (Below n) (ConstantNamed k nm) (λ i h g. constant-is i h) (constantsIn (termsOf pr)) (appear-below (constants-appear p)) (appear-below (constants-appear p)));
+    named = program-named nm pr made relation-is (each-also (Below n) (Below n) (ConstantNamed k nm) (λ i h g. constant-is i h) (constants_in (terms_of pr)) (appear-below (constants_appear p)) (appear-below (constants_appear p)));
     relations = relations-distinct;
     constants = constants-distinct;
-    constants-appear = constants-appear p;
-    variables-appear = clauses-in-order;
-    goal-appears = goal-appears p;
+    constants_appear = constants_appear p;
+    variables_appear = clauses-in-order;
+    goal_appears = goal_appears p;
   }
 
-  used-are : namesUsed nm k n ≡ nm
+  used-are : names_used nm k n ≡ nm
   used-are =
-      let a : firsts (entryName nm) k ≡ rels = rw as_many (firsts-all (entryName nm) rels relation-name) in
-      let b : firsts (λ c. entryName nm (k + c)) n ≡ consts = firsts-all (λ c. entryName nm (k + c)) consts constant-name in
+      let a : firsts (entry_name nm) k ≡ rels = rw as_many (firsts-all (entry_name nm) rels relation-name) in
+      let b : firsts (λ c. entry_name nm (k + c)) n ≡ consts = firsts-all (λ c. entry_name nm (k + c)) consts constant-name in
       rw (a, b)
 
-  image-loads : load_of (programBytes pr) ≡ Accepted k (length p.clauses)
-  unfolding imageIn
+  image-loads : load_of (program_bytes pr) ≡ Accepted k (length p.clauses)
+  unfolding image_in
   image-loads = rw (program-relations p) loads.loads
 
   -- THE LAW: over sources
-  pub source-again : PrintsAgain (imageIn p) (namesIn p)
-  unfolding imageIn namesIn printCall
+  pub source-again : PrintsAgain (image_in p) (names_in p)
+  unfolding image_in names_in print_call
   source-again = record {
-    text = programText nm pr;
+    text = program_text nm pr;
     printed = λ row. rw (loads.loads, loads.means, fits.named);
     parsed = λ image names g h. (rw used-are at (parsed-again nm pr n made fits (length p.clauses) image names image-loads g (rw used-are h)));
   }
@@ -171,8 +171,8 @@ unfolding written
 parse-print image names text n m e =
     let w = parses image names text n m e in
     let p = source_of text in
-    let x = imageIn p in
-    let y = namesIn p in
-    let f : take n (parseCall image names text).image ≡ x = ap (take n) w.image-row ∙ ap (λ (k : ℕ). take k (written x image)) w.image-size ∙ take-append_seam x (drop (length x) image) in
-    let g : take m (parseCall image names text).names ≡ y = ap (take m) w.names-row ∙ ap (λ (k : ℕ). take k (written y names)) w.names-size ∙ take-append_seam y (drop (length y) names) in
+    let x = image_in p in
+    let y = names_in p in
+    let f : take n (parse_call image names text).image ≡ x = ap (take n) w.image-row ∙ ap (λ (k : ℕ). take k (written x image)) w.image_size ∙ take-append_seam x (drop (length x) image) in
+    let g : take m (parse_call image names text).names ≡ y = ap (take m) w.names-row ∙ ap (λ (k : ℕ). take k (written y names)) w.names_size ∙ take-append_seam y (drop (length y) names) in
     rw (f, g) (source-again p (text-spelt text (accepted-right text w.spells)) w.relations w.clauses w.passes w.short)

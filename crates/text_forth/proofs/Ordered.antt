@@ -12,12 +12,12 @@ use Rattle.parlog.proofs.Scans.{below_suc}
 use Rattle.parlog.specs.Orders.{Each}
 use Rattle.text_back.proofs.Begin.{Lower, or_cases, Spelt}
 use Rattle.text_back.proofs.Numbers.{each-join}
-use Rattle.text_back.specs.Back.{Appear, Distinct, first-time, met-before, no_more}
+use Rattle.text_back.specs.Back.{Appear, Distinct, first_time, met_before, no_more}
 use Rattle.text_names.proofs.Added.{add-fresh, add-old, look-adds}
 use Rattle.text_names.proofs.Looked.{known-own, look-front, look-here, look-within, not_known}
-use Rattle.text_names.specs.Bytes.{first, isCapital, isSmall}
+use Rattle.text_names.specs.Bytes.{first, is_capital, is_small}
 use Rattle.text_names.specs.Names.{add, adds, known, look, Name}
-use Rattle.text_program.specs.Numbered.{isUpper, lowers}
+use Rattle.text_program.specs.Numbered.{is_upper, lowers}
 use Rattle.text_program.specs.Parsing.{repeated}
 
 -- ---- one name more
@@ -36,13 +36,13 @@ step-old ys x xs e a =
     let h = ltb-true (look ys x) (length ys) e in
     let k = (look-adds xs ys x e).0 in
     let q : look (adds ys xs) x < length ys = omega arith in
-    met-before q a
+    met_before q a
 
 step-fresh : (ys : List Name) (x : Name) (xs : List Name) → known ys x ≡ false → (let zs = adds (ys ++ (x ∷ [])) xs in Appear (length (ys ++ (x ∷ []))) (length zs) (map (look zs) xs) → Appear (length ys) (length zs) (map (look zs) (x ∷ xs)))
 step-fresh ys x xs e a =
     let l = one-longer ys x in
     let k = (look-adds xs (ys ++ (x ∷ [])) x (known-own ys x)).0 ∙ look-last ys x e in
-    rw k (first-time (rw l at a))
+    rw k (first_time (rw l at a))
 
 -- THE LAW: names have their numbers in order of first appearance
 pub appear-adds : (xs ys : List Name) → Appear (length ys) (length (adds ys xs)) (map (look (adds ys xs)) xs)
@@ -102,14 +102,14 @@ unfolding adds
 adds-each P [] ys e p = e
 adds-each P (x ∷ xs) ys e p = adds-each P xs (add ys x) (add-each P ys x e p.0) p.1
 
-spelt-lower : (x : Name) → Spelt x → isUpper x ≡ false → Lower x
-spelt-lower x p e = record { all = p.all; small = or_cases (isSmall (first x)) (isCapital (first x)) p.letter (λ f. f) (λ f. never (sym e ∙ f)) }
+spelt-lower : (x : Name) → Spelt x → is_upper x ≡ false → Lower x
+spelt-lower x p e = record { all = p.all; small = or_cases (is_small (first x)) (is_capital (first x)) p.letter (λ f. f) (λ f. never (sym e ∙ f)) }
 
 pub lowers-lower : (xs : List Name) → Each Spelt xs → Each Lower (lowers xs)
 unfolding lowers
 lowers-lower [] e = tt
-lowers-lower (x ∷ xs) e = go (isUpper x) refl (lowers-lower xs e.1)
+lowers-lower (x ∷ xs) e = go (is_upper x) refl (lowers-lower xs e.1)
   where
-    go : (b : Bool) → isUpper x ≡ b → Each Lower (lowers xs) → Each Lower (cond b (lowers xs) (x ∷ lowers xs))
+    go : (b : Bool) → is_upper x ≡ b → Each Lower (lowers xs) → Each Lower (cond b (lowers xs) (x ∷ lowers xs))
     go true f i = i
     go false f i = (spelt-lower x e.0 f, i)

@@ -10,8 +10,8 @@ use Rattle.load.proofs.Accepted.{accepted, Right}
 use Rattle.parlog.proofs.Along.{along-add}
 use Rattle.parlog.proofs.Bools.{split}
 use Rattle.parlog.specs.Load.{load_of}
-use Rattle.parlog.specs.Program.{clauseOf, modesOf, Program}
-use Rattle.parlog.specs.Records.{kindAt, recordAt, recordEnd}
+use Rattle.parlog.specs.Program.{clause_of, modes_of, Program}
+use Rattle.parlog.specs.Records.{kind_at, record_at, record_end}
 use Rattle.parlog.specs.Scan.{along}
 use Rattle.parlog.specs.declared.Loaded.TheVariants.{Accepted}
 use Rattle.text_loads.proofs.Decoded.{clauses, clauses-at, clauses-place, from_start, goal-at, goal-place, relations}
@@ -19,7 +19,7 @@ use Rattle.text_loads.proofs.Stands.{Decodes}
 use Rattle.text_loads.specs.Loads.{ClauseFits}
 use Rattle.text_program.proofs.Fields.{record-kind}
 use Rattle.text_program.proofs.Here.{items-behind, items-split}
-use Rattle.text_program.specs.Encoded.{askBytes, clauseBytes, programBytes, relationBytes}
+use Rattle.text_program.specs.Encoded.{ask_bytes, clause_bytes, program_bytes, relation_bytes}
 use Rattle.text_program.specs.Numbered.{joined}
 
 -- records by kind: r of the first, then c of the second, then one of the third
@@ -42,7 +42,7 @@ module _ (kind : ℕ → ℕ) where
   same-clauses : (r c d : ℕ) → Kinds kind r c → Kinds kind r d → c ≡ d
   same-clauses r c d a b = split (ltb c d) (λ e. absurd (none-fewer r c d a b (ltb-true c d e))) (λ e. split (ltb d c) (λ f. absurd (none-fewer r d c b a (ltb-true d c f))) (λ f. let x = ltb-false c d e in let y = ltb-false d c f in omega arith))
 
-right-kinds : (s : List ℕ) (r c : ℕ) → Right s r c → Kinds (λ k. kindAt s (recordAt s k)) r c
+right-kinds : (s : List ℕ) (r c : ℕ) → Right s r c → Kinds (λ k. kind_at s (record_at s k)) r c
 right-kinds s r c R = record { relations = λ i h. (R.relation i h).kind; clauses = λ i h. (R.clause i h).kind; goal = R.goal.kind }
 
 -- ---- of encoded programs
@@ -59,26 +59,26 @@ module _ {A : Type 0} (s : List ℕ) (bytes : A → List ℕ) (read : ℕ → A)
   row_at (x ∷ xs) at zero rest h e = record { what = x; rest = joined bytes xs ++ rest; stands = items-split s bytes next d.end x xs at rest e }
   row_at (x ∷ xs) at (suc i) rest h e = row_at xs (next at) i rest (omega arith) (items-behind s bytes next d.end x xs at rest e)
 
-relation-kind : (s : List ℕ) (at : ℕ) → At s relationBytes at → kindAt s at ≡ 1
-unfolding relationBytes
+relation-kind : (s : List ℕ) (at : ℕ) → At s relation_bytes at → kind_at s at ≡ 1
+unfolding relation_bytes
 relation-kind s at a = record-kind s 1 (length a.what ∷ a.what) at a.rest a.stands
 
-clause-kind : (s : List ℕ) (at : ℕ) → At s clauseBytes at → kindAt s at ≡ 2
-unfolding clauseBytes
+clause-kind : (s : List ℕ) (at : ℕ) → At s clause_bytes at → kind_at s at ≡ 2
+unfolding clause_bytes
 clause-kind s at a = record-kind s 2 _ at a.rest a.stands
 
 module _ (pr : Program) where
   abbrev s : List ℕ
-  s = programBytes pr
+  s = program_bytes pr
 
-  goal-kind : kindAt s (length (joined relationBytes pr.relations) + length (joined clauseBytes pr.clauses)) ≡ 3
-  unfolding askBytes
+  goal-kind : kind_at s (length (joined relation_bytes pr.relations) + length (joined clause_bytes pr.clauses)) ≡ 3
+  unfolding ask_bytes
   goal-kind = record-kind s 3 _ _ [] (goal-at pr)
 
-  pub encoded-kinds : Kinds (λ k. kindAt s (recordAt s k)) (length pr.relations) (length pr.clauses)
+  pub encoded-kinds : Kinds (λ k. kind_at s (record_at s k)) (length pr.relations) (length pr.clauses)
   encoded-kinds = record {
-    relations = λ i h. relation-kind s _ (row_at s relationBytes (modesOf s) (recordEnd s) (λ ms. Unit) (relations s) pr.relations 0 i _ h (from_start pr));
-    clauses = λ i h. rw (← along-add (recordEnd s) i (length pr.relations) 0, clauses-place pr) (clause-kind s _ (row_at s clauseBytes (clauseOf s) (recordEnd s) ClauseFits (clauses s) pr.clauses _ i _ h (clauses-at pr)));
+    relations = λ i h. relation-kind s _ (row_at s relation_bytes (modes_of s) (record_end s) (λ ms. Unit) (relations s) pr.relations 0 i _ h (from_start pr));
+    clauses = λ i h. rw (← along-add (record_end s) i (length pr.relations) 0, clauses-place pr) (clause-kind s _ (row_at s clause_bytes (clause_of s) (record_end s) ClauseFits (clauses s) pr.clauses _ i _ h (clauses-at pr)));
     goal = rw (goal-place pr) goal-kind;
   }
 
@@ -86,5 +86,5 @@ module _ (pr : Program) where
   pub counted : (r c : ℕ) → load_of s ≡ Accepted r c → (r ≡ length pr.relations) × (c ≡ length pr.clauses)
   counted r c e =
       let a = right-kinds s r c (accepted s r c e) in
-      let q = same-relations (λ k. kindAt s (recordAt s k)) r c (length pr.relations) (length pr.clauses) a encoded-kinds in
-      (q, same-clauses (λ k. kindAt s (recordAt s k)) (length pr.relations) c (length pr.clauses) (rw q at a) encoded-kinds)
+      let q = same-relations (λ k. kind_at s (record_at s k)) r c (length pr.relations) (length pr.clauses) a encoded-kinds in
+      (q, same-clauses (λ k. kind_at s (record_at s k)) (length pr.relations) c (length pr.clauses) (rw q at a) encoded-kinds)

@@ -12,10 +12,10 @@ use Rattle.load.proofs.Inside.{ask-fields, clause-fields}
 use Rattle.load.proofs.Room.{few-clauses, few-relations}
 use Rattle.parlog.proofs.Bools.{and-true, or-false}
 use Rattle.parlog.proofs.Walk.{walk-holds}
-use Rattle.parlog.specs.Body.{askBody, bodyRight, clauseBody, goalRange, literalCount, literalRange, literalsRange, modesRange, relationBody, stageRange, stagesRange}
-use Rattle.parlog.specs.Image.{body_at, goalEnd, guardAt, literalEnd, literalsEnd, stageEnd, stagesEnd}
-use Rattle.parlog.specs.Load.{after, broken, judged, kindFault, loadEnd, long, nothingRead, progressed, records, refusal, tooMany, verdict}
-use Rattle.parlog.specs.Records.{byte_at, cut, kindAt, recordEnd}
+use Rattle.parlog.specs.Body.{ask_body, body_right, clause_body, goal_range, literal_count, literal_range, literals_range, modes_range, relation_body, stage_range, stages_range}
+use Rattle.parlog.specs.Image.{body_at, goal_end, guard_at, literal_end, literals_end, stage_end, stages_end}
+use Rattle.parlog.specs.Load.{after, broken, judged, kind_fault, load_end, long, nothing_read, progressed, records, refusal, too_many, verdict}
+use Rattle.parlog.specs.Records.{byte_at, cut, kind_at, record_end}
 use Rattle.parlog.specs.Scan.{along, each, total}
 use Rattle.parlog.specs.declared.Loaded.{Loaded}
 use Rattle.parlog.specs.declared.Loaded.TheVariants.{Accepted, Refused}
@@ -23,71 +23,71 @@ use Rattle.parlog.specs.declared.Progress.{Progress}
 use Rattle.parlog.specs.declared.Verdict.{Verdict}
 use Rattle.parlog.specs.declared.Verdict.TheVariants.{Goes, Refuses}
 use Rattle.text_loads.proofs.Walked.{passes}
-use Rattle.text_loads.specs.Loads.{mostImage, NeverLong}
+use Rattle.text_loads.specs.Loads.{most_image, NeverLong}
 use Rattle.text_names.specs.Names.{Name}
-use Rattle.text_program.specs.Parsing.{recordsIn}
+use Rattle.text_program.specs.Parsing.{records_in}
 
 module _ (s : List ℕ) where
   -- ---- how far each field reaches
 
-  literals-reach : (n at : ℕ) → literalsRange s n at ≡ true → literalsEnd s n at ≤ at + 10 * n
+  literals-reach : (n at : ℕ) → literals_range s n at ≡ true → literals_end s n at ≤ at + 10 * n
   unfolding each along
   literals-reach zero at e = omega arith
   literals-reach (suc n) at e =
-      let w = and-true (literalRange s at) (literalsRange s n (literalEnd s at)) e in
+      let w = and-true (literal_range s at) (literals_range s n (literal_end s at)) e in
       let a = leb-true (byte_at s (at + 1)) 4 w.0 in
-      let i = literals-reach n (literalEnd s at) w.1 in
+      let i = literals-reach n (literal_end s at) w.1 in
       omega arith
 
-  stage-reach : (at : ℕ) → stageRange s at ≡ true → stageEnd s at ≤ at + 1 + 10 * byte_at s at
-  unfolding stageRange stageEnd
-  stage-reach at e = literals-reach (byte_at s at) (at + 1) (and-true (leb 1 (byte_at s at)) (literalsRange s (byte_at s at) (at + 1)) e).1
+  stage-reach : (at : ℕ) → stage_range s at ≡ true → stage_end s at ≤ at + 1 + 10 * byte_at s at
+  unfolding stage_range stage_end
+  stage-reach at e = literals-reach (byte_at s at) (at + 1) (and-true (leb 1 (byte_at s at)) (literals_range s (byte_at s at) (at + 1)) e).1
 
-  stages-reach : (n at : ℕ) → stagesRange s n at ≡ true → stagesEnd s n at ≤ at + n + 10 * literalCount s n at
+  stages-reach : (n at : ℕ) → stages_range s n at ≡ true → stages_end s n at ≤ at + n + 10 * literal_count s n at
   unfolding each along total
   stages-reach zero at e = omega arith
   stages-reach (suc n) at e =
-      let w = and-true (stageRange s at) (stagesRange s n (stageEnd s at)) e in
+      let w = and-true (stage_range s at) (stages_range s n (stage_end s at)) e in
       let a = stage-reach at w.0 in
-      let i = stages-reach n (stageEnd s at) w.1 in
+      let i = stages-reach n (stage_end s at) w.1 in
       omega arith
 
-  goal-reach : (at : ℕ) → goalRange s at ≡ true → goalEnd s at ≤ at + 89
-  unfolding goalRange goalEnd
+  goal-reach : (at : ℕ) → goal_range s at ≡ true → goal_end s at ≤ at + 89
+  unfolding goal_range goal_end
   goal-reach at e =
       let n = byte_at s at in
-      let a = and-true (leb n 8) (stagesRange s n (at + 1) && leb (literalCount s n (at + 1)) 8) e in
-      let b = and-true (stagesRange s n (at + 1)) (leb (literalCount s n (at + 1)) 8) a.1 in
+      let a = and-true (leb n 8) (stages_range s n (at + 1) && leb (literal_count s n (at + 1)) 8) e in
+      let b = and-true (stages_range s n (at + 1)) (leb (literal_count s n (at + 1)) 8) a.1 in
       let x = leb-true n 8 a.0 in
-      let y = leb-true (literalCount s n (at + 1)) 8 b.1 in
+      let y = leb-true (literal_count s n (at + 1)) 8 b.1 in
       let i = stages-reach n (at + 1) b.0 in
       omega arith
 
   -- ---- and each record
 
-  relation-reach : (at : ℕ) → relationBody s at ≡ true → recordEnd s at ≤ at + 9
-  unfolding relationBody
+  relation-reach : (at : ℕ) → relation_body s at ≡ true → record_end s at ≤ at + 9
+  unfolding relation_body
   relation-reach at e =
       let n = byte_at s (at + 4) in
-      let a = and-true (leb n 4) (modesRange s n (at + 5) && eqb (at + 5 + n) (recordEnd s at)) e in
+      let a = and-true (leb n 4) (modes_range s n (at + 5) && eqb (at + 5 + n) (record_end s at)) e in
       let x = leb-true n 4 a.0 in
-      let y = eqb-true (at + 5 + n) (recordEnd s at) (and-true (modesRange s n (at + 5)) (eqb (at + 5 + n) (recordEnd s at)) a.1).1 in
+      let y = eqb-true (at + 5 + n) (record_end s at) (and-true (modes_range s n (at + 5)) (eqb (at + 5 + n) (record_end s at)) a.1).1 in
       omega arith
 
-  clause-arity : (at : ℕ) → clauseBody s at ≡ true → byte_at s (at + 5) ≤ 4
-  unfolding clauseBody
+  clause-arity : (at : ℕ) → clause_body s at ≡ true → byte_at s (at + 5) ≤ 4
+  unfolding clause_body
   clause-arity at e = leb-true (byte_at s (at + 5)) 4 (and-true (leb (byte_at s (at + 5)) 4) _ e).0
 
-  clause-reach : (at : ℕ) → clauseBody s at ≡ true → recordEnd s at ≤ at + 194
+  clause-reach : (at : ℕ) → clause_body s at ≡ true → record_end s at ≤ at + 194
   clause-reach at e =
       let f = clause-fields s at e in
       let a = clause-arity at e in
-      let g = goal-reach (guardAt s at) f.guard in
+      let g = goal-reach (guard_at s at) f.guard in
       let b = goal-reach (body_at s at) f.body in
       let z = f.ends in
       omega arith
 
-  ask-reach : (at : ℕ) → askBody s at ≡ true → recordEnd s at ≤ at + 94
+  ask-reach : (at : ℕ) → ask_body s at ≡ true → record_end s at ≤ at + 94
   ask-reach at e = let f = ask-fields s at e in let g = goal-reach (at + 5) f.goal in let z = f.ends in omega arith
 
   -- ---- from record to record
@@ -104,87 +104,87 @@ module _ (s : List ℕ) where
     pub most : kind ≤ 3
     pub open-yet : g.kind ≡ 3 → ⊥
 
-  kinds-right : (g : Progress) (kind : ℕ) → kindFault g kind ≡ false → KindsRight g kind
-  unfolding kindFault
+  kinds-right : (g : Progress) (kind : ℕ) → kind_fault g kind ≡ false → KindsRight g kind
+  unfolding kind_fault
   kinds-right g kind e =
       let a = or-false (ltb kind 1) (ltb 3 kind || (ltb kind g.kind || eqb g.kind 3)) e in
       let b = or-false (ltb 3 kind) (ltb kind g.kind || eqb g.kind 3) a.1 in
       let c = or-false (ltb kind g.kind) (eqb g.kind 3) b.1 in
       record { least = ltb-false kind 1 a.0; most = ltb-false 3 kind b.0; open-yet = eqb-false g.kind 3 c.1 }
 
-  module _ (at : ℕ) (g : Progress) (w : Within at g) (few : tooMany g (kindAt s at) ≡ false) (body : bodyRight s at (kindAt s at) ≡ true) (still : g.kind ≡ 3 → ⊥) where
-    relation-next : kindAt s at ≡ 1 → Within (recordEnd s at) (progressed s g at (kindAt s at))
-    unfolding progressed bodyRight
+  module _ (at : ℕ) (g : Progress) (w : Within at g) (few : too_many g (kind_at s at) ≡ false) (body : body_right s at (kind_at s at) ≡ true) (still : g.kind ≡ 3 → ⊥) where
+    relation-next : kind_at s at ≡ 1 → Within (record_end s at) (progressed s g at (kind_at s at))
+    unfolding progressed body_right
     relation-next q =
-        let f = few-relations g (kindAt s at) q few in
-        let b = relation-reach at (rw (eq-eqb (kindAt s at) 1 q) at body) in
+        let f = few-relations g (kind_at s at) q few in
+        let b = relation-reach at (rw (eq-eqb (kind_at s at) 1 q) at body) in
         let p = w.before still in
         let c = w.clauses in
-        rw (eq-eqb (kindAt s at) 1 q) (record { relations = omega arith; clauses = c; before = λ z. omega arith; most = omega arith })
+        rw (eq-eqb (kind_at s at) 1 q) (record { relations = omega arith; clauses = c; before = λ z. omega arith; most = omega arith })
 
-    clause-next : kindAt s at ≡ 2 → Within (recordEnd s at) (progressed s g at (kindAt s at))
-    unfolding progressed bodyRight
+    clause-next : kind_at s at ≡ 2 → Within (record_end s at) (progressed s g at (kind_at s at))
+    unfolding progressed body_right
     clause-next q =
-        let n = ne_eqb (kindAt s at) 1 (λ z. omega arith) in
-        let f = few-clauses g (kindAt s at) q few in
-        let b = clause-reach at (rw (n, eq-eqb (kindAt s at) 2 q) at body) in
+        let n = ne_eqb (kind_at s at) 1 (λ z. omega arith) in
+        let f = few-clauses g (kind_at s at) q few in
+        let b = clause-reach at (rw (n, eq-eqb (kind_at s at) 2 q) at body) in
         let p = w.before still in
         let r = w.relations in
-        rw (n, eq-eqb (kindAt s at) 2 q) (record { relations = r; clauses = omega arith; before = λ z. omega arith; most = omega arith })
+        rw (n, eq-eqb (kind_at s at) 2 q) (record { relations = r; clauses = omega arith; before = λ z. omega arith; most = omega arith })
 
-    goal-next : kindAt s at ≡ 3 → Within (recordEnd s at) (progressed s g at (kindAt s at))
-    unfolding progressed bodyRight
+    goal-next : kind_at s at ≡ 3 → Within (record_end s at) (progressed s g at (kind_at s at))
+    unfolding progressed body_right
     goal-next q =
-        let n = ne_eqb (kindAt s at) 1 (λ z. omega arith) in
-        let m = ne_eqb (kindAt s at) 2 (λ z. omega arith) in
+        let n = ne_eqb (kind_at s at) 1 (λ z. omega arith) in
+        let m = ne_eqb (kind_at s at) 2 (λ z. omega arith) in
         let b = ask-reach at (rw (n, m) at body) in
         let p = w.before still in
         rw (n, m) (record { relations = w.relations; clauses = w.clauses; before = λ z. absurd (z q); most = omega arith })
 
-    within-next : 1 ≤ kindAt s at → kindAt s at ≤ 3 → Within (recordEnd s at) (progressed s g at (kindAt s at))
-    within-next lo hi = go (kindAt s at) refl lo hi
+    within-next : 1 ≤ kind_at s at → kind_at s at ≤ 3 → Within (record_end s at) (progressed s g at (kind_at s at))
+    within-next lo hi = go (kind_at s at) refl lo hi
       where
-        go : (q : ℕ) → kindAt s at ≡ q → 1 ≤ q → q ≤ 3 → Within (recordEnd s at) (progressed s g at (kindAt s at))
+        go : (q : ℕ) → kind_at s at ≡ q → 1 ≤ q → q ≤ 3 → Within (record_end s at) (progressed s g at (kind_at s at))
         go zero e lo hi = absurd (omega arith)
         go (suc zero) e lo hi = relation-next e
         go (suc (suc zero)) e lo hi = clause-next e
         go (suc (suc (suc zero))) e lo hi = goal-next e
         go (suc (suc (suc (suc q)))) e lo hi = absurd (omega arith)
 
-  within-goes : (at : ℕ) (g t : Progress) → Within at g → cut s at ≡ false → verdict s g at ≡ Goes t → Within (recordEnd s at) t
+  within-goes : (at : ℕ) (g t : Progress) → Within at g → cut s at ≡ false → verdict s g at ≡ Goes t → Within (record_end s at) t
   within-goes at g t w e v =
       let p = all-passed s g t at e v in
-      let k = kinds-right g (kindAt s at) p.kind in
+      let k = kinds-right g (kind_at s at) p.kind in
       rw p.next at (within-next at g w p.few p.body k.open-yet k.least k.most)
 
   abbrev Few-bytes : Loaded → Type 0
-  Few-bytes (Accepted r c) = length s ≤ mostImage
+  Few-bytes (Accepted r c) = length s ≤ most_image
   Few-bytes (Refused f) = Unit {0}
 
-  one-record : (at : ℕ) (g : Progress) → Within at g → cut s at ≡ false → (rest : Progress → Loaded) → ((t : Progress) → Within (recordEnd s at) t → Few-bytes (rest t)) → Few-bytes (judged s rest at g)
+  one-record : (at : ℕ) (g : Progress) → Within at g → cut s at ≡ false → (rest : Progress → Loaded) → ((t : Progress) → Within (record_end s at) t → Few-bytes (rest t)) → Few-bytes (judged s rest at g)
   one-record at g w e rest more = go (verdict s g at) refl
     where
       go : (v : Verdict) → verdict s g at ≡ v → Few-bytes (after rest at v)
       go (Refuses n) d = tt
       go (Goes t) d = more t (within-goes at g t w e d)
 
-  at-end : (at : ℕ) (g : Progress) → Within at g → length s ≤ at → Few-bytes (loadEnd s g)
+  at-end : (at : ℕ) (g : Progress) → Within at g → length s ≤ at → Few-bytes (load_end s g)
   at-end at g w h = go (eqb g.kind 3)
     where
       go : (b : Bool) → Few-bytes (cond b (Accepted g.relations g.clauses) (Refused (refusal 7 (length s))))
       go true = let a = w.relations in let b = w.clauses in let c = w.most in omega arith
       go false = tt
 
-  nothing-within : Within 0 nothingRead
+  nothing-within : Within 0 nothing_read
   nothing-within = record { relations = omega arith; clauses = omega arith; before = λ z. omega arith; most = omega arith }
 
-  few_bytes : Few-bytes (records s (length s) 0 nothingRead)
-  few_bytes = walk-holds s broken (judged s) (loadEnd s) Within Few-bytes (λ at g w l e. tt) (λ at g w l e rest more. one-record at g w e rest more) at-end (length s) 0 nothingRead (omega arith) nothing-within
+  few_bytes : Few-bytes (records s (length s) 0 nothing_read)
+  few_bytes = walk-holds s broken (judged s) (load_end s) Within Few-bytes (λ at g w l e. tt) (λ at g w l e rest more. one-record at g w e rest more) at-end (length s) 0 nothing_read (omega arith) nothing-within
 
 -- THE LAW: what passes has few bytes
-pub passed-short : (rels : List Name) (s : List ℕ) (r c : ℕ) → recordsIn rels s ≡ Accepted r c → length s ≤ mostImage
-unfolding recordsIn
-passed-short rels s r c e = rw (passes rels s (length s) 0 nothingRead r c e) at (few_bytes s)
+pub passed-short : (rels : List Name) (s : List ℕ) (r c : ℕ) → records_in rels s ≡ Accepted r c → length s ≤ most_image
+unfolding records_in
+passed-short rels s r c e = rw (passes rels s (length s) 0 nothing_read r c e) at (few_bytes s)
 
 pub never-long : NeverLong
 unfolding long

@@ -9,19 +9,19 @@ use borrow.Author.Tests.{leb-false, leb-true}
 use native.Mathlib.Omega.{arith}
 use Rattle.load.proofs.Accepted.{all-passed}
 use Rattle.parlog.proofs.Bools.{never, split}
-use Rattle.parlog.specs.Image.{relationKind}
-use Rattle.parlog.specs.Load.{after, broken, loadEnd, load_of, long, nothingRead, progressed, records, refusal, verdict}
-use Rattle.parlog.specs.Records.{cut, kindAt, recordEnd, walk}
+use Rattle.parlog.specs.Image.{relation_kind}
+use Rattle.parlog.specs.Load.{after, broken, load_end, load_of, long, nothing_read, progressed, records, refusal, verdict}
+use Rattle.parlog.specs.Records.{cut, kind_at, record_end, walk}
 use Rattle.parlog.specs.declared.Loaded.{Loaded}
 use Rattle.parlog.specs.declared.Loaded.TheVariants.{Accepted, Refused}
 use Rattle.parlog.specs.declared.Progress.{Progress}
 use Rattle.parlog.specs.declared.Verdict.{Verdict}
 use Rattle.parlog.specs.declared.Verdict.TheVariants.{Goes, Refuses}
 use Rattle.text_names.specs.Names.{Name}
-use Rattle.text_program.specs.Parsing.{onceBy, recordsIn, repeated, textVerdict}
+use Rattle.text_program.specs.Parsing.{once_by, records_in, repeated, text_verdict}
 
 step : (b q again : Bool) (v : Verdict) (f h : Progress → Loaded) (at r c : ℕ) (end : Loaded) → ((t : Progress) → f t ≡ Accepted r c → h t ≡ Accepted r c)
-    → cond b (cond q (broken at) (after f at (onceBy again v))) end ≡ Accepted r c → cond b (cond q (broken at) (after h at v)) end ≡ Accepted r c
+    → cond b (cond q (broken at) (after f at (once_by again v))) end ≡ Accepted r c → cond b (cond q (broken at) (after h at v)) end ≡ Accepted r c
 step false q again v f h at r c end i e = e
 step true true again v f h at r c end i e = e
 step true false again (Refuses m) f h at r c end i e = e
@@ -43,53 +43,53 @@ more-relations s g at kind =
     (λ f. rw (e, f) (record { least = omega arith; most = omega arith; yes = λ z. never (sym e ∙ z); back = λ z. absurd (omega arith) }))
     (λ f. rw (e, f) (record { least = omega arith; most = omega arith; yes = λ z. never (sym e ∙ z); back = λ z. absurd (omega arith) })))
 
-goes-more : (s : List ℕ) (g t : Progress) (at : ℕ) → cut s at ≡ false → verdict s g at ≡ Goes t → Known-more g (kindAt s at) t.relations
-goes-more s g t at e v = let p = all-passed s g t at e v in (rw p.next at (more-relations s g at (kindAt s at)))
+goes-more : (s : List ℕ) (g t : Progress) (at : ℕ) → cut s at ≡ false → verdict s g at ≡ Goes t → Known-more g (kind_at s at) t.relations
+goes-more s g t at e v = let p = all-passed s g t at e v in (rw p.next at (more-relations s g at (kind_at s at)))
 
 module _ (rels : List Name) (s : List ℕ) where
   abbrev texted : (Progress → Loaded) → ℕ → Progress → Loaded
-  texted rest at g = after rest at (textVerdict rels s g at)
+  texted rest at g = after rest at (text_verdict rels s g at)
 
-  pub passes : (n at : ℕ) (g : Progress) (r c : ℕ) → walk s broken texted (loadEnd s) n at g ≡ Accepted r c → records s n at g ≡ Accepted r c
-  unfolding walk textVerdict
+  pub passes : (n at : ℕ) (g : Progress) (r c : ℕ) → walk s broken texted (load_end s) n at g ≡ Accepted r c → records s n at g ≡ Accepted r c
+  unfolding walk text_verdict
   passes zero at g r c e = e
   passes (suc n) at g r c e =
-      step (ltb at (length s)) (cut s at) (eqb (kindAt s at) relationKind && repeated rels g.relations) (verdict s g at)
-      (walk s broken texted (loadEnd s) n (recordEnd s at)) (records s n (recordEnd s at)) at r c (loadEnd s g) (λ t f. passes n (recordEnd s at) t r c f) e
+      step (ltb at (length s)) (cut s at) (eqb (kind_at s at) relation_kind && repeated rels g.relations) (verdict s g at)
+      (walk s broken texted (load_end s) n (record_end s at)) (records s n (record_end s at)) at r c (load_end s g) (λ t f. passes n (record_end s at) t r c f) e
 
   -- THE LAW: what passes as a text's image loads
-  pub text-loads : (r c : ℕ) → recordsIn rels s ≡ Accepted r c → long s ≡ false → load_of s ≡ Accepted r c
-  unfolding recordsIn load_of
-  text-loads r c e h = rw h (passes (length s) 0 nothingRead r c e)
+  pub text-loads : (r c : ℕ) → records_in rels s ≡ Accepted r c → long s ≡ false → load_of s ≡ Accepted r c
+  unfolding records_in load_of
+  text-loads r c e h = rw h (passes (length s) 0 nothing_read r c e)
 
   -- ---- and the other way, where no relation is repeated
 
   module _ (r c : ℕ) (apart : (k : ℕ) → k < r → repeated rels k ≡ false) where
-    ends_there : (g : Progress) → loadEnd s g ≡ Accepted r c → g.relations ≤ r
+    ends_there : (g : Progress) → load_end s g ≡ Accepted r c → g.relations ≤ r
     ends_there g e = go (eqb g.kind 3) e
       where
         go : (b : Bool) → cond b (Accepted g.relations g.clauses) (Refused (refusal 7 (length s))) ≡ Accepted r c → g.relations ≤ r
         go true f = let z : g.relations ≡ r = cc in omega arith
         go false f = absurd (let z : ◌≡◌ {A = ℕ} 0 1 = cc in omega arith)
 
-    not-again : (g : Progress) (at : ℕ) → (eqb (kindAt s at) 1 ≡ true → g.relations < r) → (eqb (kindAt s at) relationKind && repeated rels g.relations) ≡ false
-    not-again g at h = go (eqb (kindAt s at) 1) h
+    not-again : (g : Progress) (at : ℕ) → (eqb (kind_at s at) 1 ≡ true → g.relations < r) → (eqb (kind_at s at) relation_kind && repeated rels g.relations) ≡ false
+    not-again g at h = go (eqb (kind_at s at) 1) h
       where
         go : (b : Bool) → (b ≡ true → g.relations < r) → (b && repeated rels g.relations) ≡ false
         go true h = apart g.relations (h refl)
         go false h = refl
 
     abbrev Both : ℕ → ℕ → Progress → Type 0
-    Both n at g = (g.relations ≤ r) × (walk s broken texted (loadEnd s) n at g ≡ Accepted r c)
+    Both n at g = (g.relations ≤ r) × (walk s broken texted (load_end s) n at g ≡ Accepted r c)
 
     stays : (n at : ℕ) (g : Progress) → records s n at g ≡ Accepted r c → Both n at g
-    unfolding walk textVerdict
+    unfolding walk text_verdict
     stays zero at g e = (ends_there g e, e)
-    stays (suc n) at g e = go (ltb at (length s)) (cut s at) refl (verdict s g at) refl e (λ t f. stays n (recordEnd s at) t f)
+    stays (suc n) at g e = go (ltb at (length s)) (cut s at) refl (verdict s g at) refl e (λ t f. stays n (record_end s at) t f)
       where
-        go : (b q : Bool) → cut s at ≡ q → (v : Verdict) → verdict s g at ≡ v → cond b (cond q (broken at) (after (records s n (recordEnd s at)) at v)) (loadEnd s g) ≡ Accepted r c
-            → ((t : Progress) → records s n (recordEnd s at) t ≡ Accepted r c → Both n (recordEnd s at) t)
-            → (g.relations ≤ r) × (cond b (cond q (broken at) (after (walk s broken texted (loadEnd s) n (recordEnd s at)) at (onceBy (eqb (kindAt s at) relationKind && repeated rels g.relations) v))) (loadEnd s g) ≡ Accepted r c)
+        go : (b q : Bool) → cut s at ≡ q → (v : Verdict) → verdict s g at ≡ v → cond b (cond q (broken at) (after (records s n (record_end s at)) at v)) (load_end s g) ≡ Accepted r c
+            → ((t : Progress) → records s n (record_end s at) t ≡ Accepted r c → Both n (record_end s at) t)
+            → (g.relations ≤ r) × (cond b (cond q (broken at) (after (walk s broken texted (load_end s) n (record_end s at)) at (once_by (eqb (kind_at s at) relation_kind && repeated rels g.relations) v))) (load_end s g) ≡ Accepted r c)
         go false q f v d e more = (ends_there g e, e)
         go true true f v d e more = absurd (let z : ◌≡◌ {A = ℕ} 0 1 = cc in omega arith)
         go true false f (Refuses m) d e more = absurd (let z : ◌≡◌ {A = ℕ} 0 1 = cc in omega arith)
@@ -100,18 +100,18 @@ module _ (rels : List Name) (s : List ℕ) where
             let u = m.least in
             (omega arith, rw (not-again g at (λ x. let y = m.yes x in omega arith)) i.1)
 
-    pub loads-text : load_of s ≡ Accepted r c → recordsIn rels s ≡ Accepted r c
-    unfolding recordsIn load_of
+    pub loads-text : load_of s ≡ Accepted r c → records_in rels s ≡ Accepted r c
+    unfolding records_in load_of
     loads-text e = go (long s) e
       where
-        go : (b : Bool) → cond b (Refused (refusal 1 0)) (records s (length s) 0 nothingRead) ≡ Accepted r c → walk s broken texted (loadEnd s) (length s) 0 nothingRead ≡ Accepted r c
+        go : (b : Bool) → cond b (Refused (refusal 1 0)) (records s (length s) 0 nothing_read) ≡ Accepted r c → walk s broken texted (load_end s) (length s) 0 nothing_read ≡ Accepted r c
         go true f = absurd (let z : ◌≡◌ {A = ℕ} 0 1 = cc in omega arith)
-        go false f = (stays (length s) 0 nothingRead f).1
+        go false f = (stays (length s) 0 nothing_read f).1
 
   -- ---- where it passes, no relation is repeated
 
   module _ (r c k : ℕ) (below : k < r) where
-    ends-not : (g : Progress) → g.relations ≤ k → loadEnd s g ≡ Accepted r c → repeated rels k ≡ false
+    ends-not : (g : Progress) → g.relations ≤ k → load_end s g ≡ Accepted r c → repeated rels k ≡ false
     ends-not g l e = go (eqb g.kind 3) e
       where
         go : (b : Bool) → cond b (Accepted g.relations g.clauses) (Refused (refusal 7 (length s))) ≡ Accepted r c → repeated rels k ≡ false
@@ -119,9 +119,9 @@ module _ (rels : List Name) (s : List ℕ) where
         go false f = absurd (let z : ◌≡◌ {A = ℕ} 0 1 = cc in omega arith)
 
     abbrev Once : ℕ → ℕ → Progress → Type 0
-    Once n at g = g.relations ≤ k → walk s broken texted (loadEnd s) n at g ≡ Accepted r c → repeated rels k ≡ false
+    Once n at g = g.relations ≤ k → walk s broken texted (load_end s) n at g ≡ Accepted r c → repeated rels k ≡ false
 
-    here-or-later : (g t : Progress) (at : ℕ) → Known-more g (kindAt s at) t.relations → g.relations ≤ k → (eqb (kindAt s at) relationKind && repeated rels g.relations) ≡ false → (t.relations ≤ k → repeated rels k ≡ false) → repeated rels k ≡ false
+    here-or-later : (g t : Progress) (at : ℕ) → Known-more g (kind_at s at) t.relations → g.relations ≤ k → (eqb (kind_at s at) relation_kind && repeated rels g.relations) ≡ false → (t.relations ≤ k → repeated rels k ≡ false) → repeated rels k ≡ false
     here-or-later g t at m l e later =
         split (leb t.relations k) (λ f. later (leb-true t.relations k f))
         (λ f. let h = leb-false t.relations k f in
@@ -131,19 +131,19 @@ module _ (rels : List Name) (s : List ℕ) where
         (rw (q, z) at e))
 
     once-from : (n at : ℕ) (g : Progress) → Once n at g
-    unfolding walk textVerdict
+    unfolding walk text_verdict
     once-from zero at g l e = ends-not g l e
-    once-from (suc n) at g l e = go (ltb at (length s)) (cut s at) refl (verdict s g at) refl (eqb (kindAt s at) relationKind && repeated rels g.relations) refl e (λ t. once-from n (recordEnd s at) t)
+    once-from (suc n) at g l e = go (ltb at (length s)) (cut s at) refl (verdict s g at) refl (eqb (kind_at s at) relation_kind && repeated rels g.relations) refl e (λ t. once-from n (record_end s at) t)
       where
-        go : (b q : Bool) → cut s at ≡ q → (v : Verdict) → verdict s g at ≡ v → (a : Bool) → (eqb (kindAt s at) relationKind && repeated rels g.relations) ≡ a
-            → cond b (cond q (broken at) (after (walk s broken texted (loadEnd s) n (recordEnd s at)) at (onceBy a v))) (loadEnd s g) ≡ Accepted r c
-            → ((t : Progress) → Once n (recordEnd s at) t) → repeated rels k ≡ false
+        go : (b q : Bool) → cut s at ≡ q → (v : Verdict) → verdict s g at ≡ v → (a : Bool) → (eqb (kind_at s at) relation_kind && repeated rels g.relations) ≡ a
+            → cond b (cond q (broken at) (after (walk s broken texted (load_end s) n (record_end s at)) at (once_by a v))) (load_end s g) ≡ Accepted r c
+            → ((t : Progress) → Once n (record_end s at) t) → repeated rels k ≡ false
         go false q f v d a w e more = ends-not g l e
         go true true f v d a w e more = absurd (let z : ◌≡◌ {A = ℕ} 0 1 = cc in omega arith)
         go true false f (Refuses m) d a w e more = absurd (let z : ◌≡◌ {A = ℕ} 0 1 = cc in omega arith)
         go true false f (Goes t) d true w e more = absurd (let z : ◌≡◌ {A = ℕ} 0 1 = cc in omega arith)
         go true false f (Goes t) d false w e more = here-or-later g t at (goes-more s g t at f d) l w (λ h. more t h e)
 
-    pub once-each : recordsIn rels s ≡ Accepted r c → repeated rels k ≡ false
-    unfolding recordsIn
-    once-each e = once-from (length s) 0 nothingRead (omega arith) e
+    pub once-each : records_in rels s ≡ Accepted r c → repeated rels k ≡ false
+    unfolding records_in
+    once-each e = once-from (length s) 0 nothing_read (omega arith) e

@@ -6,8 +6,8 @@ use Prim.Native.Nat.{◌+◌, ◌≤◌, suc, zero, ℕ}
 use lib.ListN.{drop, get_or, length, length-append, length-drop}
 use lib.Seq.{get_or-drop}
 use native.Mathlib.Omega.{arith}
-use Rattle.text_names.specs.Bytes.{back, first, front, isBlank, isName, next, past, skip}
-use Rattle.text_names.specs.Entries.{behindEntry, entryFrom}
+use Rattle.text_names.specs.Bytes.{back, first, front, is_blank, is_name, next, past, skip}
+use Rattle.text_names.specs.Entries.{behind_entry, entry_from}
 
 pub first-at : (s : List ℕ) (i : ℕ) → first (drop i s) ≡ get_or s i 0
 first-at s i = get_or-drop i s 0 0 ∙ (let h : i + 0 ≡ i = omega arith in rw h)
@@ -15,7 +15,7 @@ first-at s i = get_or-drop i s 0 0 ∙ (let h : i + 0 ≡ i = omega arith in rw 
 pub front-back : (s : List ℕ) → front s ++ back s ≡ s
 unfolding front back
 front-back [] = refl
-front-back (b ∷ s) = go (isName b) (front-back s)
+front-back (b ∷ s) = go (is_name b) (front-back s)
   where
     go : (t : Bool) → front s ++ back s ≡ s → cond t (b ∷ front s) [] ++ cond t (back s) (b ∷ s) ≡ b ∷ s
     go true e = ap (λ (l : List ℕ). b ∷ l) e
@@ -24,7 +24,7 @@ front-back (b ∷ s) = go (isName b) (front-back s)
 pub skip-less : (s : List ℕ) → length (skip s) ≤ length s
 unfolding skip
 skip-less [] = omega arith
-skip-less (b ∷ s) = go (isBlank b) (skip-less s)
+skip-less (b ∷ s) = go (is_blank b) (skip-less s)
   where
     go : (h : Bool) → length (skip s) ≤ length s → length (cond h (skip s) (b ∷ s)) ≤ suc (length s)
     go true i = omega arith
@@ -37,7 +37,7 @@ pub next-less : (s : List ℕ) → length (next s) ≤ length s
 next-less s = omega (arith, skip-less (drop 1 s), length-drop 1 s)
 
 -- in a row of no bytes there is no entry
-pub empty-entry : (k : ℕ) → entryFrom [] k ≡ []
-unfolding entryFrom behindEntry
+pub empty-entry : (k : ℕ) → entry_from [] k ≡ []
+unfolding entry_from behind_entry
 empty-entry zero = refl
 empty-entry (suc k) = empty-entry k

@@ -10,20 +10,20 @@ use borrow.Author.Tests.{eq-eqb, leb-false, leb-true, ne_eqb, not-false, not-tru
 use native.Mathlib.Omega.{arith}
 use native.Mathlib.Numerals.{add-one}
 use Rattle.spell.specs.Forms.{in_span}
-use Rattle.text_names.specs.Bytes.{back, front, isBlank, isCapital, isName, isSmall, next, skip}
-use Rattle.text_names.specs.Names.{sameName}
+use Rattle.text_names.specs.Bytes.{back, front, is_blank, is_capital, is_name, is_small, next, skip}
+use Rattle.text_names.specs.Names.{same_name}
 
 -- a byte of a name that is no lower-case letter
-pub name-other : (b : ℕ) (small d c o r : Bool) → small ≡ isSmall b → small ≡ false → d ≡ in_span 48 9 b → c ≡ isCapital b → o ≡ (d || eqb b 95) → r ≡ (c || o) → r ≡ isName b
-unfolding isName
+pub name-other : (b : ℕ) (small d c o r : Bool) → small ≡ is_small b → small ≡ false → d ≡ in_span 48 9 b → c ≡ is_capital b → o ≡ (d || eqb b 95) → r ≡ (c || o) → r ≡ is_name b
+unfolding is_name
 name-other b small d c o r e f g i k m = m ∙ rw (k, g, i, ← e, f)
 
 module _ (s : List ℕ) (i : ℕ) where
-  pub skip_stop : (r : Bool) → i < length s → r ≡ isBlank (get_or s i 0) → not r ≡ true → drop i s ≡ skip (drop i s)
+  pub skip_stop : (r : Bool) → i < length s → r ≡ is_blank (get_or s i 0) → not r ≡ true → drop i s ≡ skip (drop i s)
   unfolding skip
   skip_stop r h e f = rw (drop-cons s i 0, ← e, not-true r f)
 
-  pub skip-go : (r : Bool) → i < length s → r ≡ isBlank (get_or s i 0) → not r ≡ false → skip (drop i s) ≡ skip (drop (i + 1) s)
+  pub skip-go : (r : Bool) → i < length s → r ≡ is_blank (get_or s i 0) → not r ≡ false → skip (drop i s) ≡ skip (drop (i + 1) s)
   unfolding skip
   skip-go r h e f = rw (add-one, drop-cons s i 0, ← e, not-false r f)
 
@@ -31,11 +31,11 @@ module _ (s : List ℕ) (i : ℕ) where
   unfolding skip
   skip-none h = rw (drop_of_length-le s h)
 
-  pub back-stop : (r : Bool) → i < length s → r ≡ isName (get_or s i 0) → not r ≡ true → drop i s ≡ back (drop i s)
+  pub back-stop : (r : Bool) → i < length s → r ≡ is_name (get_or s i 0) → not r ≡ true → drop i s ≡ back (drop i s)
   unfolding back
   back-stop r h e f = rw (drop-cons s i 0, ← e, not-true r f)
 
-  pub back-go : (r : Bool) → i < length s → r ≡ isName (get_or s i 0) → not r ≡ false → back (drop i s) ≡ back (drop (i + 1) s)
+  pub back-go : (r : Bool) → i < length s → r ≡ is_name (get_or s i 0) → not r ≡ false → back (drop i s) ≡ back (drop (i + 1) s)
   unfolding back
   back-go r h e f = rw (add-one, drop-cons s i 0, ← e, not-false r f)
 
@@ -44,19 +44,19 @@ module _ (s : List ℕ) (i : ℕ) where
   back_none h = rw (drop_of_length-le s h)
 
   -- a byte of a name is inside
-  pub name_in : isName (get_or s i 0) ≡ true → i < length s
-  unfolding isName isSmall isCapital
+  pub name_in : is_name (get_or s i 0) ≡ true → i < length s
+  unfolding is_name is_small is_capital
   name_in e = go (leb (length s) i) refl
     where
       go : (b : Bool) → leb (length s) i ≡ b → i < length s
       go true f = absurd (false≢true (rw (get_or-eq_default s 0 (leb-true (length s) i f)) at e))
       go false f = omega (arith, leb-false (length s) i f)
 
-  pub front-on : isName (get_or s i 0) ≡ true → front (drop i s) ≡ get_or s i 0 ∷ front (drop (i + 1) s)
+  pub front-on : is_name (get_or s i 0) ≡ true → front (drop i s) ≡ get_or s i 0 ∷ front (drop (i + 1) s)
   unfolding front
   front-on e = let h = name_in e in rw (add-one, drop-cons s i 0, e)
 
-  pub front-off : isName (get_or s i 0) ≡ false → front (drop i s) ≡ []
+  pub front-off : is_name (get_or s i 0) ≡ false → front (drop i s) ≡ []
   unfolding front
   front-off e = go (leb (length s) i) refl
     where
@@ -65,28 +65,28 @@ module _ (s : List ℕ) (i : ℕ) where
       go false f = let h : i < length s = omega (arith, leb-false (length s) i f) in rw (drop-cons s i 0, e)
 
 module _ (s : List ℕ) (i j p q : ℕ) (ep : p ≡ get_or s i 0) (eq : q ≡ get_or s j 0) where
-  pub same_stop : (r t : Bool) → r ≡ isName p → t ≡ isName q → not r ≡ true → not t ≡ sameName (front (drop i s)) (front (drop j s))
-  unfolding sameName
-  same_stop r t e f g = rw (front-off s i (ap isName (sym ep) ∙ sym e ∙ not-true r g)) (go t f)
+  pub same_stop : (r t : Bool) → r ≡ is_name p → t ≡ is_name q → not r ≡ true → not t ≡ same_name (front (drop i s)) (front (drop j s))
+  unfolding same_name
+  same_stop r t e f g = rw (front-off s i (ap is_name (sym ep) ∙ sym e ∙ not-true r g)) (go t f)
     where
-      go : (t : Bool) → t ≡ isName q → not t ≡ sameName [] (front (drop j s))
-      go true f = rw (front-on s j (ap isName (sym eq) ∙ sym f))
-      go false f = rw (front-off s j (ap isName (sym eq) ∙ sym f))
+      go : (t : Bool) → t ≡ is_name q → not t ≡ same_name [] (front (drop j s))
+      go true f = rw (front-on s j (ap is_name (sym eq) ∙ sym f))
+      go false f = rw (front-off s j (ap is_name (sym eq) ∙ sym f))
 
-  pub same-differ : (r : Bool) → r ≡ isName p → not r ≡ false → (p ≡ q → ⊥) → false ≡ sameName (front (drop i s)) (front (drop j s))
-  unfolding sameName
-  same-differ r e g h = rw (front-on s i (ap isName (sym ep) ∙ sym e ∙ not-false r g)) (go (isName q) refl)
+  pub same-differ : (r : Bool) → r ≡ is_name p → not r ≡ false → (p ≡ q → ⊥) → false ≡ same_name (front (drop i s)) (front (drop j s))
+  unfolding same_name
+  same-differ r e g h = rw (front-on s i (ap is_name (sym ep) ∙ sym e ∙ not-false r g)) (go (is_name q) refl)
     where
-      go : (t : Bool) → isName q ≡ t → false ≡ sameName (get_or s i 0 ∷ front (drop (i + 1) s)) (front (drop j s))
-      go true f = rw (front-on s j (ap isName (sym eq) ∙ f), ← ep, ← eq, ne_eqb p q h)
-      go false f = rw (front-off s j (ap isName (sym eq) ∙ f))
+      go : (t : Bool) → is_name q ≡ t → false ≡ same_name (get_or s i 0 ∷ front (drop (i + 1) s)) (front (drop j s))
+      go true f = rw (front-on s j (ap is_name (sym eq) ∙ f), ← ep, ← eq, ne_eqb p q h)
+      go false f = rw (front-off s j (ap is_name (sym eq) ∙ f))
 
-  pub same-go : (r : Bool) → r ≡ isName p → not r ≡ false → p ≡ q →
-      (sameName (front (drop i s)) (front (drop j s)) ≡ sameName (front (drop (i + 1) s)) (front (drop (j + 1) s))) × (i < length s) × (j < length s)
-  unfolding sameName
+  pub same-go : (r : Bool) → r ≡ is_name p → not r ≡ false → p ≡ q →
+      (same_name (front (drop i s)) (front (drop j s)) ≡ same_name (front (drop (i + 1) s)) (front (drop (j + 1) s))) × (i < length s) × (j < length s)
+  unfolding same_name
   same-go r e g h =
-      let a = ap isName (sym ep) ∙ sym e ∙ not-false r g in
-      let b = ap isName (sym eq) ∙ ap isName (sym h) ∙ sym e ∙ not-false r g in
+      let a = ap is_name (sym ep) ∙ sym e ∙ not-false r g in
+      let b = ap is_name (sym eq) ∙ ap is_name (sym h) ∙ sym e ∙ not-false r g in
       (rw (front-on s i a, front-on s j b, ← ep, ← eq, eq-eqb p q h), name_in s i a, name_in s j b)
 
 -- ---- a mark

@@ -6,16 +6,16 @@ abbrev pub Name : Type 0
 Name = List ℕ
 
 -- two names are the same, byte by byte
-unfoldable pub sameName : Name → Name → Bool
-sameName [] [] = true
-sameName [] (b ∷ y) = false
-sameName (a ∷ x) [] = false
-sameName (a ∷ x) (b ∷ y) = eqb a b && sameName x y
+unfoldable pub same_name : Name → Name → Bool
+same_name [] [] = true
+same_name [] (b ∷ y) = false
+same_name (a ∷ x) [] = false
+same_name (a ∷ x) (b ∷ y) = eqb a b && same_name x y
 
 -- where a name first stands in a row of names, or how many there are
 unfoldable pub look : List Name → Name → ℕ
 look [] x = 0
-look (y ∷ ys) x = cond (sameName y x) 0 (suc (look ys x))
+look (y ∷ ys) x = cond (same_name y x) 0 (suc (look ys x))
 
 -- the name is one of them
 abbrev pub known : List Name → Name → Bool

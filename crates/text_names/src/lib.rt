@@ -1,8 +1,8 @@
 // Names and blanks where they stand in a text.
 ghost use Rattle.std.specs.Prelude.{◌≡◌, ◌+◌, ◌≤◌, drop, length};
 ghost use Rattle.spell.specs.Forms.{in_span};
-ghost use Rattle.text_names.specs.Bytes.{back, front, isBlank, isCapital, isName, isSmall, next, skip};
-ghost use Rattle.text_names.specs.Names.{sameName};
+ghost use Rattle.text_names.specs.Bytes.{back, front, is_blank, is_capital, is_name, is_small, next, skip};
+ghost use Rattle.text_names.specs.Names.{same_name};
 
 // ---- bytes
 
@@ -16,21 +16,21 @@ fn in_span(a: usize, n: usize, b: usize) -> bool
 
 // A lower-case letter.
 pub fn is_small(b: usize) -> bool
-    ensures { result ≡ isSmall b }
+    ensures { result ≡ is_small b }
 {
     in_span(97, 25, b)
 }
 
 // An upper-case letter.
 pub fn is_capital(b: usize) -> bool
-    ensures { result ≡ isCapital b }
+    ensures { result ≡ is_capital b }
 {
     in_span(65, 25, b)
 }
 
 // A byte of a name: a lower-case letter in most cases.
 pub fn is_name(b: usize) -> bool
-    ensures { result ≡ isName b }
+    ensures { result ≡ is_name b }
 {
     if is_small(b) {
         return true;
@@ -41,7 +41,7 @@ pub fn is_name(b: usize) -> bool
 
 // A blank or a line end.
 fn is_blank(b: usize) -> bool
-    ensures { result ≡ isBlank b }
+    ensures { result ≡ is_blank b }
 {
     basics::or(in_span(9, 1, b), basics::or(b == 13, b == 32))
 }
@@ -92,7 +92,7 @@ pub fn after_mark(s: &[u8], at: usize) -> usize
 // The names at two places are the same.
 pub fn same_name(s: &[u8], a: usize, b: usize) -> bool
     requires { (a ≤ length s.now) × (b ≤ length s.now) }
-    ensures { result ≡ sameName (front (drop a s.now)) (front (drop b s.now)) }
+    ensures { result ≡ same_name (front (drop a s.now)) (front (drop b s.now)) }
 {
     let mut i = a;
     let mut j = b;

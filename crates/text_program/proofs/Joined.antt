@@ -7,7 +7,7 @@ use lib.ListN.{length}
 use native.Mathlib.Omega.{arith}
 use Rattle.parlog.proofs.Bools.{and-true}
 use Rattle.text_names.specs.Names.{Name}
-use Rattle.text_program.specs.Numbered.{isUpper, joined, lowers, uppers}
+use Rattle.text_program.specs.Numbered.{is_upper, joined, lowers, uppers}
 use Rattle.text_program.specs.Parsing.{all_of}
 
 -- ---- rows joined
@@ -56,7 +56,7 @@ all_from p q h (x ∷ xs) e = let r = and-true (p x) (all_of p xs) e in rw (h x 
 pub uppers-append : (xs ys : List Name) → uppers (xs ++ ys) ≡ uppers xs ++ uppers ys
 unfolding uppers
 uppers-append [] ys = refl
-uppers-append (x ∷ xs) ys = go (isUpper x) (uppers-append xs ys)
+uppers-append (x ∷ xs) ys = go (is_upper x) (uppers-append xs ys)
   where
     go : (b : Bool) → uppers (xs ++ ys) ≡ uppers xs ++ uppers ys → cond b (x ∷ uppers (xs ++ ys)) (uppers (xs ++ ys)) ≡ cond b (x ∷ uppers xs) (uppers xs) ++ uppers ys
     go true e = ap (λ (l : List Name). x ∷ l) e
@@ -65,7 +65,7 @@ uppers-append (x ∷ xs) ys = go (isUpper x) (uppers-append xs ys)
 pub lowers-append : (xs ys : List Name) → lowers (xs ++ ys) ≡ lowers xs ++ lowers ys
 unfolding lowers
 lowers-append [] ys = refl
-lowers-append (x ∷ xs) ys = go (isUpper x) (lowers-append xs ys)
+lowers-append (x ∷ xs) ys = go (is_upper x) (lowers-append xs ys)
   where
     go : (b : Bool) → lowers (xs ++ ys) ≡ lowers xs ++ lowers ys → cond b (lowers (xs ++ ys)) (x ∷ lowers (xs ++ ys)) ≡ cond b (lowers xs) (x ∷ lowers xs) ++ lowers ys
     go true e = e
@@ -74,7 +74,7 @@ lowers-append (x ∷ xs) ys = go (isUpper x) (lowers-append xs ys)
 pub lowers-length : (xs : List Name) → length (lowers xs) ≤ length xs
 unfolding lowers
 lowers-length [] = omega arith
-lowers-length (x ∷ xs) = go (isUpper x) (lowers-length xs)
+lowers-length (x ∷ xs) = go (is_upper x) (lowers-length xs)
   where
     go : (b : Bool) → length (lowers xs) ≤ length xs → length (cond b (lowers xs) (x ∷ lowers xs)) ≤ suc (length xs)
     go true h = omega arith

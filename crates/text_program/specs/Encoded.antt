@@ -1,8 +1,8 @@
 -- The image of a program: its records, byte by byte. A number that is too large for its byte stands there as it is, for the loader to refuse.
 use Rattle.std.specs.Prelude.{[], ◌++◌, ◌∷◌, List, ◌%◌, ◌+◌, ◌/◌, ℕ, length}
-use Rattle.parlog.specs.Image.{clauseKind, firstVariable, goalKind, relationKind}
+use Rattle.parlog.specs.Image.{clause_kind, first_variable, goal_kind, relation_kind}
 use Rattle.parlog.specs.Program.{Clause, Goal, Literal, Program}
-use Rattle.parlog.specs.Records.{frontSize}
+use Rattle.parlog.specs.Records.{front_size}
 use Rattle.parlog.specs.declared.Term.{Term}
 use Rattle.parlog.specs.declared.Term.TheVariants.{Const, Var}
 use Rattle.text_program.specs.Numbered.{joined}
@@ -12,40 +12,40 @@ abbrev pub word_bytes : ℕ → List ℕ
 word_bytes w = w % 256 ∷ w / 256 ∷ []
 
 -- Image 9: a term
-unfoldable pub termBytes : Term → List ℕ
-termBytes (Const c) = word_bytes c
-termBytes (Var v) = word_bytes (firstVariable + v)
+unfoldable pub term_bytes : Term → List ℕ
+term_bytes (Const c) = word_bytes c
+term_bytes (Var v) = word_bytes (first_variable + v)
 
 -- Image 11: relation, arity, terms
-unfoldable pub literalBytes : Literal → List ℕ
-literalBytes l = l.rel ∷ length l.args ∷ joined termBytes l.args
+unfoldable pub literal_bytes : Literal → List ℕ
+literal_bytes l = l.rel ∷ length l.args ∷ joined term_bytes l.args
 
 -- Image 10: a stage
-unfoldable pub stageBytes : List Literal → List ℕ
-stageBytes st = length st ∷ joined literalBytes st
+unfoldable pub stage_bytes : List Literal → List ℕ
+stage_bytes st = length st ∷ joined literal_bytes st
 
 -- Image 10: a goal
-unfoldable pub goalBytes : Goal → List ℕ
-goalBytes g = length g ∷ joined stageBytes g
+unfoldable pub goal_bytes : Goal → List ℕ
+goal_bytes g = length g ∷ joined stage_bytes g
 
 -- Image 1: a record
-unfoldable pub recordBytes : ℕ → List ℕ → List ℕ
-recordBytes kind body = word_bytes (frontSize + length body) ++ (word_bytes kind ++ body)
+unfoldable pub record_bytes : ℕ → List ℕ → List ℕ
+record_bytes kind body = word_bytes (front_size + length body) ++ (word_bytes kind ++ body)
 
 -- Image 3: a relation by its modes
-unfoldable pub relationBytes : List ℕ → List ℕ
-relationBytes ms = recordBytes relationKind (length ms ∷ ms)
+unfoldable pub relation_bytes : List ℕ → List ℕ
+relation_bytes ms = record_bytes relation_kind (length ms ∷ ms)
 
 -- Image 5: a clause
-unfoldable pub clauseBytes : Clause → List ℕ
-clauseBytes c =
-    recordBytes clauseKind
-    (c.rel ∷ length c.head ∷ c.mark ∷ c.vars ∷ (joined termBytes c.head ++ (goalBytes c.guard ++ goalBytes c.body)))
+unfoldable pub clause_bytes : Clause → List ℕ
+clause_bytes c =
+    record_bytes clause_kind
+    (c.rel ∷ length c.head ∷ c.mark ∷ c.vars ∷ (joined term_bytes c.head ++ (goal_bytes c.guard ++ goal_bytes c.body)))
 
 -- Image 8: the goal with its variables
-unfoldable pub askBytes : ℕ → Goal → List ℕ
-askBytes n g = recordBytes goalKind (n ∷ goalBytes g)
+unfoldable pub ask_bytes : ℕ → Goal → List ℕ
+ask_bytes n g = record_bytes goal_kind (n ∷ goal_bytes g)
 
 -- Image 1: all records
-unfoldable pub programBytes : Program → List ℕ
-programBytes pr = joined relationBytes pr.relations ++ (joined clauseBytes pr.clauses ++ askBytes pr.goalVars pr.goal)
+unfoldable pub program_bytes : Program → List ℕ
+program_bytes pr = joined relation_bytes pr.relations ++ (joined clause_bytes pr.clauses ++ ask_bytes pr.goal_vars pr.goal)

@@ -1,8 +1,8 @@
 -- What parsing a text answers, and the rows that it is lent afterwards.
 use Rattle.std.specs.Prelude.{◌&&◌, Bool, cond, false, true, [], ◌++◌, ◌∷◌, List, ℕ, eqb, leb, ltb, get_or, length}
-use Rattle.parlog.specs.Image.{relationKind}
-use Rattle.parlog.specs.Load.{after, broken, loadEnd, long, nothingRead, refusal, verdict}
-use Rattle.parlog.specs.Records.{kindAt, walk}
+use Rattle.parlog.specs.Image.{relation_kind}
+use Rattle.parlog.specs.Load.{after, broken, load_end, long, nothing_read, refusal, verdict}
+use Rattle.parlog.specs.Records.{kind_at, walk}
 use Rattle.parlog.specs.Tables.{written}
 use Rattle.parlog.specs.declared.Loaded.{Loaded}
 use Rattle.parlog.specs.declared.Loaded.TheVariants.{Accepted, Refused}
@@ -10,24 +10,24 @@ use Rattle.parlog.specs.declared.Progress.{Progress}
 use Rattle.parlog.specs.declared.Refusal.{Refusal}
 use Rattle.parlog.specs.declared.Verdict.{Verdict}
 use Rattle.parlog.specs.declared.Verdict.TheVariants.{Goes, Refuses}
-use Rattle.spell.specs.Stuck.{spellingOf}
+use Rattle.spell.specs.Stuck.{spelling_of}
 use Rattle.spell.specs.declared.Spelt.{Spelt}
 use Rattle.spell.specs.declared.Spelt.TheVariants.{Right, Stuck}
 use Rattle.text_names.specs.Entries.{entries}
 use Rattle.text_names.specs.Names.{known, look, Name}
-use Rattle.text_program.specs.Encoded.{programBytes}
-use Rattle.text_program.specs.Numbered.{constantNames, programIn, relationNames}
+use Rattle.text_program.specs.Encoded.{program_bytes}
+use Rattle.text_program.specs.Numbered.{constant_names, program_in, relation_names}
 use Rattle.text_program.specs.Source.{calls, equals, Said, SaidClause, Source, source_of}
 use Rattle.text_program.specs.declared.Parsed.{Parsed}
 use Rattle.text_program.specs.declared.Parsed.TheVariants.{Read, Unread}
 
 -- Text 14: the image of a text
-unfoldable pub imageIn : Source → List ℕ
-imageIn p = programBytes (programIn p)
+unfoldable pub image_in : Source → List ℕ
+image_in p = program_bytes (program_in p)
 
 -- Text 15: its names, as bytes
-unfoldable pub namesIn : Source → List ℕ
-namesIn p = entries (relationNames p ++ constantNames p)
+unfoldable pub names_in : Source → List ℕ
+names_in p = entries (relation_names p ++ constant_names p)
 
 -- ---- 17, UNDECLARED
 
@@ -37,19 +37,19 @@ all_of ok [] = true
 all_of ok (x ∷ xs) = ok x && all_of ok xs
 
 -- Text 16: a literal calls a relation that has a mode line
-abbrev pub literalDeclared : List Name → Said → Bool
-literalDeclared rels (calls p ts) = known rels p
-literalDeclared rels (equals a b) = true
+abbrev pub literal_declared : List Name → Said → Bool
+literal_declared rels (calls p ts) = known rels p
+literal_declared rels (equals a b) = true
 
-abbrev pub goalDeclared : List Name → List (List Said) → Bool
-goalDeclared rels g = all_of (all_of (literalDeclared rels)) g
+abbrev pub goal_declared : List Name → List (List Said) → Bool
+goal_declared rels g = all_of (all_of (literal_declared rels)) g
 
-abbrev pub clauseDeclared : List Name → SaidClause → Bool
-clauseDeclared rels c = known rels c.name && (goalDeclared rels c.guard && goalDeclared rels c.body)
+abbrev pub clause_declared : List Name → SaidClause → Bool
+clause_declared rels c = known rels c.name && (goal_declared rels c.guard && goal_declared rels c.body)
 
 -- Text 16: so does every clause and every literal of the text
 unfoldable pub declared : Source → Bool
-declared p = all_of (clauseDeclared (relationNames p)) p.clauses && goalDeclared (relationNames p) p.goal
+declared p = all_of (clause_declared (relation_names p)) p.clauses && goal_declared (relation_names p) p.goal
 
 -- ---- 4, 5 and 6
 
@@ -58,16 +58,16 @@ unfoldable pub repeated : List Name → ℕ → Bool
 repeated rels k = ltb (look rels (get_or rels k [])) k
 
 -- Text 17: which is 5, once the loader's tests have passed
-abbrev pub onceBy : Bool → Verdict → Verdict
-onceBy again (Refuses n) = Refuses n
-onceBy again (Goes g) = cond again (Refuses 5) (Goes g)
+abbrev pub once_by : Bool → Verdict → Verdict
+once_by again (Refuses n) = Refuses n
+once_by again (Goes g) = cond again (Refuses 5) (Goes g)
 
-unfoldable pub textVerdict : List Name → List ℕ → Progress → ℕ → Verdict
-textVerdict rels s g at = onceBy (eqb (kindAt s at) relationKind && repeated rels g.relations) (verdict s g at)
+unfoldable pub text_verdict : List Name → List ℕ → Progress → ℕ → Verdict
+text_verdict rels s g at = once_by (eqb (kind_at s at) relation_kind && repeated rels g.relations) (verdict s g at)
 
 -- Text 17: the loader's tests of one record after the other
-unfoldable pub recordsIn : List Name → List ℕ → Loaded
-recordsIn rels s = walk s broken (λ rest at g. after rest at (textVerdict rels s g at)) (loadEnd s) (length s) 0 nothingRead
+unfoldable pub records_in : List Name → List ℕ → Loaded
+records_in rels s = walk s broken (λ rest at g. after rest at (text_verdict rels s g at)) (load_end s) (length s) 0 nothing_read
 
 -- ---- the call
 
@@ -85,22 +85,22 @@ module _ (image names : List ℕ) where
   -- Text 19, 21: 11 where a row is too short for what is written, else both are written
   abbrev pub fitting : Bool → Source → ParseCall
   fitting false p = unread (refusal 11 0)
-  fitting true p = record { answer = Read (length (imageIn p)) (length (namesIn p)); image = written (imageIn p) image; names = written (namesIn p) names }
+  fitting true p = record { answer = Read (length (image_in p)) (length (names_in p)); image = written (image_in p) image; names = written (names_in p) names }
 
   -- Text 18: 1 for an image that would be too long
-  abbrev pub notLong : Bool → Source → ParseCall
-  notLong true p = unread (refusal 1 0)
-  notLong false p = fitting (leb (length (imageIn p)) (length image) && leb (length (namesIn p)) (length names)) p
+  abbrev pub not_long : Bool → Source → ParseCall
+  not_long true p = unread (refusal 1 0)
+  not_long false p = fitting (leb (length (image_in p)) (length image) && leb (length (names_in p)) (length names)) p
 
   -- Text 17: 4, 5 or 6 with the place of the record in the image
   abbrev pub tested : Loaded → Source → ParseCall
   tested (Refused r) p = unread r
-  tested (Accepted k c) p = notLong (long (imageIn p)) p
+  tested (Accepted k c) p = not_long (long (image_in p)) p
 
   -- Text 16: 17 before them
   abbrev pub sourced : Bool → Source → ParseCall
   sourced false p = unread (refusal 17 0)
-  sourced true p = tested (recordsIn (relationNames p) (imageIn p)) p
+  sourced true p = tested (records_in (relation_names p) (image_in p)) p
 
   -- Text 9: 16 before all
   abbrev pub spelled : Spelt → List ℕ → ParseCall
@@ -108,5 +108,5 @@ module _ (image names : List ℕ) where
   spelled Right s = sourced (declared (source_of s)) (source_of s)
 
   -- Text 21: the whole call
-  unfoldable pub parseCall : List ℕ → ParseCall
-  parseCall s = spelled (spellingOf s) s
+  unfoldable pub parse_call : List ℕ → ParseCall
+  parse_call s = spelled (spelling_of s) s

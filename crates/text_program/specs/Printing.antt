@@ -1,6 +1,6 @@
 -- The text of an image, and what printing it answers.
 use Rattle.std.specs.Prelude.{◌&&◌, Bool, cond, false, true, [], ◌++◌, ◌∷◌, List, ◌%◌, ◌+◌, suc, ℕ, eqb, leb, length}
-use Rattle.parlog.specs.Image.{equality, isInput}
+use Rattle.parlog.specs.Image.{equality, is_input}
 use Rattle.parlog.specs.Load.{load_of, refusal}
 use Rattle.parlog.specs.Program.{Clause, Goal, Literal, Program, program_of}
 use Rattle.parlog.specs.Tables.{written}
@@ -9,153 +9,153 @@ use Rattle.parlog.specs.declared.Loaded.TheVariants.{Accepted, Refused}
 use Rattle.parlog.specs.declared.Refusal.{Refusal}
 use Rattle.parlog.specs.declared.Term.{Term}
 use Rattle.parlog.specs.declared.Term.TheVariants.{Const, Var}
-use Rattle.text_names.specs.Entries.{entryName, isEntry, lineEnd}
+use Rattle.text_names.specs.Entries.{entry_name, is_entry, line_end}
 use Rattle.text_program.specs.Numbered.{joined}
 use Rattle.text_program.specs.Parsing.{all_of}
-use Rattle.text_program.specs.Source.{modeWord}
+use Rattle.text_program.specs.Source.{mode_word}
 use Rattle.text_program.specs.declared.Printed.{Printed}
 use Rattle.text_program.specs.declared.Printed.TheVariants.{Unwritten, Wrote}
 
 -- ---- items with something between them
 
 -- what stands between, and the item, for each of them
-abbrev pub restText : {A : Type 0} → (A → List ℕ) → List ℕ → List A → List ℕ
-restText text mark xs = joined (λ x. mark ++ text x) xs
+abbrev pub rest_text : {A : Type 0} → (A → List ℕ) → List ℕ → List A → List ℕ
+rest_text text mark xs = joined (λ x. mark ++ text x) xs
 
 -- Text 24: the first, and the rest
-unfoldable pub rowText : {A : Type 0} → (A → List ℕ) → List ℕ → List A → List ℕ
-rowText text mark [] = []
-rowText text mark (x ∷ xs) = text x ++ restText text mark xs
+unfoldable pub row_text : {A : Type 0} → (A → List ℕ) → List ℕ → List A → List ℕ
+row_text text mark [] = []
+row_text text mark (x ∷ xs) = text x ++ rest_text text mark xs
 
 -- Text 24: in brackets with `,` between them, no brackets where there are none
-unfoldable pub bracketText : {A : Type 0} → (A → List ℕ) → List A → List ℕ
-bracketText text [] = []
-bracketText text (x ∷ xs) = 40 ∷ (rowText text (44 ∷ []) (x ∷ xs) ++ (41 ∷ []))
+unfoldable pub bracket_text : {A : Type 0} → (A → List ℕ) → List A → List ℕ
+bracket_text text [] = []
+bracket_text text (x ∷ xs) = 40 ∷ (row_text text (44 ∷ []) (x ∷ xs) ++ (41 ∷ []))
 
 -- ---- words
 
 -- Text 24: `, `
-abbrev pub commaMark : List ℕ
-commaMark = 44 ∷ 32 ∷ []
+abbrev pub comma_mark : List ℕ
+comma_mark = 44 ∷ 32 ∷ []
 
 -- Text 24: ` & `
-abbrev pub andMark : List ℕ
-andMark = 32 ∷ 38 ∷ 32 ∷ []
+abbrev pub and_mark : List ℕ
+and_mark = 32 ∷ 38 ∷ 32 ∷ []
 
 -- Text 24: ` = `
-abbrev pub equalsMark : List ℕ
-equalsMark = 32 ∷ 61 ∷ 32 ∷ []
+abbrev pub equals_mark : List ℕ
+equals_mark = 32 ∷ 61 ∷ 32 ∷ []
 
 -- Text 24: ` <- `
-abbrev pub arrowMark : List ℕ
-arrowMark = 32 ∷ 60 ∷ 45 ∷ 32 ∷ []
+abbrev pub arrow_mark : List ℕ
+arrow_mark = 32 ∷ 60 ∷ 45 ∷ 32 ∷ []
 
 -- Text 24: ` : `
-abbrev pub guardMark : List ℕ
-guardMark = 32 ∷ 58 ∷ 32 ∷ []
+abbrev pub guard_mark : List ℕ
+guard_mark = 32 ∷ 58 ∷ 32 ∷ []
 
 -- Text 25: the end of a line, with `.`
-abbrev pub stopMark : List ℕ
-stopMark = 46 ∷ lineEnd ∷ []
+abbrev pub stop_mark : List ℕ
+stop_mark = 46 ∷ line_end ∷ []
 
 -- Text 25: with `;`
-abbrev pub semicolonMark : List ℕ
-semicolonMark = 59 ∷ lineEnd ∷ []
+abbrev pub semicolon_mark : List ℕ
+semicolon_mark = 59 ∷ line_end ∷ []
 
 -- Text 25: `;` where the next clause has mark 1
-abbrev pub endMark : ℕ → List ℕ
-endMark m = cond (eqb m 1) semicolonMark stopMark
+abbrev pub end_mark : ℕ → List ℕ
+end_mark m = cond (eqb m 1) semicolon_mark stop_mark
 
 -- the mark of the first of these clauses, 0 where there is none
-abbrev pub nextMark : List Clause → ℕ
-nextMark [] = 0
-nextMark (c ∷ cs) = c.mark
+abbrev pub next_mark : List Clause → ℕ
+next_mark [] = 0
+next_mark (c ∷ cs) = c.mark
 
 -- Text 24: `?` for an input, `^` for an output
-abbrev pub modeText : ℕ → List ℕ
-modeText m = cond (isInput m) 63 94 ∷ []
+abbrev pub mode_text : ℕ → List ℕ
+mode_text m = cond (is_input m) 63 94 ∷ []
 
 -- ---- over a names row nm, with r relations
 
 module _ (r : ℕ) (nm : List ℕ) where
   -- Text 15, 22: the name of a constant, or the letter of a variable, one of the sixteen from `A` on
-  unfoldable pub termText : Term → List ℕ
-  termText (Const c) = entryName nm (r + c)
-  termText (Var v) = (65 + v % 16) ∷ []
+  unfoldable pub term_text : Term → List ℕ
+  term_text (Const c) = entry_name nm (r + c)
+  term_text (Var v) = (65 + v % 16) ∷ []
 
   -- Text 24: an equality, or a call
-  unfoldable pub literalText : Literal → List ℕ
-  literalText l =
+  unfoldable pub literal_text : Literal → List ℕ
+  literal_text l =
       cond (eqb l.rel equality)
-      (rowText termText equalsMark l.args)
-      (entryName nm l.rel ++ bracketText termText l.args)
+      (row_text term_text equals_mark l.args)
+      (entry_name nm l.rel ++ bracket_text term_text l.args)
 
   -- Text 24: literals of a stage have `, ` between them, stages ` & `
-  unfoldable pub goalText : Goal → List ℕ
-  goalText g = rowText (rowText literalText commaMark) andMark g
+  unfoldable pub goal_text : Goal → List ℕ
+  goal_text g = row_text (row_text literal_text comma_mark) and_mark g
 
   -- Text 23: guard and body; no `<-` where there is neither, no `:` without a guard
-  unfoldable pub halvesText : Goal → Goal → List ℕ
-  halvesText [] [] = []
-  halvesText [] (st ∷ g) = arrowMark ++ goalText (st ∷ g)
-  halvesText (st ∷ g) b = arrowMark ++ (goalText (st ∷ g) ++ (guardMark ++ goalText b))
+  unfoldable pub halves_text : Goal → Goal → List ℕ
+  halves_text [] [] = []
+  halves_text [] (st ∷ g) = arrow_mark ++ goal_text (st ∷ g)
+  halves_text (st ∷ g) b = arrow_mark ++ (goal_text (st ∷ g) ++ (guard_mark ++ goal_text b))
 
   -- Text 25: a clause, and the mark of the next
-  unfoldable pub clauseText : Clause → ℕ → List ℕ
-  clauseText c m = entryName nm c.rel ++ (bracketText termText c.head ++ (halvesText c.guard c.body ++ endMark m))
+  unfoldable pub clause_text : Clause → ℕ → List ℕ
+  clause_text c m = entry_name nm c.rel ++ (bracket_text term_text c.head ++ (halves_text c.guard c.body ++ end_mark m))
 
   -- Text 25: clauses, line by line
-  unfoldable pub clausesText : List Clause → List ℕ
-  clausesText [] = []
-  clausesText (c ∷ cs) = clauseText c (nextMark cs) ++ clausesText cs
+  unfoldable pub clauses_text : List Clause → List ℕ
+  clauses_text [] = []
+  clauses_text (c ∷ cs) = clause_text c (next_mark cs) ++ clauses_text cs
 
   -- Text 25: `<- `, the goal, the end
-  unfoldable pub goalLineText : Goal → List ℕ
-  goalLineText g = 60 ∷ 45 ∷ 32 ∷ (goalText g ++ stopMark)
+  unfoldable pub goal_line_text : Goal → List ℕ
+  goal_line_text g = 60 ∷ 45 ∷ 32 ∷ (goal_text g ++ stop_mark)
 
   -- Text 25: the mode line of relation k
-  unfoldable pub modeLineText : ℕ → List ℕ → List ℕ
-  modeLineText k ms = modeWord ++ (32 ∷ (entryName nm k ++ (bracketText modeText ms ++ stopMark)))
+  unfoldable pub mode_line_text : ℕ → List ℕ → List ℕ
+  mode_line_text k ms = mode_word ++ (32 ∷ (entry_name nm k ++ (bracket_text mode_text ms ++ stop_mark)))
 
   -- Text 25: mode lines from relation k on
-  unfoldable pub modeLinesText : ℕ → List (List ℕ) → List ℕ
-  modeLinesText k [] = []
-  modeLinesText k (ms ∷ mss) = modeLineText k ms ++ modeLinesText (suc k) mss
+  unfoldable pub mode_lines_text : ℕ → List (List ℕ) → List ℕ
+  mode_lines_text k [] = []
+  mode_lines_text k (ms ∷ mss) = mode_line_text k ms ++ mode_lines_text (suc k) mss
 
 -- Text 25: the text of a program
-unfoldable pub programText : List ℕ → Program → List ℕ
-programText nm pr =
+unfoldable pub program_text : List ℕ → Program → List ℕ
+program_text nm pr =
     let r = length pr.relations in
-    modeLinesText r nm 0 pr.relations ++ (clausesText r nm pr.clauses ++ goalLineText r nm pr.goal)
+    mode_lines_text r nm 0 pr.relations ++ (clauses_text r nm pr.clauses ++ goal_line_text r nm pr.goal)
 
 -- ---- 17, UNDECLARED
 
 module _ (r : ℕ) (nm : List ℕ) where
   -- Text 26: a constant in use has its name
-  unfoldable pub termNamed : Term → Bool
-  termNamed (Const c) = isEntry nm (r + c)
-  termNamed (Var v) = true
+  unfoldable pub term_named : Term → Bool
+  term_named (Const c) = is_entry nm (r + c)
+  term_named (Var v) = true
 
   -- Text 26: so has a relation that is called
-  unfoldable pub literalNamed : Literal → Bool
-  literalNamed l = cond (eqb l.rel equality) (all_of termNamed l.args) (isEntry nm l.rel && all_of termNamed l.args)
+  unfoldable pub literal_named : Literal → Bool
+  literal_named l = cond (eqb l.rel equality) (all_of term_named l.args) (is_entry nm l.rel && all_of term_named l.args)
 
-  abbrev pub goalNamed : Goal → Bool
-  goalNamed g = all_of (all_of literalNamed) g
+  abbrev pub goal_named : Goal → Bool
+  goal_named g = all_of (all_of literal_named) g
 
-  abbrev pub clauseNamed : Clause → Bool
-  clauseNamed c = isEntry nm c.rel && (all_of termNamed c.head && (goalNamed c.guard && goalNamed c.body))
+  abbrev pub clause_named : Clause → Bool
+  clause_named c = is_entry nm c.rel && (all_of term_named c.head && (goal_named c.guard && goal_named c.body))
 
   -- Text 26: so have all relations from k on, as many as there are modes
-  unfoldable pub relationsNamed : ℕ → List (List ℕ) → Bool
-  relationsNamed k [] = true
-  relationsNamed k (ms ∷ mss) = isEntry nm k && relationsNamed (suc k) mss
+  unfoldable pub relations_named : ℕ → List (List ℕ) → Bool
+  relations_named k [] = true
+  relations_named k (ms ∷ mss) = is_entry nm k && relations_named (suc k) mss
 
 -- Text 26: all that a text of the program would name
-unfoldable pub programNamed : List ℕ → Program → Bool
-programNamed nm pr =
+unfoldable pub program_named : List ℕ → Program → Bool
+program_named nm pr =
     let r = length pr.relations in
-    relationsNamed r nm 0 pr.relations && (all_of (clauseNamed r nm) pr.clauses && goalNamed r nm pr.goal)
+    relations_named r nm 0 pr.relations && (all_of (clause_named r nm) pr.clauses && goal_named r nm pr.goal)
 
 -- ---- the call
 
@@ -180,10 +180,10 @@ module _ (text : List ℕ) where
   nameable true t = roomy (leb (length t) (length text)) t
 
   -- Refusals 20: the image's own refusals before that
-  abbrev pub printLoaded : Loaded → List ℕ → List ℕ → PrintCall
-  printLoaded (Refused r) s nm = unwritten r
-  printLoaded (Accepted r c) s nm = nameable (programNamed nm (program_of s r c)) (programText nm (program_of s r c))
+  abbrev pub print_loaded : Loaded → List ℕ → List ℕ → PrintCall
+  print_loaded (Refused r) s nm = unwritten r
+  print_loaded (Accepted r c) s nm = nameable (program_named nm (program_of s r c)) (program_text nm (program_of s r c))
 
   -- Text 28: the whole call
-  unfoldable pub printCall : List ℕ → List ℕ → PrintCall
-  printCall s nm = printLoaded (load_of s) s nm
+  unfoldable pub print_call : List ℕ → List ℕ → PrintCall
+  print_call s nm = print_loaded (load_of s) s nm

@@ -9,11 +9,11 @@ use borrow.Author.Tests.{ltb-false, ltb-true}
 use native.Mathlib.Omega.{arith}
 use Rattle.parlog.proofs.Bools.{never, not_so}
 use Rattle.text_names.proofs.Looked.{same-is, same_self}
-use Rattle.text_names.specs.Names.{known, look, Name, sameName}
-use Rattle.text_program.specs.Numbered.{relationNames}
-use Rattle.text_program.specs.Parsing.{all_of, clauseDeclared, declared, goalDeclared, literalDeclared}
+use Rattle.text_names.specs.Names.{known, look, Name, same_name}
+use Rattle.text_program.specs.Numbered.{relation_names}
+use Rattle.text_program.specs.Parsing.{all_of, clause_declared, declared, goal_declared, literal_declared}
 use Rattle.text_program.specs.Source.{calls, equals, Said, SaidClause, Source}
-use Rattle.text_refusals.specs.Unread.{as-head, behind, Calls, In, in_body, in-front, in-goal, in-guard, in-stage, Mentions, Undeclared}
+use Rattle.text_refusals.specs.Unread.{as_head, behind, Calls, In, in_body, in_front, in_goal, in_guard, in_stage, Mentions, Undeclared}
 
 -- ---- tests of all items
 
@@ -40,11 +40,11 @@ all-false f (x ∷ xs) e = go (f x) refl e (all-false f xs)
   where
     go : (b : Bool) → f x ≡ b → (b && all_of f xs) ≡ false → (all_of f xs ≡ false → Failing f xs) → Failing f (x ∷ xs)
     go true d e more = let w = more e in record { item = w.item; among = behind w.among; fails = w.fails }
-    go false d e more = record { item = x; among = in-front; fails = d }
+    go false d e more = record { item = x; among = in_front; fails = d }
 
 false-all : {A : Type 0} (f : A → Bool) {x : A} {xs : List A} → In x xs → f x ≡ false → all_of f xs ≡ false
 unfolding all_of
-false-all f {x} (in-front {xs = xs}) e = false_left (f x) (all_of f xs) e
+false-all f {x} (in_front {xs = xs}) e = false_left (f x) (all_of f xs) e
 false-all f (behind {y = y} {xs = xs} i) e = false_right (f y) (all_of f xs) (false-all f i e)
 
 -- ---- names that are known
@@ -52,16 +52,16 @@ false-all f (behind {y = y} {xs = xs} i) e = false_right (f y) (all_of f xs) (fa
 known_in : (ys : List Name) (x : Name) → look ys x < length ys → In x ys
 unfolding look
 known_in [] x h = absurd (omega arith)
-known_in (y ∷ ys) x h = go (sameName y x) refl h (known_in ys x)
+known_in (y ∷ ys) x h = go (same_name y x) refl h (known_in ys x)
   where
-    go : (b : Bool) → sameName y x ≡ b → cond b 0 (suc (look ys x)) < suc (length ys) → (look ys x < length ys → In x ys) → In x (y ∷ ys)
-    go true e h more = let z = same-is y x e in rw z in-front
+    go : (b : Bool) → same_name y x ≡ b → cond b 0 (suc (look ys x)) < suc (length ys) → (look ys x < length ys → In x ys) → In x (y ∷ ys)
+    go true e h more = let z = same-is y x e in rw z in_front
     go false e h more = behind (more (omega arith))
 
 in-known : {x : Name} {ys : List Name} → In x ys → look ys x < length ys
 unfolding look
-in-known {x} in-front = rw (same_self x) (omega arith)
-in-known {x} (behind {y = y} {xs = ys} i) = go (sameName y x) (in-known i)
+in-known {x} in_front = rw (same_self x) (omega arith)
+in-known {x} (behind {y = y} {xs = ys} i) = go (same_name y x) (in-known i)
   where
     go : (b : Bool) → look ys x < length ys → cond b 0 (suc (look ys x)) < suc (length ys)
     go true h = omega arith
@@ -81,57 +81,57 @@ module _ (rels : List Name) where
     pub there : P name
     pub unknown : known rels name ≡ false
 
-  literal-lacks : (st : List Said) (g : List (List Said)) → In st g → (l : Said) → In l st → literalDeclared rels l ≡ false → Lacks (λ x. Calls x g)
-  literal-lacks st g i (calls x ts) j e = record { name = x; there = in-stage i j; unknown = e }
+  literal-lacks : (st : List Said) (g : List (List Said)) → In st g → (l : Said) → In l st → literal_declared rels l ≡ false → Lacks (λ x. Calls x g)
+  literal-lacks st g i (calls x ts) j e = record { name = x; there = in_stage i j; unknown = e }
   literal-lacks st g i (equals a b) j e = never (sym e)
 
-  goal-lacks : (g : List (List Said)) → goalDeclared rels g ≡ false → Lacks (λ x. Calls x g)
+  goal-lacks : (g : List (List Said)) → goal_declared rels g ≡ false → Lacks (λ x. Calls x g)
   goal-lacks g e =
-      let a = all-false (all_of (literalDeclared rels)) g e in
-      let b = all-false (literalDeclared rels) a.item a.fails in
+      let a = all-false (all_of (literal_declared rels)) g e in
+      let b = all-false (literal_declared rels) a.item a.fails in
       literal-lacks a.item g a.among b.item b.among b.fails
 
-  lacks-goal : {x : Name} {g : List (List Said)} → Calls x g → known rels x ≡ false → goalDeclared rels g ≡ false
-  lacks-goal (in-stage i j) e = false-all (all_of (literalDeclared rels)) i (false-all (literalDeclared rels) j e)
+  lacks-goal : {x : Name} {g : List (List Said)} → Calls x g → known rels x ≡ false → goal_declared rels g ≡ false
+  lacks-goal (in_stage i j) e = false-all (all_of (literal_declared rels)) i (false-all (literal_declared rels) j e)
 
 module _ (p : Source) where
   abbrev rels : List Name
-  rels = relationNames p
+  rels = relation_names p
 
   abbrev rests : SaidClause → Bool
-  rests c = goalDeclared rels c.guard && goalDeclared rels c.body
+  rests c = goal_declared rels c.guard && goal_declared rels c.body
 
   from-lacks : {P : Name → Type 0} → ((x : Name) → P x → Mentions x p) → Lacks rels P → Undeclared p
   from-lacks f w = record { name = w.name; mentioned = f w.name w.there; missing = missing-not rels w.name w.unknown }
 
-  clause-lacks : (c : SaidClause) → In c p.clauses → clauseDeclared rels c ≡ false → Undeclared p
+  clause-lacks : (c : SaidClause) → In c p.clauses → clause_declared rels c ≡ false → Undeclared p
   clause-lacks c i e = head (and-false (known rels c.name) (rests c) e)
     where
-      goals : (goalDeclared rels c.guard ≡ false) ⊎ (goalDeclared rels c.body ≡ false) → Undeclared p
-      goals (inl e) = from-lacks {P = λ x. Calls x c.guard} (λ x y. in-guard i y) (goal-lacks rels c.guard e)
+      goals : (goal_declared rels c.guard ≡ false) ⊎ (goal_declared rels c.body ≡ false) → Undeclared p
+      goals (inl e) = from-lacks {P = λ x. Calls x c.guard} (λ x y. in_guard i y) (goal-lacks rels c.guard e)
       goals (inr e) = from-lacks {P = λ x. Calls x c.body} (λ x y. in_body i y) (goal-lacks rels c.body e)
 
       head : (known rels c.name ≡ false) ⊎ (rests c ≡ false) → Undeclared p
-      head (inl e) = record { name = c.name; mentioned = as-head i refl; missing = missing-not rels c.name e }
-      head (inr e) = goals (and-false (goalDeclared rels c.guard) (goalDeclared rels c.body) e)
+      head (inl e) = record { name = c.name; mentioned = as_head i refl; missing = missing-not rels c.name e }
+      head (inr e) = goals (and-false (goal_declared rels c.guard) (goal_declared rels c.body) e)
 
   pub declared-not : declared p ≡ false → Undeclared p
   unfolding declared
-  declared-not e = go (and-false (all_of (clauseDeclared rels) p.clauses) (goalDeclared rels p.goal) e)
+  declared-not e = go (and-false (all_of (clause_declared rels) p.clauses) (goal_declared rels p.goal) e)
     where
-      go : (all_of (clauseDeclared rels) p.clauses ≡ false) ⊎ (goalDeclared rels p.goal ≡ false) → Undeclared p
-      go (inl e) = let w = all-false (clauseDeclared rels) p.clauses e in clause-lacks w.item w.among w.fails
-      go (inr e) = from-lacks {P = λ x. Calls x p.goal} (λ x y. in-goal y) (goal-lacks rels p.goal e)
+      go : (all_of (clause_declared rels) p.clauses ≡ false) ⊎ (goal_declared rels p.goal ≡ false) → Undeclared p
+      go (inl e) = let w = all-false (clause_declared rels) p.clauses e in clause-lacks w.item w.among w.fails
+      go (inr e) = from-lacks {P = λ x. Calls x p.goal} (λ x y. in_goal y) (goal-lacks rels p.goal e)
 
-  clauses-false : {c : SaidClause} → In c p.clauses → clauseDeclared rels c ≡ false → declared p ≡ false
+  clauses-false : {c : SaidClause} → In c p.clauses → clause_declared rels c ≡ false → declared p ≡ false
   unfolding declared
-  clauses-false i e = false_left (all_of (clauseDeclared rels) p.clauses) (goalDeclared rels p.goal) (false-all (clauseDeclared rels) i e)
+  clauses-false i e = false_left (all_of (clause_declared rels) p.clauses) (goal_declared rels p.goal) (false-all (clause_declared rels) i e)
 
   mentions-false : {x : Name} → Mentions x p → known rels x ≡ false → declared p ≡ false
-  mentions-false (as-head {c} i z) e = clauses-false i (false_left (known rels c.name) (rests c) (rw z e))
-  mentions-false (in-guard {c} i y) e = clauses-false i (false_right (known rels c.name) (rests c) (false_left (goalDeclared rels c.guard) (goalDeclared rels c.body) (lacks-goal rels y e)))
-  mentions-false (in_body {c} i y) e = clauses-false i (false_right (known rels c.name) (rests c) (false_right (goalDeclared rels c.guard) (goalDeclared rels c.body) (lacks-goal rels y e)))
-  mentions-false (in-goal y) e = unfold declared in false_right (all_of (clauseDeclared rels) p.clauses) (goalDeclared rels p.goal) (lacks-goal rels y e)
+  mentions-false (as_head {c} i z) e = clauses-false i (false_left (known rels c.name) (rests c) (rw z e))
+  mentions-false (in_guard {c} i y) e = clauses-false i (false_right (known rels c.name) (rests c) (false_left (goal_declared rels c.guard) (goal_declared rels c.body) (lacks-goal rels y e)))
+  mentions-false (in_body {c} i y) e = clauses-false i (false_right (known rels c.name) (rests c) (false_right (goal_declared rels c.guard) (goal_declared rels c.body) (lacks-goal rels y e)))
+  mentions-false (in_goal y) e = unfold declared in false_right (all_of (clause_declared rels) p.clauses) (goal_declared rels p.goal) (lacks-goal rels y e)
 
   -- THE LAW: the test finds it
   pub not-declared : Undeclared p → declared p ≡ false

@@ -15,53 +15,53 @@ use Rattle.parlog.specs.declared.Loaded.TheVariants.{Accepted, Refused}
 use Rattle.parlog.specs.declared.Refusal.{Refusal}
 use Rattle.spell.proofs.Exact.{accepted-right, right-accepted, stuck-exact, stuck-found}
 use Rattle.spell.specs.Grammar.{ClauseText}
-use Rattle.spell.specs.Stuck.{spellingOf}
+use Rattle.spell.specs.Stuck.{spelling_of}
 use Rattle.spell.specs.declared.Spelt.{Spelt}
 use Rattle.spell.specs.declared.Spelt.TheVariants.{Right, Stuck}
 use Rattle.text_loads.proofs.Fitting.{program-relations}
 use Rattle.text_loads.proofs.Short.{never-long}
 use Rattle.text_names.specs.Names.{Name}
-use Rattle.text_program.specs.Numbered.{programIn, relationNames}
-use Rattle.text_program.specs.Parsing.{declared, fitting, imageIn, namesIn, ParseCall, parseCall, recordsIn, sourced, spelled, tested, unread}
+use Rattle.text_program.specs.Numbered.{program_in, relation_names}
+use Rattle.text_program.specs.Parsing.{declared, fitting, image_in, names_in, ParseCall, parse_call, records_in, sourced, spelled, tested, unread}
 use Rattle.text_program.specs.Source.{ModeLine, Source, source_of}
 use Rattle.text_program.specs.declared.Parsed.{Parsed}
 use Rattle.text_program.specs.declared.Parsed.TheVariants.{Read, Unread}
 use Rattle.text_refusals.proofs.Declared.{declared-not, not-declared}
 use Rattle.text_refusals.proofs.Tested.{refused, told}
-use Rattle.text_refusals.specs.Unread.{at-record, bad-line, behind, In, in-front, LineRefused, LinesRefused, ninth-of-block, no_room, no_text, one-too-many, ParseExactly, ParseKept, ParseNumbers, ParseRefused, second-line, Undeclared, undeclared, wrong-body, wrong_name}
+use Rattle.text_refusals.specs.Unread.{at_record, bad_line, behind, In, in_front, LineRefused, LinesRefused, ninth_of_block, no_room, no_text, one_too_many, ParseExactly, ParseKept, ParseNumbers, ParseRefused, second_line, Undeclared, undeclared, wrong_body, wrong_name}
 
 module _ (p : Source) where
-  as_many : length (relationNames p) ≡ length (programIn p).relations
+  as_many : length (relation_names p) ≡ length (program_in p).relations
   as_many = length-map p.modes (λ (m : ModeLine). m.name) ∙ sym (program-relations p)
 
   declared-so : (Undeclared p → ⊥) → declared p ≡ true
   declared-so h = split (declared p) (λ e. e) (λ e. absurd (h (declared-not p e)))
 
-  tests-refuse : {n o : ℕ} → LinesRefused (relationNames p) (imageIn p) n o → recordsIn (relationNames p) (imageIn p) ≡ Refused (refusal n o)
-  unfolding imageIn
-  tests-refuse l = refused (relationNames p) (programIn p) as_many l
+  tests-refuse : {n o : ℕ} → LinesRefused (relation_names p) (image_in p) n o → records_in (relation_names p) (image_in p) ≡ Refused (refusal n o)
+  unfolding image_in
+  tests-refuse l = refused (relation_names p) (program_in p) as_many l
 
   -- what the tests say
   record Tested : Type 0 where
-    pub refuses : (f : Refusal) → recordsIn (relationNames p) (imageIn p) ≡ Refused f → LinesRefused (relationNames p) (imageIn p) f.number f.offset
+    pub refuses : (f : Refusal) → records_in (relation_names p) (image_in p) ≡ Refused f → LinesRefused (relation_names p) (image_in p) f.number f.offset
 
   tests-told : Tested
-  unfolding imageIn
-  tests-told = record { refuses = λ f e. rw e at (told (relationNames p) (programIn p) as_many) }
+  unfolding image_in
+  tests-told = record { refuses = λ f e. rw e at (told (relation_names p) (program_in p) as_many) }
 
   record Passed : Type 0 where
     pub relations : ℕ
     pub clauses : ℕ
-    pub passes : recordsIn (relationNames p) (imageIn p) ≡ Accepted relations clauses
+    pub passes : records_in (relation_names p) (image_in p) ≡ Accepted relations clauses
 
-  none-refused : ((n o : ℕ) → LinesRefused (relationNames p) (imageIn p) n o → ⊥) → Passed
-  none-refused h = go (recordsIn (relationNames p) (imageIn p)) refl
+  none-refused : ((n o : ℕ) → LinesRefused (relation_names p) (image_in p) n o → ⊥) → Passed
+  none-refused h = go (records_in (relation_names p) (image_in p)) refl
     where
-      go : (a : Loaded) → recordsIn (relationNames p) (imageIn p) ≡ a → Passed
+      go : (a : Loaded) → records_in (relation_names p) (image_in p) ≡ a → Passed
       go (Accepted r c) e = record { relations = r; clauses = c; passes = e }
       go (Refused f) e = absurd (h f.number f.offset (tests-told.refuses f e))
 
-  passed_none : (r c : ℕ) → recordsIn (relationNames p) (imageIn p) ≡ Accepted r c → (n o : ℕ) → LinesRefused (relationNames p) (imageIn p) n o → ⊥
+  passed_none : (r c : ℕ) → records_in (relation_names p) (image_in p) ≡ Accepted r c → (n o : ℕ) → LinesRefused (relation_names p) (image_in p) n o → ⊥
   passed_none r c e n o l = let d = sym e ∙ tests-refuse l in let z : ◌≡◌ {A = ℕ} 0 1 = cc in absurd (omega arith)
 
 -- ---- from a reason to the refusal
@@ -70,22 +70,22 @@ module _ (image names text : List ℕ) where
   abbrev p : Source
   p = source_of text
 
-  room-false : (length image < length (imageIn p)) ⊎ (length names < length (namesIn p)) → (leb (length (imageIn p)) (length image) && leb (length (namesIn p)) (length names)) ≡ false
-  room-false (inl h) = rw (lt-leb (length (imageIn p)) (length image) h)
-  room-false (inr h) = rw (lt-leb (length (namesIn p)) (length names) h) (go (leb (length (imageIn p)) (length image)))
+  room-false : (length image < length (image_in p)) ⊎ (length names < length (names_in p)) → (leb (length (image_in p)) (length image) && leb (length (names_in p)) (length names)) ≡ false
+  room-false (inl h) = rw (lt-leb (length (image_in p)) (length image) h)
+  room-false (inr h) = rw (lt-leb (length (names_in p)) (length names) h) (go (leb (length (image_in p)) (length image)))
     where
       go : (b : Bool) → (b && false) ≡ false
       go true = refl
       go false = refl
 
-  pub parse-refused : {n o : ℕ} → ParseRefused image names text n o → parseCall image names text ≡ unread image names (refusal n o)
-  unfolding parseCall
+  pub parse-refused : {n o : ℕ} → ParseRefused image names text n o → parse_call image names text ≡ unread image names (refusal n o)
+  unfolding parse_call
   parse-refused (no_text {i} h) = rw (stuck-found text i h)
   parse-refused (undeclared c u) = rw (right-accepted text c, not-declared p u)
-  parse-refused (bad-line c u l) = rw (right-accepted text c, declared-so p u, tests-refuse p l)
+  parse-refused (bad_line c u l) = rw (right-accepted text c, declared-so p u, tests-refuse p l)
   parse-refused (no_room c u h x) =
       let w = none-refused p h in
-      rw (right-accepted text c, declared-so p u, w.passes, never-long (relationNames p) (imageIn p) w.relations w.clauses w.passes, room-false x)
+      rw (right-accepted text c, declared-so p u, w.passes, never-long (relation_names p) (image_in p) w.relations w.clauses w.passes, room-false x)
 
   -- ---- from the refusal to a reason
 
@@ -93,32 +93,32 @@ module _ (image names text : List ℕ) where
   Told (Read a b) = Unit {0}
   Told (Unread f) = ParseRefused image names text f.number f.offset
 
-  no-room-so : (leb (length (imageIn p)) (length image) && leb (length (namesIn p)) (length names)) ≡ false → (length image < length (imageIn p)) ⊎ (length names < length (namesIn p))
+  no-room-so : (leb (length (image_in p)) (length image) && leb (length (names_in p)) (length names)) ≡ false → (length image < length (image_in p)) ⊎ (length names < length (names_in p))
   no-room-so e =
-      split (leb (length (imageIn p)) (length image))
-      (λ f. inr (leb-false (length (namesIn p)) (length names) (rw f at e)))
-      (λ f. inl (leb-false (length (imageIn p)) (length image) f))
+      split (leb (length (image_in p)) (length image))
+      (λ f. inr (leb-false (length (names_in p)) (length names) (rw f at e)))
+      (λ f. inl (leb-false (length (image_in p)) (length image) f))
 
-  told-room : ClauseText text → (Undeclared p → ⊥) → (r c : ℕ) → recordsIn (relationNames p) (imageIn p) ≡ Accepted r c → (b : Bool) → (leb (length (imageIn p)) (length image) && leb (length (namesIn p)) (length names)) ≡ b → Told (fitting image names b p).answer
+  told-room : ClauseText text → (Undeclared p → ⊥) → (r c : ℕ) → records_in (relation_names p) (image_in p) ≡ Accepted r c → (b : Bool) → (leb (length (image_in p)) (length image) && leb (length (names_in p)) (length names)) ≡ b → Told (fitting image names b p).answer
   told-room t u r c e true f = tt
   told-room t u r c e false f = no_room t u (passed_none p r c e) (no-room-so f)
 
-  told-tests : ClauseText text → (Undeclared p → ⊥) → (a : Loaded) → recordsIn (relationNames p) (imageIn p) ≡ a → Told (tested image names a p).answer
-  told-tests t u (Refused f) e = bad-line t u ((tests-told p).refuses f e)
+  told-tests : ClauseText text → (Undeclared p → ⊥) → (a : Loaded) → records_in (relation_names p) (image_in p) ≡ a → Told (tested image names a p).answer
+  told-tests t u (Refused f) e = bad_line t u ((tests-told p).refuses f e)
   told-tests t u (Accepted r c) e =
-      rw (never-long (relationNames p) (imageIn p) r c e) (told-room t u r c e (leb (length (imageIn p)) (length image) && leb (length (namesIn p)) (length names)) refl)
+      rw (never-long (relation_names p) (image_in p) r c e) (told-room t u r c e (leb (length (image_in p)) (length image) && leb (length (names_in p)) (length names)) refl)
 
   told_names : ClauseText text → (b : Bool) → declared p ≡ b → Told (sourced image names b p).answer
   told_names t false e = undeclared t (declared-not p e)
-  told_names t true e = told-tests t (λ u. never (sym (not-declared p u) ∙ e)) (recordsIn (relationNames p) (imageIn p)) refl
+  told_names t true e = told-tests t (λ u. never (sym (not-declared p u) ∙ e)) (records_in (relation_names p) (image_in p)) refl
 
-  told-spelling : (q : Spelt) → spellingOf text ≡ q → Told (spelled image names q text).answer
+  told-spelling : (q : Spelt) → spelling_of text ≡ q → Told (spelled image names q text).answer
   told-spelling (Stuck i) e = no_text (stuck-exact text i e)
   told-spelling Right e = told_names (accepted-right text e) (declared p) refl
 
-  parse-told : Told (parseCall image names text).answer
-  unfolding parseCall
-  parse-told = told-spelling (spellingOf text) refl
+  parse-told : Told (parse_call image names text).answer
+  unfolding parse_call
+  parse-told = told-spelling (spelling_of text) refl
 
 -- THE LAW: exactly
 pub parse-exactly : ParseExactly
@@ -130,20 +130,20 @@ parse-kept image names text f e =
     (ap (λ (c : ParseCall). c.image) w, ap (λ (c : ParseCall). c.names) w)
 
 line-number : {rels : List Name} {s : List ℕ} {k n : ℕ} → LineRefused rels s k n → In n (16 ∷ 17 ∷ 4 ∷ 5 ∷ 6 ∷ 11 ∷ [])
-line-number (one-too-many f) = behind (behind (behind (behind in-front)))
-line-number (wrong-body f b) = behind (behind in-front)
-line-number (wrong_name f b n) = behind (behind (behind in-front))
-line-number (ninth-of-block f b n h) = behind (behind (behind (behind in-front)))
-line-number (second-line f b n h t) = behind (behind (behind in-front))
+line-number (one_too_many f) = behind (behind (behind (behind in_front)))
+line-number (wrong_body f b) = behind (behind in_front)
+line-number (wrong_name f b n) = behind (behind (behind in_front))
+line-number (ninth_of_block f b n h) = behind (behind (behind (behind in_front)))
+line-number (second_line f b n h t) = behind (behind (behind in_front))
 
 lines-number : {rels : List Name} {s : List ℕ} {n o : ℕ} → LinesRefused rels s n o → In n (16 ∷ 17 ∷ 4 ∷ 5 ∷ 6 ∷ 11 ∷ [])
-lines-number (at-record f more x) = line-number x
+lines-number (at_record f more x) = line-number x
 
 reason-number : {image names text : List ℕ} {n o : ℕ} → ParseRefused image names text n o → In n (16 ∷ 17 ∷ 4 ∷ 5 ∷ 6 ∷ 11 ∷ [])
-reason-number (no_text h) = in-front
-reason-number (undeclared c u) = behind in-front
-reason-number (bad-line c u l) = lines-number l
-reason-number (no_room c u h x) = behind (behind (behind (behind (behind in-front))))
+reason-number (no_text h) = in_front
+reason-number (undeclared c u) = behind in_front
+reason-number (bad_line c u l) = lines-number l
+reason-number (no_room c u h x) = behind (behind (behind (behind (behind in_front))))
 
 pub parse-numbers : ParseNumbers
 parse-numbers image names text n o w = reason-number w

@@ -20,16 +20,16 @@ use Rattle.refusals.specs.Right.{RightImage}
 use Rattle.text_back.proofs.Made.{accepted-made}
 use Rattle.text_back.proofs.Named.{AllNamed, ConstantNamed, named-program, program-named}
 use Rattle.text_back.proofs.Numbers.{each_of, Made}
-use Rattle.text_back.specs.Back.{constantsIn, termsOf}
-use Rattle.text_names.specs.Entries.{isEntry}
+use Rattle.text_back.specs.Back.{constants_in, terms_of}
+use Rattle.text_names.specs.Entries.{is_entry}
 use Rattle.text_program.specs.Parsing.{all_of}
-use Rattle.text_program.specs.Printing.{nameable, PrintCall, printCall, printLoaded, programNamed, programText, roomy, unwritten}
+use Rattle.text_program.specs.Printing.{nameable, PrintCall, print_call, print_loaded, program_named, program_text, roomy, unwritten}
 use Rattle.text_program.specs.declared.Printed.{Printed}
 use Rattle.text_program.specs.declared.Printed.TheVariants.{Unwritten, Wrote}
 use Rattle.text_refusals.proofs.Declared.{all-false}
 use Rattle.text_refusals.proofs.Entered.{entry_has, entry-so}
-use Rattle.text_refusals.specs.Unread.{behind, In, in-front}
-use Rattle.text_refusals.specs.Unwritten.{a-constant, a-relation, bad-image, InUse, lacks-name, PrintExactly, PrintKept, PrintRefused, row-short, Unnamed}
+use Rattle.text_refusals.specs.Unread.{behind, In, in_front}
+use Rattle.text_refusals.specs.Unwritten.{a_constant, a_relation, bad_image, InUse, lacks_name, PrintExactly, PrintKept, PrintRefused, row_short, Unnamed}
 
 -- ---- a number that fails
 
@@ -47,7 +47,7 @@ search-all f (suc n) = go (search-all f n) (f n) refl
     go (all_pass h) true d = all_pass (λ k l. below_suc k n l (λ e. rw e d) (h k))
 
 each_in : {A : Type 0} (P : A → Type 0) {x : A} {xs : List A} → In x xs → Each P xs → P x
-each_in P in-front e = e.0
+each_in P in_front e = e.0
 each_in P (behind i) e = each_in P i e.1
 
 -- ---- what lacks a name
@@ -57,27 +57,27 @@ module _ (nm : List ℕ) (pr : Program) (m : Made pr) where
   r = length pr.relations
 
   abbrev used : ℕ → Bool
-  used c = isEntry nm (r + c)
+  used c = is_entry nm (r + c)
 
-  use-named : AllNamed nm pr → {k : ℕ} → InUse pr k → isEntry nm k ≡ true
-  use-named a (a-relation {k} h) = a.relations k h
-  use-named a (a-constant {c} i) = each_in (ConstantNamed r nm) i a.constants
+  use-named : AllNamed nm pr → {k : ℕ} → InUse pr k → is_entry nm k ≡ true
+  use-named a (a_relation {k} h) = a.relations k h
+  use-named a (a_constant {c} i) = each_in (ConstantNamed r nm) i a.constants
 
-  unnamed-false : Unnamed nm pr → programNamed nm pr ≡ false
-  unnamed-false u = not_so (programNamed nm pr) (λ e. u.missing (entry_has nm u.number (use-named (named-program nm pr m e) u.used)))
+  unnamed-false : Unnamed nm pr → program_named nm pr ≡ false
+  unnamed-false u = not_so (program_named nm pr) (λ e. u.missing (entry_has nm u.number (use-named (named-program nm pr m e) u.used)))
 
-  false-unnamed : programNamed nm pr ≡ false → Unnamed nm pr
-  false-unnamed e = relations-so (search-all (isEntry nm) r)
+  false-unnamed : program_named nm pr ≡ false → Unnamed nm pr
+  false-unnamed e = relations-so (search-all (is_entry nm) r)
     where
-      constants-so : ((k : ℕ) → k < r → isEntry nm k ≡ true) → (b : Bool) → all_of used (constantsIn (termsOf pr)) ≡ b → Unnamed nm pr
-      constants-so h true d = never (sym e ∙ program-named nm pr m h (each_of used (ConstantNamed r nm) (λ c z. z) (constantsIn (termsOf pr)) d))
+      constants-so : ((k : ℕ) → k < r → is_entry nm k ≡ true) → (b : Bool) → all_of used (constants_in (terms_of pr)) ≡ b → Unnamed nm pr
+      constants-so h true d = never (sym e ∙ program-named nm pr m h (each_of used (ConstantNamed r nm) (λ c z. z) (constants_in (terms_of pr)) d))
       constants-so h false d =
-          let w = all-false used (constantsIn (termsOf pr)) d in
-          record { number = r + w.item; used = a-constant w.among; missing = refuted (entry-so nm (r + w.item)) w.fails }
+          let w = all-false used (constants_in (terms_of pr)) d in
+          record { number = r + w.item; used = a_constant w.among; missing = refuted (entry-so nm (r + w.item)) w.fails }
 
-      relations-so : Search (isEntry nm) r → Unnamed nm pr
-      relations-so (one-fails {k} h d) = record { number = k; used = a-relation h; missing = refuted (entry-so nm k) d }
-      relations-so (all_pass h) = constants-so h (all_of used (constantsIn (termsOf pr))) refl
+      relations-so : Search (is_entry nm) r → Unnamed nm pr
+      relations-so (one-fails {k} h d) = record { number = k; used = a_relation h; missing = refuted (entry-so nm k) d }
+      relations-so (all_pass h) = constants-so h (all_of used (constants_in (terms_of pr))) refl
 
 -- ---- from a reason to the refusal
 
@@ -87,15 +87,15 @@ right-loads {s} i = (accepted-right s).1 i
 right-made : {s : List ℕ} {r c : ℕ} → RightImage s r c → Made (program_of s r c)
 right-made {s} {r} {c} i = accepted-made s r c (right-loads i)
 
-named-so : {s nm : List ℕ} {r c : ℕ} → RightImage s r c → (Unnamed nm (program_of s r c) → ⊥) → programNamed nm (program_of s r c) ≡ true
-named-so {s} {nm} {r} {c} i h = split (programNamed nm (program_of s r c)) (λ e. e) (λ e. absurd (h (false-unnamed nm (program_of s r c) (right-made i) e)))
+named-so : {s nm : List ℕ} {r c : ℕ} → RightImage s r c → (Unnamed nm (program_of s r c) → ⊥) → program_named nm (program_of s r c) ≡ true
+named-so {s} {nm} {r} {c} i h = split (program_named nm (program_of s r c)) (λ e. e) (λ e. absurd (h (false-unnamed nm (program_of s r c) (right-made i) e)))
 
 module _ (row s nm : List ℕ) where
-  pub print-refused : {n o : ℕ} → PrintRefused row s nm n o → printCall row s nm ≡ unwritten row (refusal n o)
-  unfolding printCall
-  print-refused {n} {o} (bad-image x) = rw ((refused-exactly s).1 x)
-  print-refused (lacks-name {r} {c} i u) = rw (right-loads i, unnamed-false nm (program_of s r c) (right-made i) u)
-  print-refused (row-short {r} {c} i u h) = rw (right-loads i, named-so i u, lt-leb (length (programText nm (program_of s r c))) (length row) h)
+  pub print-refused : {n o : ℕ} → PrintRefused row s nm n o → print_call row s nm ≡ unwritten row (refusal n o)
+  unfolding print_call
+  print-refused {n} {o} (bad_image x) = rw ((refused-exactly s).1 x)
+  print-refused (lacks_name {r} {c} i u) = rw (right-loads i, unnamed-false nm (program_of s r c) (right-made i) u)
+  print-refused (row_short {r} {c} i u h) = rw (right-loads i, named-so i u, lt-leb (length (program_text nm (program_of s r c))) (length row) h)
 
   -- ---- from the refusal to a reason
 
@@ -103,21 +103,21 @@ module _ (row s nm : List ℕ) where
   Told (Wrote k) = Unit {0}
   Told (Unwritten f) = PrintRefused row s nm f.number f.offset
 
-  told-room : {r c : ℕ} → RightImage s r c → (Unnamed nm (program_of s r c) → ⊥) → (b : Bool) → leb (length (programText nm (program_of s r c))) (length row) ≡ b → Told (roomy row b (programText nm (program_of s r c))).answer
+  told-room : {r c : ℕ} → RightImage s r c → (Unnamed nm (program_of s r c) → ⊥) → (b : Bool) → leb (length (program_text nm (program_of s r c))) (length row) ≡ b → Told (roomy row b (program_text nm (program_of s r c))).answer
   told-room i u true e = tt
-  told-room {r} {c} i u false e = row-short i u (leb-false (length (programText nm (program_of s r c))) (length row) e)
+  told-room {r} {c} i u false e = row_short i u (leb-false (length (program_text nm (program_of s r c))) (length row) e)
 
-  told_names : {r c : ℕ} → RightImage s r c → (b : Bool) → programNamed nm (program_of s r c) ≡ b → Told (nameable row b (programText nm (program_of s r c))).answer
-  told_names {r} {c} i false e = lacks-name i (false-unnamed nm (program_of s r c) (right-made i) e)
+  told_names : {r c : ℕ} → RightImage s r c → (b : Bool) → program_named nm (program_of s r c) ≡ b → Told (nameable row b (program_text nm (program_of s r c))).answer
+  told_names {r} {c} i false e = lacks_name i (false-unnamed nm (program_of s r c) (right-made i) e)
   told_names {r} {c} i true e =
-      told-room i (λ u. never (sym (unnamed-false nm (program_of s r c) (right-made i) u) ∙ e)) (leb (length (programText nm (program_of s r c))) (length row)) refl
+      told-room i (λ u. never (sym (unnamed-false nm (program_of s r c) (right-made i) u) ∙ e)) (leb (length (program_text nm (program_of s r c))) (length row)) refl
 
-  told-load : (a : Loaded) → load_of s ≡ a → Told (printLoaded row a s nm).answer
-  told-load (Refused f) e = bad-image ((refused-exactly s).0 e)
-  told-load (Accepted r c) e = told_names ((accepted-right s).0 e) (programNamed nm (program_of s r c)) refl
+  told-load : (a : Loaded) → load_of s ≡ a → Told (print_loaded row a s nm).answer
+  told-load (Refused f) e = bad_image ((refused-exactly s).0 e)
+  told-load (Accepted r c) e = told_names ((accepted-right s).0 e) (program_named nm (program_of s r c)) refl
 
-  print-told : Told (printCall row s nm).answer
-  unfolding printCall
+  print-told : Told (print_call row s nm).answer
+  unfolding print_call
   print-told = told-load (load_of s) refl
 
 -- THE LAW: exactly

@@ -8,39 +8,39 @@ use lib.ListN.{length}
 use borrow.Author.Tests.{le-ltb, lt-ltb, ltb-false}
 use native.Mathlib.Omega.{arith}
 use Rattle.parlog.specs.Load.{long}
-use Rattle.parlog.specs.Numbers.{refusedAs, word}
+use Rattle.parlog.specs.Numbers.{refused_as, word}
 use Rattle.parlog.specs.declared.Loaded.{Loaded}
 use Rattle.parlog.specs.declared.Loaded.TheVariants.{Accepted, Refused}
 use Rattle.parlog.specs.declared.Refusal.{Refusal}
-use Rattle.spell.specs.Stuck.{spellingOf}
+use Rattle.spell.specs.Stuck.{spelling_of}
 use Rattle.spell.specs.declared.Spelt.{Spelt}
 use Rattle.spell.specs.declared.Spelt.TheVariants.{Right, Stuck}
-use Rattle.text_program.specs.Numbered.{relationNames}
-use Rattle.text_program.specs.Parsing.{declared, fitting, imageIn, namesIn, notLong, parseCall, recordsIn, sourced, spelled, tested}
+use Rattle.text_program.specs.Numbered.{relation_names}
+use Rattle.text_program.specs.Parsing.{declared, fitting, image_in, names_in, not_long, parse_call, records_in, sourced, spelled, tested}
 use Rattle.text_program.specs.Source.{Source, source_of}
 use Rattle.text_program.specs.declared.Parsed.{Parsed}
 use Rattle.text_program.specs.declared.Parsed.TheVariants.{Read}
 use Rattle.text_program.specs.declared.Printed.{Printed}
 use Rattle.text_program.specs.declared.Printed.TheVariants.{Wrote}
-use Rattle.text_words.specs.Numbers.{ParseFits, parseNumbers, printNumbers}
-use Rattle.words.specs.Nights.{toldOffset, toldRefusal}
+use Rattle.text_words.specs.Numbers.{ParseFits, parse_numbers, print_numbers}
+use Rattle.words.specs.Nights.{told_offset, told_refusal}
 
 module _ (n : ℕ) where
-  pub told-most : 4294967295 < n → 4294967295 ≡ toldOffset n
+  pub told-most : 4294967295 < n → 4294967295 ≡ told_offset n
   told-most h = rw (lt-ltb 4294967295 n h)
 
-  pub told_same : n ≤ 4294967295 → n ≡ toldOffset n
+  pub told_same : n ≤ 4294967295 → n ≡ told_offset n
   told_same h = rw (le-ltb 4294967295 n h)
 
 -- a refusal told in place of another
-pub refused-told : (r : Refusal) {t : Refusal} {w : ℕ} → t ≡ toldRefusal r → w ≡ word (refusedAs t) → w ≡ word (refusedAs (toldRefusal r))
-refused-told r e k = k ∙ ap (λ (x : Refusal). word (refusedAs x)) e
+pub refused-told : (r : Refusal) {t : Refusal} {w : ℕ} → t ≡ told_refusal r → w ≡ word (refused_as t) → w ≡ word (refused_as (told_refusal r))
+refused-told r e k = k ∙ ap (λ (x : Refusal). word (refused_as x)) e
 
 -- a length told in place of another
-pub print-told : {a : Printed} {n t w : ℕ} → a ≡ Wrote n → t ≡ toldOffset n → w ≡ word (record { refused = 0; a = 0; b = 0; c = t }) → w ≡ word (printNumbers a)
+pub print-told : {a : Printed} {n t w : ℕ} → a ≡ Wrote n → t ≡ told_offset n → w ≡ word (record { refused = 0; a = 0; b = 0; c = t }) → w ≡ word (print_numbers a)
 print-told e h k = rw (k, h, e)
 
-pub parse-told : {a : Parsed} {n m t w : ℕ} → a ≡ Read n m → t ≡ toldOffset m → w ≡ word (record { refused = 0; a = n % 256; b = n / 256; c = t }) → w ≡ word (parseNumbers a)
+pub parse-told : {a : Parsed} {n m t w : ℕ} → a ≡ Read n m → t ≡ told_offset m → w ≡ word (record { refused = 0; a = n % 256; b = n / 256; c = t }) → w ≡ word (parse_numbers a)
 parse-told e h k = rw (k, h, e)
 
 -- a number of two bytes in two parts
@@ -50,27 +50,27 @@ parts-fit n h = (omega arith, omega arith)
 -- ---- the image of a text that is parsed has at most 32,768 bytes
 
 module _ (image names : List ℕ) where
-  room_fits : (p : Source) → long (imageIn p) ≡ false → (b : Bool) → ParseFits (fitting image names b p).answer
+  room_fits : (p : Source) → long (image_in p) ≡ false → (b : Bool) → ParseFits (fitting image names b p).answer
   unfolding long
   room_fits p h false = tt
-  room_fits p h true = let k = ltb-false 32768 (length (imageIn p)) h in omega arith
+  room_fits p h true = let k = ltb-false 32768 (length (image_in p)) h in omega arith
 
-  length-fits : (p : Source) → (b : Bool) → long (imageIn p) ≡ b → ParseFits (notLong image names b p).answer
-  length-fits p true h = tt
-  length-fits p false h = room_fits p h (leb (length (imageIn p)) (length image) && leb (length (namesIn p)) (length names))
+  length_fits : (p : Source) → (b : Bool) → long (image_in p) ≡ b → ParseFits (not_long image names b p).answer
+  length_fits p true h = tt
+  length_fits p false h = room_fits p h (leb (length (image_in p)) (length image) && leb (length (names_in p)) (length names))
 
   tests-fit : (p : Source) → (a : Loaded) → ParseFits (tested image names a p).answer
   tests-fit p (Refused r) = tt
-  tests-fit p (Accepted r c) = length-fits p (long (imageIn p)) refl
+  tests-fit p (Accepted r c) = length_fits p (long (image_in p)) refl
 
-  names-fit : (p : Source) → (b : Bool) → ParseFits (sourced image names b p).answer
-  names-fit p false = tt
-  names-fit p true = tests-fit p (recordsIn (relationNames p) (imageIn p))
+  names_fit : (p : Source) → (b : Bool) → ParseFits (sourced image names b p).answer
+  names_fit p false = tt
+  names_fit p true = tests-fit p (records_in (relation_names p) (image_in p))
 
   spelling-fits : (text : List ℕ) → (q : Spelt) → ParseFits (spelled image names q text).answer
   spelling-fits text (Stuck i) = tt
-  spelling-fits text Right = names-fit (source_of text) (declared (source_of text))
+  spelling-fits text Right = names_fit (source_of text) (declared (source_of text))
 
-  pub parse-fits : (text : List ℕ) → ParseFits (parseCall image names text).answer
-  unfolding parseCall
-  parse-fits text = spelling-fits text (spellingOf text)
+  pub parse-fits : (text : List ℕ) → ParseFits (parse_call image names text).answer
+  unfolding parse_call
+  parse-fits text = spelling-fits text (spelling_of text)

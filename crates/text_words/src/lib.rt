@@ -1,8 +1,8 @@
 // The answers of print and parse as the one word that C is given.
 ghost use Rattle.std.specs.Prelude.{◌≡◌, ◌≤◌};
 ghost use Rattle.parlog.specs.Numbers.{word};
-ghost use Rattle.text_words.specs.Numbers.{ParseFits, parseNumbers, printNumbers};
-ghost use Rattle.words.specs.Nights.{toldOffset};
+ghost use Rattle.text_words.specs.Numbers.{ParseFits, parse_numbers, print_numbers};
+ghost use Rattle.words.specs.Nights.{told_offset};
 
 use text_program::{Parsed, Printed};
 
@@ -17,7 +17,7 @@ const BYTE: usize = 256;
 
 // A length as it can be told.
 fn told(n: usize) -> usize
-    ensures { (result ≡ toldOffset n) × (result ≤ 4294967295) }
+    ensures { (result ≡ told_offset n) × (result ≤ 4294967295) }
 {
     if MOST_NUMBER < n {
         return MOST_NUMBER;
@@ -27,7 +27,7 @@ fn told(n: usize) -> usize
 
 // Of a print: how many bytes the text has.
 pub fn print_word(a: Printed) -> u64
-    ensures { result ≡ word (printNumbers a) }
+    ensures { result ≡ word (print_numbers a) }
 {
     match a {
         Printed::Wrote(n) => words::word(ACCEPTED, 0, 0, told(n)),
@@ -38,7 +38,7 @@ pub fn print_word(a: Printed) -> u64
 // Of a parse: how many bytes the image has, in two parts, and the names.
 pub fn parse_word(a: Parsed) -> u64
     requires { ParseFits a }
-    ensures { result ≡ word (parseNumbers a) }
+    ensures { result ≡ word (parse_numbers a) }
 {
     match a {
         Parsed::Read(n, m) => words::word(ACCEPTED, n % BYTE, n / BYTE, told(m)),

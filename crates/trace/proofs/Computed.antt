@@ -3,12 +3,12 @@ use Rattle.std.proofs.Common.{refl}
 use Rattle.parlog.specs.Records.{cut}
 use Rattle.parlog.specs.Scan.{lowest}
 use Rattle.trace.specs.Instances.{OtherRecords, StampsFollow}
-use Rattle.trace.specs.Trace.{firstFault, firstGap, recordBytes, recordFault, traceTested}
+use Rattle.trace.specs.Trace.{first_fault, first_gap, record_bytes, record_fault, trace_tested}
 
-pub stampsFollow : StampsFollow
-unfolding traceTested firstFault firstGap recordFault recordBytes lowest cut
-stampsFollow = record { all_right = refl; third-left-out = refl; last-cut = refl; cut-before-gap = refl; plain-next = refl }
+pub stamps_follow : StampsFollow
+unfolding trace_tested first_fault first_gap record_fault record_bytes lowest cut
+stamps_follow = record { all_right = refl; third_left_out = refl; last_cut = refl; cut_before_gap = refl; plain_next = refl }
 
-pub otherRecords : OtherRecords
-unfolding traceTested firstFault firstGap recordFault recordBytes lowest cut
-otherRecords = record { nothing = refl; kind-34 = refl; longer = refl }
+pub other_records : OtherRecords
+unfolding trace_tested first_fault first_gap record_fault record_bytes lowest cut
+other_records = record { nothing = refl; kind_34 = refl; longer = refl }

@@ -4,18 +4,18 @@ use borrow.Author.Tests.{eqb-false}
 use Rattle.parlog.proofs.Bools.{never, or-false, split}
 use Rattle.parlog.proofs.Scans.{Lowest, lowest-at, lowest-is, lowest-nothing}
 use Rattle.parlog.proofs.Walk.{whole}
-use Rattle.parlog.specs.Records.{cut, kindAt, recordEnd, word_at}
+use Rattle.parlog.specs.Records.{cut, kind_at, record_end, word_at}
 use Rattle.parlog.specs.declared.Found.{Found}
 use Rattle.parlog.specs.declared.Found.TheVariants.{At, Nothing}
 use Rattle.parlog.specs.declared.Refusal.{Refusal}
-use Rattle.trace.specs.Trace.{failIf, FaultsSay, faultTested, faulty, firstFault, firstGap, gapAt, isGap, knownKind, recordFault, recordsIn, stampAt, TestedSays, traceSize, traceTested}
+use Rattle.trace.specs.Trace.{fail_if, FaultsSay, fault_tested, faulty, first_fault, first_gap, gap_at, is_gap, known_kind, record_fault, records_in, stamp_at, TestedSays, trace_size, trace_tested}
 use Rattle.trace.specs.declared.Tested.{Tested}
 use Rattle.trace.specs.declared.Tested.TheVariants.{Faulty, Records}
 
 -- ---- stamps
 
 -- THE LAW: by how much a stamp is behind another is 1 exactly where it follows that one
-pub gap-exact : (before stamp r : ℕ) → before < 65536 → stamp < 65536 → r < 65536 → (r + before) % 65536 ≡ stamp → not (eqb r 1) ≡ isGap before stamp
+pub gap-exact : (before stamp r : ℕ) → before < 65536 → stamp < 65536 → r < 65536 → (r + before) % 65536 ≡ stamp → not (eqb r 1) ≡ is_gap before stamp
 gap-exact before stamp r hb hs hr e = split (eqb r 1)
     (λ q. let one : r ≡ 1 = eqb-true r 1 q in rw (q, eq-eqb stamp ((before + 1) % 65536) (omega arith)))
     (λ q. let other : r ≢ 1 = eqb-false r 1 q in rw (q, ne_eqb stamp ((before + 1) % 65536) (λ z. other (omega arith))))
@@ -39,44 +39,44 @@ module _ (s : List ℕ) (at : ℕ) (here : at < length s) where
 -- a record that is not cut has its front
 pub front-there : (s : List ℕ) (at : ℕ) → cut s at ≡ false → at + 4 ≤ length s
 unfolding cut
-front-there s at e = ltb-false (length s) (at + 4) (or-false (ltb (length s) (at + 4)) (ltb (word_at s at) 4 || ltb (length s) (recordEnd s at)) e).0
+front-there s at e = ltb-false (length s) (at + 4) (or-false (ltb (length s) (at + 4)) (ltb (word_at s at) 4 || ltb (length s) (record_end s at)) e).0
 
 module _ (s : List ℕ) (at : ℕ) where
-  pub fault-cut : cut s at ≡ true → 2 ≡ recordFault s at
-  unfolding recordFault
+  pub fault-cut : cut s at ≡ true → 2 ≡ record_fault s at
+  unfolding record_fault
   fault-cut e = rw e
 
   module _ (e : cut s at ≡ false) where
-    pub fault-kind : knownKind (kindAt s at) ≡ false → 3 ≡ recordFault s at
-    unfolding recordFault
+    pub fault-kind : known_kind (kind_at s at) ≡ false → 3 ≡ record_fault s at
+    unfolding record_fault
     fault-kind k = rw (e, k)
 
-    module _ (k : knownKind (kindAt s at) ≡ true) where
-      pub fault-body : word_at s at ≢ traceSize → 4 ≡ recordFault s at
-      unfolding recordFault
-      fault-body h = rw (e, k, ne_eqb (word_at s at) traceSize h)
+    module _ (k : known_kind (kind_at s at) ≡ true) where
+      pub fault-body : word_at s at ≢ trace_size → 4 ≡ record_fault s at
+      unfolding record_fault
+      fault-body h = rw (e, k, ne_eqb (word_at s at) trace_size h)
 
-      pub fault-none : word_at s at ≡ traceSize → 0 ≡ recordFault s at
-      unfolding recordFault
-      fault-none h = rw (e, k, eq-eqb (word_at s at) traceSize h)
+      pub fault-none : word_at s at ≡ trace_size → 0 ≡ record_fault s at
+      unfolding record_fault
+      fault-none h = rw (e, k, eq-eqb (word_at s at) trace_size h)
 
   -- a record that fails no test is whole, of a known kind and of the right length
   pub record Right : Type 0 where
     pub uncut : cut s at ≡ false
-    pub kind : knownKind (kindAt s at) ≡ true
-    pub size : word_at s at ≡ traceSize
-    pub inside : at + traceSize ≤ length s
+    pub kind : known_kind (kind_at s at) ≡ true
+    pub size : word_at s at ≡ trace_size
+    pub inside : at + trace_size ≤ length s
 
-  pub right_of : recordFault s at ≡ 0 → Right
-  unfolding recordFault
-  right_of = by (cut s at) refl (knownKind (kindAt s at)) refl (eqb (word_at s at) traceSize) refl
+  pub right_of : record_fault s at ≡ 0 → Right
+  unfolding record_fault
+  right_of = by (cut s at) refl (known_kind (kind_at s at)) refl (eqb (word_at s at) trace_size) refl
     where
-      by : (a : Bool) → cut s at ≡ a → (b : Bool) → knownKind (kindAt s at) ≡ b → (c : Bool) → eqb (word_at s at) traceSize ≡ c → failIf a 2 (failIf (not b) 3 (failIf (not c) 4 0)) ≡ 0 → Right
+      by : (a : Bool) → cut s at ≡ a → (b : Bool) → known_kind (kind_at s at) ≡ b → (c : Bool) → eqb (word_at s at) trace_size ≡ c → fail_if a 2 (fail_if (not b) 3 (fail_if (not c) 4 0)) ≡ 0 → Right
       by true ea b eb c ec z = absurd (omega arith)
       by false ea false eb c ec z = absurd (omega arith)
       by false ea true eb false ec z = absurd (omega arith)
       by false ea true eb true ec z =
-          let w : word_at s at ≡ traceSize = eqb-true (word_at s at) traceSize ec in
+          let w : word_at s at ≡ trace_size = eqb-true (word_at s at) trace_size ec in
           record { uncut = ea; kind = eb; size = w; inside = omega (arith, (whole s at ea).1) }
 
 -- ---- the loop over records
@@ -91,22 +91,22 @@ clean-none s i h = absurd (omega arith)
 more-below : (t : ℕ → Bool) (k : ℕ) → ((i : ℕ) → i < k → t i ≡ false) → t k ≡ false → (i : ℕ) → i < k + 1 → t i ≡ false
 more-below t k all e i h = split (eqb i k) (λ q. rw (eqb-true i k q) e) (λ q. let d = eqb-false i k q in all i (omega (arith, d)))
 
-module _ (s : List ℕ) (at k : ℕ) (place : at ≡ k * traceSize) (clean : Clean s k) where
-  module _ (here : at < length s) {f : ℕ} (ef : f ≡ recordFault s at) where
-    fault-is : recordFault s (k * traceSize) ≡ f
+module _ (s : List ℕ) (at k : ℕ) (place : at ≡ k * trace_size) (clean : Clean s k) where
+  module _ (here : at < length s) {f : ℕ} (ef : f ≡ record_fault s at) where
+    fault-is : record_fault s (k * trace_size) ≡ f
     fault-is = rw (← place) (sym ef)
 
     pub faults-found : f ≢ 0 → FaultsSay s (Faulty (record { number = f; offset = at }))
-    unfolding firstFault
+    unfolding first_fault
     faults-found h =
         let p : faulty s k ≡ true = rw (fault-is, ne_eqb f 0 h) in
-        let first : Lowest (faulty s) (recordsIn s) k = record { there = omega arith; passes = p; least = λ i u q. later i q } in
-        record { tests = rw (lowest-is (faulty s) (recordsIn s) k first, fault-is, place); fills = tt }
+        let first : Lowest (faulty s) (records_in s) k = record { there = omega arith; passes = p; least = λ i u q. later i q } in
+        record { tests = rw (lowest-is (faulty s) (records_in s) k first, fault-is, place); fills = tt }
       where
         later : (i : ℕ) → faulty s i ≡ true → k ≤ i
         later i q = split (ltb i k) (λ z. never (sym (clean i (ltb-true i k z)) ∙ q)) (λ z. ltb-false i k z)
 
-    pub faults-next : f ≡ 0 → (at + traceSize ≤ length s) × (at + traceSize ≡ (k + 1) * traceSize) × Clean s (k + 1)
+    pub faults-next : f ≡ 0 → (at + trace_size ≤ length s) × (at + trace_size ≡ (k + 1) * trace_size) × Clean s (k + 1)
     faults-next z = (
       (right_of s at (sym ef ∙ z)).inside,
       omega arith,
@@ -114,74 +114,74 @@ module _ (s : List ℕ) (at k : ℕ) (place : at ≡ k * traceSize) (clean : Cle
     )
 
   pub faults-done : at ≤ length s → length s ≤ at → FaultsSay s (Records k)
-  unfolding firstFault
+  unfolding first_fault
   faults-done a b =
-      let n : recordsIn s ≡ k = omega arith in
-      record { tests = rw (lowest-nothing (faulty s) (recordsIn s) (λ i h. clean i (omega arith)), n); fills = omega arith }
+      let n : records_in s ≡ k = omega arith in
+      record { tests = rw (lowest-nothing (faulty s) (records_in s) (λ i h. clean i (omega arith)), n); fills = omega arith }
 
 -- ---- the loop over stamps
 
 abbrev pub Steady : List ℕ → ℕ → Type 0
-Steady s k = (i : ℕ) → i < k → gapAt s i ≡ false
+Steady s k = (i : ℕ) → i < k → gap_at s i ≡ false
 
 pub steady-one : (s : List ℕ) → Steady s 1
 steady-one s zero h = refl
 steady-one s (suc i) h = absurd (omega arith)
 
-gap_at : (s : List ℕ) (k : ℕ) → 1 ≤ k → gapAt s k ≡ isGap (stampAt s ((k - 1) * traceSize)) (stampAt s (k * traceSize))
-gap_at s zero h = absurd (omega arith)
-gap_at s (suc k) h = let e : suc k - 1 ≡ k = omega arith in rw e
+gap_at_lem : (s : List ℕ) (k : ℕ) → 1 ≤ k → gap_at s k ≡ is_gap (stamp_at s ((k - 1) * trace_size)) (stamp_at s (k * trace_size))
+gap_at_lem s zero h = absurd (omega arith)
+gap_at_lem s (suc k) h = let e : suc k - 1 ≡ k = omega arith in rw e
 
 module _ (s : List ℕ) (n k : ℕ) (steady : Steady s k) (some : 1 ≤ k) where
-  module _ {a b : ℕ} (ea : a ≡ stampAt s ((k - 1) * traceSize)) (eb : b ≡ stampAt s (k * traceSize)) {g : Bool} (eg : g ≡ isGap a b) where
-    gap_is : gapAt s k ≡ g
-    gap_is = gap_at s k some ∙ rw (eg, ea, eb)
+  module _ {a b : ℕ} (ea : a ≡ stamp_at s ((k - 1) * trace_size)) (eb : b ≡ stamp_at s (k * trace_size)) {g : Bool} (eg : g ≡ is_gap a b) where
+    gap_is : gap_at s k ≡ g
+    gap_is = gap_at_lem s k some ∙ rw (eg, ea, eb)
 
-    pub gap-found : k < n → g ≡ true → At k ≡ firstGap s n
-    unfolding firstGap
-    gap-found h z = sym (lowest-is (gapAt s) n k (record { there = h; passes = gap_is ∙ z; least = λ i u q. later i q }))
+    pub gap-found : k < n → g ≡ true → At k ≡ first_gap s n
+    unfolding first_gap
+    gap-found h z = sym (lowest-is (gap_at s) n k (record { there = h; passes = gap_is ∙ z; least = λ i u q. later i q }))
       where
-        later : (i : ℕ) → gapAt s i ≡ true → k ≤ i
+        later : (i : ℕ) → gap_at s i ≡ true → k ≤ i
         later i q = split (ltb i k) (λ y. never (sym (steady i (ltb-true i k y)) ∙ q)) (λ y. ltb-false i k y)
 
     pub gap-next : g ≡ false → Steady s (k + 1)
-    gap-next z = more-below (gapAt s) k steady (gap_is ∙ z)
+    gap-next z = more-below (gap_at s) k steady (gap_is ∙ z)
 
-  pub gap-none : n ≤ k → Nothing ≡ firstGap s n
-  unfolding firstGap
-  gap-none h = sym (lowest-nothing (gapAt s) n (λ i u. steady i (omega arith)))
+  pub gap-none : n ≤ k → Nothing ≡ first_gap s n
+  unfolding first_gap
+  gap-none h = sym (lowest-nothing (gap_at s) n (λ i u. steady i (omega arith)))
 
 -- a record with a gap before it is one of them
-pub gap_below : (s : List ℕ) (n : ℕ) {g : Found} {k : ℕ} → g ≡ firstGap s n → g ≡ At k → k < n
-unfolding firstGap
-gap_below s n {k = k} eg e = (lowest-at (gapAt s) n k (sym eg ∙ e)).there
+pub gap_below : (s : List ℕ) (n : ℕ) {g : Found} {k : ℕ} → g ≡ first_gap s n → g ≡ At k → k < n
+unfolding first_gap
+gap_below s n {k = k} eg e = (lowest-at (gap_at s) n k (sym eg ∙ e)).there
 
 -- ---- all tests
 
 module _ (s : List ℕ) {f : Tested} (says : FaultsSay s f) where
   pub tested-faulty : {r : Refusal} → f ≡ Faulty r → TestedSays s f
-  tested-faulty {r} q = record { tests = go (firstFault s) refl says.tests; fills = says.fills }
+  tested-faulty {r} q = record { tests = go (first_fault s) refl says.tests; fills = says.fills }
     where
-      go : (x : Found) → firstFault s ≡ x → f ≡ faultTested x s → f ≡ traceTested s
-      go (At k) e h = unfold traceTested in (rw e h)
+      go : (x : Found) → first_fault s ≡ x → f ≡ fault_tested x s → f ≡ trace_tested s
+      go (At k) e h = unfold trace_tested in (rw e h)
       go Nothing e h = cc
 
-  records_is : {n : ℕ} → f ≡ Records n → (firstFault s ≡ Nothing) × (recordsIn s ≡ n)
-  records_is {n} q = go (firstFault s) refl says.tests
+  records_is : {n : ℕ} → f ≡ Records n → (first_fault s ≡ Nothing) × (records_in s ≡ n)
+  records_is {n} q = go (first_fault s) refl says.tests
     where
-      go : (x : Found) → firstFault s ≡ x → f ≡ faultTested x s → (firstFault s ≡ Nothing) × (recordsIn s ≡ n)
+      go : (x : Found) → first_fault s ≡ x → f ≡ fault_tested x s → (first_fault s ≡ Nothing) × (records_in s ≡ n)
       go (At k) e h = (cc, cc)
-      go Nothing e h = (e, let z : Records (recordsIn s) ≡ Records n = cc in cc)
+      go Nothing e h = (e, let z : Records (records_in s) ≡ Records n = cc in cc)
 
   -- the records fill the bytes
-  pub faults-fill : {n : ℕ} → f ≡ Records n → n * traceSize ≡ length s
+  pub faults-fill : {n : ℕ} → f ≡ Records n → n * trace_size ≡ length s
   faults-fill q = rw q at says.fills
 
-  module _ {n : ℕ} (q : f ≡ Records n) {g : Found} (eg : g ≡ firstGap s n) where
-    pub tested-gap : {k : ℕ} → g ≡ At k → TestedSays s (Faulty (record { number = 19; offset = k * traceSize }))
-    unfolding traceTested
+  module _ {n : ℕ} (q : f ≡ Records n) {g : Found} (eg : g ≡ first_gap s n) where
+    pub tested-gap : {k : ℕ} → g ≡ At k → TestedSays s (Faulty (record { number = 19; offset = k * trace_size }))
+    unfolding trace_tested
     tested-gap e = let a = records_is q in record { tests = rw (a.0, a.1, sym eg ∙ e); fills = tt }
 
     pub tested-none : g ≡ Nothing → TestedSays s (Records n)
-    unfolding traceTested
+    unfolding trace_tested
     tested-none e = let a = records_is q in record { tests = rw (a.0, a.1, sym eg ∙ e, a.1); fills = faults-fill q }

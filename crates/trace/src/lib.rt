@@ -1,8 +1,8 @@
 // Traces: records of steps and supplies with their stamps, and the tests of a whole trace.
 ghost use Rattle.std.specs.Prelude.{◌≡◌, ◌+◌, ◌*◌, ◌<◌, ◌≤◌, length};
 ghost use Rattle.lay.specs.Lay.{Lays};
-ghost use Rattle.parlog.specs.Records.{cut, kindAt, word_at};
-ghost use Rattle.trace.specs.Trace.{firstGap, following, isGap, knownKind, recordBytes, recordFault, stampAt, TestedSays, traceSize, whatAt, whoAt};
+ghost use Rattle.parlog.specs.Records.{cut, kind_at, word_at};
+ghost use Rattle.trace.specs.Trace.{first_gap, following, is_gap, known_kind, record_bytes, record_fault, stamp_at, TestedSays, trace_size, what_at, who_at};
 ghost use Rattle.trace.specs.Trace.{FaultsSay};
 
 use parlog::{Found, Refusal, codes};
@@ -44,7 +44,7 @@ pub fn following(stamp: u16) -> u16
 
 // It does not follow the one before.
 fn gap(before: u16, stamp: u16) -> bool
-    ensures { result ≡ isGap before stamp }
+    ensures { result ≡ is_gap before stamp }
 {
     std::num::wrapping_sub_u16(stamp, before) != 1
 }
@@ -61,32 +61,32 @@ fn word(s: &[u8], at: usize) -> usize
 
 // Of record k: what it is.
 pub fn kind(s: &[u8], k: usize) -> usize
-    requires { k * traceSize + traceSize ≤ length s.now }
-    ensures { (result ≡ kindAt s.now (k * traceSize)) × (result ≤ 65535) }
+    requires { k * trace_size + trace_size ≤ length s.now }
+    ensures { (result ≡ kind_at s.now (k * trace_size)) × (result ≤ 65535) }
 {
     word(s, k * SIZE + codes::RECORD_KIND)
 }
 
 // The process or the variable.
 pub fn who(s: &[u8], k: usize) -> usize
-    requires { k * traceSize + traceSize ≤ length s.now }
-    ensures { (result ≡ whoAt s.now (k * traceSize)) × (result ≤ 65535) }
+    requires { k * trace_size + trace_size ≤ length s.now }
+    ensures { (result ≡ who_at s.now (k * trace_size)) × (result ≤ 65535) }
 {
     word(s, k * SIZE + WHO)
 }
 
 // The rule or the value.
 pub fn what(s: &[u8], k: usize) -> usize
-    requires { k * traceSize + traceSize ≤ length s.now }
-    ensures { (result ≡ whatAt s.now (k * traceSize)) × (result ≤ 65535) }
+    requires { k * trace_size + trace_size ≤ length s.now }
+    ensures { (result ≡ what_at s.now (k * trace_size)) × (result ≤ 65535) }
 {
     word(s, k * SIZE + WHAT)
 }
 
 // The stamp.
 fn stamp(s: &[u8], k: usize) -> u16
-    requires { k * traceSize + traceSize ≤ length s.now }
-    ensures { result ≡ stampAt s.now (k * traceSize) }
+    requires { k * trace_size + trace_size ≤ length s.now }
+    ensures { result ≡ stamp_at s.now (k * trace_size) }
 {
     word(s, k * SIZE + STAMP) as u16
 }
@@ -101,7 +101,7 @@ pub fn put_record(
     stamp: u16,
 ) -> usize
     requires { at ≤ 4294967280 }
-    ensures { Lays out.old out.new at (recordBytes kind who what stamp) result }
+    ensures { Lays out.old out.new at (record_bytes kind who what stamp) result }
 {
     let at = lay::put2(out, at, SIZE);
     let at = lay::put2(out, at, kind);
@@ -127,7 +127,7 @@ fn cut(s: &[u8], at: usize) -> bool
 
 // 3, KIND, is what no trace has.
 fn known_kind(kind: usize) -> bool
-    ensures { result ≡ knownKind kind }
+    ensures { result ≡ known_kind kind }
 {
     basics::or(kind == STEP, kind == SUPPLY)
 }
@@ -135,7 +135,7 @@ fn known_kind(kind: usize) -> bool
 // The first of the tests 2, 3 and 4 that a record fails, and 0 where it fails none.
 fn record_fault(s: &[u8], at: usize) -> u8
     requires { at < length s.now }
-    ensures { result ≡ recordFault s.now at }
+    ensures { result ≡ record_fault s.now at }
 {
     if cut(s, at) {
         return codes::CUT;
@@ -173,8 +173,8 @@ fn faults(s: &[u8]) -> Tested
 
 // The first of n records whose stamp does not follow the one before.
 fn first_gap(s: &[u8], n: usize) -> Found
-    requires { n * traceSize ≤ length s.now }
-    ensures { result ≡ firstGap s.now n }
+    requires { n * trace_size ≤ length s.now }
+    ensures { result ≡ first_gap s.now n }
 {
     let mut k = 1;
     while k < n {

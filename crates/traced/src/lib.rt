@@ -1,10 +1,10 @@
 // Step and supply that record: the plain calls with one row more, in which the move leaves its record.
 ghost use Rattle.std.specs.Prelude.{◌≡◌};
 ghost use Rattle.bound.specs.Calls.{RowSays};
-ghost use Rattle.parlog.specs.Calls.{stepCall};
+ghost use Rattle.parlog.specs.Calls.{step_call};
 ghost use Rattle.parlog.specs.Limits.{small};
 ghost use Rattle.parlog.specs.Tables.{lent};
-ghost use Rattle.traced.specs.Traced.{orRoom, stepTracedCall, stepUnnoted, supplyTracedCall, supplyUnnoted};
+ghost use Rattle.traced.specs.Traced.{or_room, step_traced_call, step_unnoted, supply_traced_call, supply_unnoted};
 
 use parlog::{Loaded, Stepped, Supplied, codes};
 
@@ -12,7 +12,7 @@ use parlog::{Loaded, Stepped, Supplied, codes};
 
 // What refuses a step that has no room for its record: what refuses the plain one, else ROOM.
 fn or_room(number: u8) -> u8
-    ensures { result ≡ orRoom number }
+    ensures { result ≡ or_room number }
 {
     if number != 0 {
         return number;
@@ -22,7 +22,7 @@ fn or_room(number: u8) -> u8
 
 // The step whose record has no room: it only reads.
 fn step_unnoted(image: &[u8], head: &[u8], procs: &[u8], vars: &[u8], process: u32) -> Stepped
-    ensures { result ≡ stepUnnoted (stepCall small image.now (lent head.now procs.now vars.now) process).answer }
+    ensures { result ≡ step_unnoted (step_call small image.now (lent head.now procs.now vars.now) process).answer }
 {
     let mut ix = [0u16; program_index::SIZE];
     let e = entry::enter(image, head, procs, vars, &mut ix);
@@ -51,7 +51,7 @@ pub fn step_traced(
     process: u32,
     stamp: u16,
 ) -> Stepped
-    ensures { RowSays (stepTracedCall small image.now (lent head.old procs.old vars.old) trace.old process stamp) result head.new procs.new vars.new trace.new }
+    ensures { RowSays (step_traced_call small image.now (lent head.old procs.old vars.old) trace.old process stamp) result head.new procs.new vars.new trace.new }
 {
     if trace.len() < trace::SIZE {
         return step_unnoted(image, head, procs, vars, process);
@@ -69,7 +69,7 @@ pub fn step_traced(
 
 // The supply whose record has no room: refused as the plain one, else with ROOM.
 fn supply_unnoted(a: Supplied) -> Supplied
-    ensures { result ≡ supplyUnnoted a }
+    ensures { result ≡ supply_unnoted a }
 {
     match a {
         Supplied::Given(_) => Supplied::Ungiven(entry::refusal(codes::ROOM)),
@@ -88,7 +88,7 @@ pub fn supply_traced(
     value: u32,
     stamp: u16,
 ) -> Supplied
-    ensures { RowSays (supplyTracedCall small image.now (lent head.now procs.now vars.old) trace.old variable value stamp) result head.now procs.now vars.new trace.new }
+    ensures { RowSays (supply_traced_call small image.now (lent head.now procs.now vars.old) trace.old variable value stamp) result head.now procs.now vars.new trace.new }
 {
     if trace.len() < trace::SIZE {
         let d = machine::decided(image, head, procs, vars, variable, value);

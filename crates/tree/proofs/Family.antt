@@ -12,10 +12,10 @@ use Rattle.parlog.proofs.Along.{less_one}
 use Rattle.parlog.proofs.Bools.{not_so, split}
 use Rattle.parlog.proofs.Fine.{below-child, child-lower}
 use Rattle.parlog.proofs.Kin.{below_at, below-test, Kin}
-use Rattle.parlog.specs.Codes.{isTag, try-clause}
-use Rattle.parlog.specs.Notions.{Below, deeper, next-below}
-use Rattle.parlog.specs.Tables.{at, procsOf, State}
-use Rattle.parlog.specs.Tree.{below, enclosing, first_of, tryAbove}
+use Rattle.parlog.specs.Codes.{is_tag, try_clause}
+use Rattle.parlog.specs.Notions.{Below, deeper, next_below}
+use Rattle.parlog.specs.Tables.{at, procs_of, State}
+use Rattle.parlog.specs.Tree.{below, enclosing, first_of, try_above}
 use Rattle.parlog.specs.declared.Found.{Found}
 use Rattle.parlog.specs.declared.Found.TheVariants.{At, Nothing}
 use Rattle.parlog.specs.declared.Process.{Process}
@@ -24,29 +24,29 @@ use Rattle.tree.specs.Family.{Childless, Falls}
 
 -- ---- the nearest try-clause above
 
-pub enclosing-starts : (l : List ℕ) (n p : ℕ) → enclosing (procsOf l n) p ≡ tryAbove n (procsOf l n) p
+pub enclosing-starts : (l : List ℕ) (n p : ℕ) → enclosing (procs_of l n) p ≡ try_above n (procs_of l n) p
 unfolding enclosing
 enclosing-starts l n p = rw procs-length
 
-pub above-end : (n : ℕ) (ps : List Process) (a : ℕ) → n ≡ 0 → tryAbove n ps a ≡ Nothing
-unfolding tryAbove
+pub above-end : (n : ℕ) (ps : List Process) (a : ℕ) → n ≡ 0 → try_above n ps a ≡ Nothing
+unfolding try_above
 above-end n ps a z = rw z
 
 above_step : (n : ℕ) (ps : List Process) (a : ℕ) → 0 < n
-    → tryAbove n ps a ≡ cond (eqb a 0) Nothing (cond (isTag try-clause (at ps (at ps a).parent).tag) (At (at ps a).parent) (tryAbove (n - 1) ps (at ps a).parent))
-unfolding tryAbove
+    → try_above n ps a ≡ cond (eqb a 0) Nothing (cond (is_tag try_clause (at ps (at ps a).parent).tag) (At (at ps a).parent) (try_above (n - 1) ps (at ps a).parent))
+unfolding try_above
 above_step zero ps a h = absurd (omega arith)
 above_step (suc n) ps a h = rw less_one
 
 module _ (n : ℕ) (ps : List Process) (a : ℕ) (pos : 0 < n) where
-  pub above_root : a ≡ 0 → tryAbove n ps a ≡ Nothing
+  pub above_root : a ≡ 0 → try_above n ps a ≡ Nothing
   above_root z = above_step n ps a pos ∙ rw (eq-eqb a 0 z)
 
   module _ (ne : a ≡ 0 → ⊥) {u v : ℕ} (eu : u ≡ (at ps a).parent) (ev : v ≡ (at ps u).tag) where
-    pub above-met : v ≡ 5 → tryAbove n ps a ≡ At u
+    pub above-met : v ≡ 5 → try_above n ps a ≡ At u
     above-met h = above_step n ps a pos ∙ rw (ne_eqb a 0 ne, ← eu, ← ev, eq-eqb v 5 h)
 
-    pub above_on : (v ≡ 5 → ⊥) → tryAbove n ps a ≡ tryAbove (n - 1) ps u
+    pub above_on : (v ≡ 5 → ⊥) → try_above n ps a ≡ try_above (n - 1) ps u
     above_on h = above_step n ps a pos ∙ rw (ne_eqb a 0 ne, ← eu, ← ev, ne_eqb v 5 h)
 
 module _ (ps : List Process) {f e : Found} (is : f ≡ e) where
@@ -67,7 +67,7 @@ module _ (ps : List Process) (falls : Falls ps) (p : ℕ) where
 
   -- what is below p has the higher number
   higher : {a : ℕ} → Below here p a → p < a
-  higher (next-below c) = child-lower here kin p c
+  higher (next_below c) = child-lower here kin p c
   higher (deeper {c = j} b c) = let u = higher b in let v = child-lower here kin j c in omega arith
 
   -- nothing at p or before it is below p
@@ -79,7 +79,7 @@ module _ (ps : List Process) (falls : Falls ps) (p : ℕ) where
   below_up a h l =
       let ne : a ≢ 0 = λ z. omega (arith, z) in
       split (eqb (at ps a).parent p)
-      (λ e. rw e (below-test here p kin a h (next-below (record { there = h; other = ne; parent = eqb-true (at ps a).parent p e }))))
+      (λ e. rw e (below-test here p kin a h (next_below (record { there = h; other = ne; parent = eqb-true (at ps a).parent p e }))))
       (λ e. rw e (below-child here kin (at ps a).parent p (record { there = h; other = ne; parent = refl }) (eqb-false (at ps a).parent p e)))
 
   -- nothing before the first child of p is below p
@@ -97,10 +97,10 @@ module _ (ps : List Process) (falls : Falls ps) (p : ℕ) where
 -- ---- the way to the first child
 
 module _ (l : List ℕ) (n p : ℕ) where
-  pub child-starts : Childless (procsOf l n) p (p + 1)
+  pub child-starts : Childless (procs_of l n) p (p + 1)
   child-starts i u v z = omega arith
 
-  pub child-on : (q : ℕ) → Childless (procsOf l n) p q → {v : ℕ} → v ≡ (at (procsOf l n) q).parent → (v ≡ p → ⊥) → Childless (procsOf l n) p (q + 1)
+  pub child-on : (q : ℕ) → Childless (procs_of l n) p q → {v : ℕ} → v ≡ (at (procs_of l n) q).parent → (v ≡ p → ⊥) → Childless (procs_of l n) p (q + 1)
   child-on q free {v} ev ne i u w z = split (ltb i q)
       (λ e. free i u (ltb-true i q e) z)
       (λ e. let k : q ≤ i = ltb-false i q e in

@@ -9,7 +9,7 @@ use lib.Seq.{get_or-set_other, get_or-set_same}
 use borrow.Author.Tests.{eq-eqb, eqb-false, eqb-true, le-ltb, lt-ltb, ltb-false, ltb-true, ne_eqb}
 use native.Mathlib.Omega.{arith}
 use Rattle.parlog.proofs.Bools.{split}
-use Rattle.parlog.specs.Tables.{at, procsOf}
+use Rattle.parlog.specs.Tables.{at, procs_of}
 use Rattle.parlog.specs.Tree.{below}
 use Rattle.parlog.specs.declared.Process.{Process}
 use Rattle.rows.proofs.Tables.{procs-length}
@@ -18,17 +18,17 @@ use Rattle.tree.specs.Family.{Childless, Falls, Marks}
 
 -- ---- the mark of the parent says it
 
-module _ (l : List ℕ) (n p q : ℕ) (falls : Falls (procsOf l n)) (there : q < n) (behind : p < q) {up : ℕ} (e : up ≡ (at (procsOf l n) q).parent) where
+module _ (l : List ℕ) (n p q : ℕ) (falls : Falls (procs_of l n)) (there : q < n) (behind : p < q) {up : ℕ} (e : up ≡ (at (procs_of l n) q).parent) where
   pub parent-before : up < q
-  parent-before = let v : (at (procsOf l n) q).parent < q = falls q (omega (arith, procs-length l n)) (λ z. omega (arith, z)) in omega arith
+  parent-before = let v : (at (procs_of l n) q).parent < q = falls q (omega (arith, procs-length l n)) (λ z. omega (arith, z)) in omega arith
 
-  one_up : below (procsOf l n) p q ≡ (eqb up p || below (procsOf l n) p up)
-  one_up = rw e (below_up (procsOf l n) falls p q (omega (arith, procs-length l n)) behind)
+  one_up : below (procs_of l n) p q ≡ (eqb up p || below (procs_of l n) p up)
+  one_up = rw e (below_up (procs_of l n) falls p q (omega (arith, procs-length l n)) behind)
 
-  pub child-is : up ≡ p → true ≡ below (procsOf l n) p q
+  pub child-is : up ≡ p → true ≡ below (procs_of l n) p q
   child-is z = sym (one_up ∙ rw (eq-eqb up p z))
 
-  pub mark-says : (ms : List ℕ) → Marks (procsOf l n) p q ms → (up ≡ p → ⊥) → not (eqb (get_or ms up 0) 0) ≡ below (procsOf l n) p q
+  pub mark-says : (ms : List ℕ) → Marks (procs_of l n) p q ms → (up ≡ p → ⊥) → not (eqb (get_or ms up 0) 0) ≡ below (procs_of l n) p q
   unfolding Marks
   mark-says ms marks ne = marks up ∙ rw (lt-ltb up q parent-before) (sym (one_up ∙ rw (ne_eqb up p ne)))
 

@@ -11,8 +11,8 @@ unfoldable pub slept : List Process → ℕ → ℕ → Process
 slept ps p i = asleep (below ps p i) (at ps i)
 
 -- Tags 5: every process below p becomes dormant
-unfoldable pub sleptBelow : List Process → ℕ → List Process
-sleptBelow ps p = build (slept ps p) (length ps)
+unfoldable pub slept_below : List Process → ℕ → List Process
+slept_below ps p = build (slept ps p) (length ps)
 
 -- Tables 3e: every process but the first has a parent of a lower rank
 abbrev pub Falls : List Process → Type 0
@@ -25,8 +25,8 @@ Childless ps p q = (i : ℕ) → p < i → i < q → (at ps i).parent ≢ p
 -- ---- marks
 
 -- the most rows that a table may have here
-abbrev pub mostRows : ℕ
-mostRows = 4096
+abbrev pub most_rows : ℕ
+most_rows = 4096
 
 -- once the rows before q were passed: those of them that are below p are marked, and no other
 unfoldable pub Marks : List Process → ℕ → ℕ → List ℕ → Type 0

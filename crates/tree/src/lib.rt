@@ -1,11 +1,11 @@
 // The tree of parents: the nearest try-clause above a process, and putting all below it to sleep.
 ghost use Rattle.std.specs.Prelude.{◌≡◌, ◌+◌, ◌*◌, ◌≤◌, ◌<◌, length, set};
 ghost use Rattle.parlog.specs.Codes.{dormant};
-ghost use Rattle.parlog.specs.Delta.{withMode};
-ghost use Rattle.parlog.specs.Tables.{at, procsOf, rowSize};
+ghost use Rattle.parlog.specs.Delta.{with_mode};
+ghost use Rattle.parlog.specs.Tables.{at, procs_of, row_size};
 ghost use Rattle.parlog.specs.Tree.{below, enclosing, first_of};
 ghost use Rattle.rows.specs.Rows.{Table};
-ghost use Rattle.tree.specs.Family.{Childless, Falls, Marks, mostRows, slept, sleptBelow};
+ghost use Rattle.tree.specs.Family.{Childless, Falls, Marks, most_rows, slept, slept_below};
 
 use parlog::{Found, Process, codes};
 
@@ -16,24 +16,24 @@ const MARKED: u8 = 1;
 
 // The parent of process i.
 fn parent(procs: &[u8], n: usize, i: usize) -> usize
-    requires { n * rowSize ≤ length procs.now }
-    ensures { result ≡ (at (procsOf procs.now n) i).parent }
+    requires { n * row_size ≤ length procs.now }
+    ensures { result ≡ (at (procs_of procs.now n) i).parent }
 {
     basics::wide_u16(rows::parent_at(procs, n, i))
 }
 
 // The same for a process known to be there.
 fn above(procs: &[u8], n: usize, a: usize) -> usize
-    requires { (n * rowSize ≤ length procs.now) × (a < n) }
-    ensures { result ≡ (at (procsOf procs.now n) a).parent }
+    requires { (n * row_size ≤ length procs.now) × (a < n) }
+    ensures { result ≡ (at (procs_of procs.now n) a).parent }
 {
     basics::wide_u16(rows::get_u16(procs, a * codes::ROW_SIZE + codes::ROW_PARENT))
 }
 
 // The nearest try-clause above p.
 fn enclosing(procs: &[u8], n: usize, p: usize) -> Found
-    requires { n * rowSize ≤ length procs.now }
-    ensures { result ≡ enclosing (procsOf procs.now n) p }
+    requires { n * row_size ≤ length procs.now }
+    ensures { result ≡ enclosing (procs_of procs.now n) p }
 {
     let mut a = p;
     let mut left = n;
@@ -52,8 +52,8 @@ fn enclosing(procs: &[u8], n: usize, p: usize) -> Found
 }
 
 fn first_at(procs: &[u8], n: usize, c: usize) -> usize
-    requires { n * rowSize ≤ length procs.now }
-    ensures { result ≡ (at (procsOf procs.now n) c).spot.first }
+    requires { n * row_size ≤ length procs.now }
+    ensures { result ≡ (at (procs_of procs.now n) c).spot.first }
 {
     let x = rows::get(procs, n, c);
     let spot = x.spot;
@@ -62,8 +62,8 @@ fn first_at(procs: &[u8], n: usize, c: usize) -> usize
 
 // Its first variable; 0 where there is none.
 pub fn enclosing_first(procs: &[u8], n: usize, p: usize) -> usize
-    requires { n * rowSize ≤ length procs.now }
-    ensures { result ≡ first_of (procsOf procs.now n) (enclosing (procsOf procs.now n) p) }
+    requires { n * row_size ≤ length procs.now }
+    ensures { result ≡ first_of (procs_of procs.now n) (enclosing (procs_of procs.now n) p) }
 {
     let f = enclosing(procs, n, p);
     let Found::At(c) = f else {
@@ -73,7 +73,7 @@ pub fn enclosing_first(procs: &[u8], n: usize, p: usize) -> usize
 }
 
 fn dormant(mut x: Process) -> Process
-    ensures { result ≡ withMode dormant x }
+    ensures { result ≡ with_mode dormant x }
 {
     x.mode = codes::DORMANT;
     x
@@ -81,16 +81,16 @@ fn dormant(mut x: Process) -> Process
 
 // The mode of a process known to be there.
 fn mode(procs: &[u8], n: usize, q: usize) -> u8
-    requires { (n * rowSize ≤ length procs.now) × (q < n) }
-    ensures { result ≡ (at (procsOf procs.now n) q).mode }
+    requires { (n * row_size ≤ length procs.now) × (q < n) }
+    ensures { result ≡ (at (procs_of procs.now n) q).mode }
 {
     procs[q * codes::ROW_SIZE + codes::ROW_MODE]
 }
 
 // Process q is below p: its parent is p, or is marked.
 fn is_below(procs: &[u8], n: usize, marks: &[u8], p: usize, q: usize) -> bool
-    requires { (n * rowSize ≤ length procs.now) × (q < n) × (p < q) × Falls (procsOf procs.now n) × (n ≤ length marks.now) × Marks (procsOf procs.now n) p q marks.now }
-    ensures { result ≡ below (procsOf procs.now n) p q }
+    requires { (n * row_size ≤ length procs.now) × (q < n) × (p < q) × Falls (procs_of procs.now n) × (n ≤ length marks.now) × Marks (procs_of procs.now n) p q marks.now }
+    ensures { result ≡ below (procs_of procs.now n) p q }
 {
     let up = above(procs, n, q);
     if up == p {
@@ -101,9 +101,9 @@ fn is_below(procs: &[u8], n: usize, marks: &[u8], p: usize, q: usize) -> bool
 
 // Process q is marked and falls asleep if it is below p; a row that sleeps already is marked too, but not written.
 fn sleep_one(procs: &mut [u8], n: usize, marks: &mut [u8], p: usize, q: usize)
-    requires { (n * rowSize ≤ length procs.old) × (q < n) × (p < q) × Falls (procsOf procs.old n) × (n ≤ length marks.old) × Marks (procsOf procs.old n) p q marks.old }
-    ensures table { Table procs.old procs.new (set (procsOf procs.old n) q (slept (procsOf procs.old n) p q)) }
-    ensures marks { Marks (procsOf procs.old n) p (q + 1) marks.new }
+    requires { (n * row_size ≤ length procs.old) × (q < n) × (p < q) × Falls (procs_of procs.old n) × (n ≤ length marks.old) × Marks (procs_of procs.old n) p q marks.old }
+    ensures table { Table procs.old procs.new (set (procs_of procs.old n) q (slept (procs_of procs.old n) p q)) }
+    ensures marks { Marks (procs_of procs.old n) p (q + 1) marks.new }
 {
     if !is_below(procs, n, marks, p, q) {
         return;
@@ -120,8 +120,8 @@ fn sleep_one(procs: &mut [u8], n: usize, marks: &mut [u8], p: usize, q: usize)
 
 // The first row behind p whose parent is p; n where there is none.
 fn first_child(procs: &[u8], n: usize, p: usize) -> usize
-    requires { (n * rowSize ≤ length procs.now) × (p < n) }
-    ensures { (result ≤ n) × (p < result) × Childless (procsOf procs.now n) p result }
+    requires { (n * row_size ≤ length procs.now) × (p < n) }
+    ensures { (result ≤ n) × (p < result) × Childless (procs_of procs.now n) p result }
 {
     let mut q = p + 1;
     while q < n {
@@ -135,8 +135,8 @@ fn first_child(procs: &[u8], n: usize, p: usize) -> usize
 
 // All below p falls asleep, from its first child on: one pass upward, in which a row has its mark before its children are reached.
 fn sleep_from(procs: &mut [u8], n: usize, p: usize, first: usize)
-    requires { (n * rowSize ≤ length procs.old) × (n ≤ mostRows) × (p < first) × (first ≤ n) × Falls (procsOf procs.old n) × Childless (procsOf procs.old n) p first }
-    ensures { Table procs.old procs.new (sleptBelow (procsOf procs.old n) p) }
+    requires { (n * row_size ≤ length procs.old) × (n ≤ most_rows) × (p < first) × (first ≤ n) × Falls (procs_of procs.old n) × Childless (procs_of procs.old n) p first }
+    ensures { Table procs.old procs.new (slept_below (procs_of procs.old n) p) }
 {
     let mut marks = [0u8; MOST_ROWS];
     let mut q = first;
@@ -148,8 +148,8 @@ fn sleep_from(procs: &mut [u8], n: usize, p: usize, first: usize)
 
 // Every process below p, at any depth, becomes dormant; nothing before the first child of p is below it.
 pub fn sleep_below(procs: &mut [u8], n: usize, p: usize)
-    requires { (n * rowSize ≤ length procs.old) × (p < n) × Falls (procsOf procs.old n) × (n ≤ mostRows) }
-    ensures { Table procs.old procs.new (sleptBelow (procsOf procs.old n) p) }
+    requires { (n * row_size ≤ length procs.old) × (p < n) × Falls (procs_of procs.old n) × (n ≤ most_rows) }
+    ensures { Table procs.old procs.new (slept_below (procs_of procs.old n) p) }
 {
     let first = first_child(procs, n, p);
     if first < n {

@@ -7,21 +7,21 @@ use lib.Dec.{eqb}
 use lib.ListN.{drop, drop_of_length-le, get_or, length, take}
 use lib.Seq.{paste}
 use native.Mathlib.Omega.{arith}
-use Rattle.load.specs.Fields.{refusalOf}
+use Rattle.load.specs.Fields.{refusal_of}
 use Rattle.parlog.proofs.Rows.{build-is}
 use Rattle.parlog.specs.Limits.{Limits}
 use Rattle.parlog.specs.Load.{load_of, refusal}
 use Rattle.parlog.specs.Scan.{build}
-use Rattle.parlog.specs.Tables.{lent, markerLast, markerSteps}
+use Rattle.parlog.specs.Tables.{lent, marker_last, marker_steps}
 use Rattle.parlog.specs.declared.Loaded.{Loaded}
 use Rattle.parlog.specs.declared.Loaded.TheVariants.{Accepted, Refused}
 use Rattle.parlog.specs.declared.Marker.{Marker}
 use Rattle.parlog.specs.declared.Refusal.{Refusal}
 use Rattle.parlog.specs.declared.Stepped.{Stepped}
 use Rattle.parlog.specs.declared.Stepped.TheVariants.{Unmoved}
-use Rattle.turn_forms.proofs.Marked.{beside-counts, beside-marker, head-marker, other-size, turn-away}
-use Rattle.turn_forms.specs.Away.{awayOf}
-use Rattle.turn_forms.specs.Turned.{lentWith, markerBytes, markerIn, turnedFrom, TurnedSays}
+use Rattle.turn_forms.proofs.Marked.{beside-counts, beside-marker, head-marker, other-size, turn_away}
+use Rattle.turn_forms.specs.Away.{away_of}
+use Rattle.turn_forms.specs.Turned.{lent_with, marker_bytes, marker_in, turned_from, TurnedSays}
 use Rattle.run.specs.Running.{TurnSays}
 use Rattle.turn_forms.specs.declared.Turned.{Turned}
 
@@ -33,10 +33,10 @@ four cs e = rw e at (build-is (λ (k : ℕ). get_or cs k 0) 0 cs (λ i u. refl))
 -- the ten bytes one by one
 pub joined : (cs : List ℕ) (last steps a b : ℕ) → length cs ≡ 4 → a ≡ last % 256 → b ≡ last / 256
     → get_or cs 0 0 ∷ get_or cs 1 0 ∷ get_or cs 2 0 ∷ get_or cs 3 0 ∷ a ∷ b ∷ steps % 256 ∷ steps / 256 % 256 ∷ steps / 65536 % 256 ∷ steps / 16777216 ∷ []
-    ≡ cs ++ markerBytes (record { last = last; steps = steps })
-unfolding markerBytes build
+    ≡ cs ++ marker_bytes (record { last = last; steps = steps })
+unfolding marker_bytes build
 joined cs last steps a b len ea eb =
-    let mb : List ℕ = markerBytes (record { last = last; steps = steps }) in
+    let mb : List ℕ = marker_bytes (record { last = last; steps = steps }) in
     rw (ea, eb) (ap (λ (x : List ℕ). x ++ mb) (four cs len))
 
 -- the first four copied
@@ -50,28 +50,28 @@ copied l r k len g h =
 -- ---- the refusal of another size
 
 module _ (s : List ℕ) {a : Loaded} (is : a ≡ load_of s) where
-  pub away-refused : {f r : Refusal} → a ≡ Refused f → r ≡ refusalOf a → r ≡ awayOf (load_of s)
+  pub away-refused : {f r : Refusal} → a ≡ Refused f → r ≡ refusal_of a → r ≡ away_of (load_of s)
   away-refused e er = rw (← is, er, e)
 
-  pub away-accepted : {r c : ℕ} → a ≡ Accepted r c → refusal 8 0 ≡ awayOf (load_of s)
+  pub away-accepted : {r c : ℕ} → a ≡ Accepted r c → refusal 8 0 ≡ away_of (load_of s)
   away-accepted e = rw (← is, e)
 
 -- ---- the turn
 
 -- THE LAW: counts of another size
-pub core-away : (lim : Limits) (s cs ps vs : List ℕ) (m : Marker) → eqb (length cs) 4 ≡ false → {f : Refusal} → f ≡ awayOf (load_of s) → TurnedSays lim s cs ps vs m (turnedFrom m (Unmoved f)) cs ps vs
+pub core-away : (lim : Limits) (s cs ps vs : List ℕ) (m : Marker) → eqb (length cs) 4 ≡ false → {f : Refusal} → f ≡ away_of (load_of s) → TurnedSays lim s cs ps vs m (turned_from m (Unmoved f)) cs ps vs
 core-away lim s cs ps vs m h ef =
-    let k = turn-away (load_of s) lim s (lentWith cs m ps vs) refl (other-size cs m h) in
+    let k = turn_away (load_of s) lim s (lent_with cs m ps vs) refl (other-size cs m h) in
     record { turned = rw (k, beside-marker cs m, ef); counts = rw k (sym (beside-counts cs m)); procs = rw k; vars = rw k }
 
 -- THE LAW: a turn on the head that is counts and marker
-pub core-turned : (lim : Limits) (s cs ps vs : List ℕ) (m : Marker) → length cs ≡ 4 → {h : List ℕ} → h ≡ cs ++ markerBytes m
+pub core-turned : (lim : Limits) (s cs ps vs : List ℕ) (m : Marker) → length cs ≡ 4 → {h : List ℕ} → h ≡ cs ++ marker_bytes m
     → {a : Stepped} {h' p v : List ℕ} → TurnSays lim s (lent h ps vs) a h' p v
-    → {c : List ℕ} → c ≡ take 4 h' → {t : Turned} → t ≡ turnedFrom (record { last = markerLast h'; steps = markerSteps h' }) a → TurnedSays lim s cs ps vs m t c p v
+    → {c : List ℕ} → c ≡ take 4 h' → {t : Turned} → t ≡ turned_from (record { last = marker_last h'; steps = marker_steps h' }) a → TurnedSays lim s cs ps vs m t c p v
 core-turned lim s cs ps vs m len eh {a} {h'} told ec et =
     let k = rw eh at told in
     record {
-      turned = et ∙ ap (λ (x : Marker). turnedFrom x a) (sym (head-marker h')) ∙ (λ i. turnedFrom (markerIn (drop (sym len i) (k.head i))) (k.answer i));
+      turned = et ∙ ap (λ (x : Marker). turned_from x a) (sym (head-marker h')) ∙ (λ i. turned_from (marker_in (drop (sym len i) (k.head i))) (k.answer i));
       counts = ec ∙ (λ i. take (sym len i) (k.head i));
       procs = k.procs;
       vars = k.vars;

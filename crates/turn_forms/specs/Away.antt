@@ -5,6 +5,6 @@ use Rattle.parlog.specs.declared.Loaded.TheVariants.{Accepted, Refused}
 use Rattle.parlog.specs.declared.Refusal.{Refusal}
 
 -- Refusals 20, 21: the image's refusal first, then that of the size
-abbrev pub awayOf : Loaded → Refusal
-awayOf (Refused r) = r
-awayOf (Accepted r c) = refusal 8 0
+abbrev pub away_of : Loaded → Refusal
+away_of (Refused r) = r
+away_of (Accepted r c) = refusal 8 0

@@ -2,9 +2,9 @@
 ghost use Rattle.std.specs.Prelude.{◌≡◌, ◌++◌, length, take};
 ghost use Rattle.parlog.specs.Limits.{small};
 ghost use Rattle.parlog.specs.Load.{load_of};
-ghost use Rattle.parlog.specs.Tables.{headSize, markerLast, markerSteps};
-ghost use Rattle.turn_forms.specs.Away.{awayOf};
-ghost use Rattle.turn_forms.specs.Turned.{markerBytes, TurnedSays, turnedFrom};
+ghost use Rattle.parlog.specs.Tables.{head_size, marker_last, marker_steps};
+ghost use Rattle.turn_forms.specs.Away.{away_of};
+ghost use Rattle.turn_forms.specs.Turned.{marker_bytes, TurnedSays, turned_from};
 
 use parlog::{Loaded, Marker, Refusal, Stepped, codes};
 
@@ -19,7 +19,7 @@ pub struct Turned {
 // The counts, and the marker behind them, as a head.
 fn join_head(counts: &[u8], last: u16, steps: u32) -> [u8; 10]
     requires { length counts.now ≡ 4 }
-    ensures { result ≡ counts.now ++ markerBytes (record { last = last; steps = steps }) }
+    ensures { result ≡ counts.now ++ marker_bytes (record { last = last; steps = steps }) }
 {
     [
         counts[0],
@@ -37,7 +37,7 @@ fn join_head(counts: &[u8], last: u16, steps: u32) -> [u8; 10]
 
 // The counts become those of the head.
 fn put_counts(counts: &mut [u8], head: &[u8])
-    requires { (length counts.old ≡ 4) × (length head.now ≡ headSize) }
+    requires { (length counts.old ≡ 4) × (length head.now ≡ head_size) }
     ensures { counts.new ≡ take 4 head.now }
 {
     let mut k = 0;
@@ -49,7 +49,7 @@ fn put_counts(counts: &mut [u8], head: &[u8])
 
 // The refusal of a call whose counts have another size: the image's comes first.
 fn turned_away(image: &[u8]) -> Refusal
-    ensures { result ≡ awayOf (load_of image.now) }
+    ensures { result ≡ away_of (load_of image.now) }
 {
     let l = load::load(image);
     let Loaded::Accepted(_, _) = l else {
@@ -63,8 +63,8 @@ fn turned_away(image: &[u8]) -> Refusal
 
 // The marker in a head, and the answer.
 fn hand_back(head: &[u8], answer: Stepped) -> Turned
-    requires { length head.now ≡ headSize }
-    ensures { result ≡ turnedFrom (record { last = markerLast head.now; steps = markerSteps head.now }) answer }
+    requires { length head.now ≡ head_size }
+    ensures { result ≡ turned_from (record { last = marker_last head.now; steps = marker_steps head.now }) answer }
 {
     let last = head::marker_last(head);
     let steps = head::marker_steps(head);
@@ -110,7 +110,7 @@ pub fn turn(
     vars: &mut [u8],
     marker: &mut Marker,
 ) -> Stepped
-    ensures { TurnedSays small image.now counts.old procs.old vars.old marker.old (turnedFrom marker.new result) counts.new procs.new vars.new }
+    ensures { TurnedSays small image.now counts.old procs.old vars.old marker.old (turned_from marker.new result) counts.new procs.new vars.new }
 {
     let t = turn_core(image, counts, procs, vars, marker.last, marker.steps);
     marker.last = t.last;

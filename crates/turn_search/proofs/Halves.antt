@@ -6,7 +6,7 @@ use lib.Bits.{bit_or}
 use lib.Dec.{eqb, ltb}
 use borrow.Author.Tests.{eqb-true, ltb-true}
 use Rattle.children.proofs.Small.{answered, answers, says}
-use Rattle.children.specs.Notes.{hear, silentBit}
+use Rattle.children.specs.Notes.{hear, silent_bit}
 use Rattle.parlog.proofs.Scans.{every-at}
 use Rattle.parlog.specs.Scan.{every}
 
@@ -16,9 +16,9 @@ tested t e i j h k a b = answered (t i j) a b (every-at (λ j. answers (t i j)) 
 
 module _ (i j : ℕ) (h : i < 2) (k : j < 16) where
   -- one that has nothing to tell
-  pub half-silent : bit_or silentBit j ≡ hear (bit_or i j) silentBit
+  pub half-silent : bit_or silent_bit j ≡ hear (bit_or i j) silent_bit
   unfolding every hear
-  half-silent = eqb-true (bit_or silentBit j) (hear (bit_or i j) silentBit) (tested (λ i j a b. eqb (bit_or silentBit j) (hear (bit_or i j) silentBit)) refl i j h k true true)
+  half-silent = eqb-true (bit_or silent_bit j) (hear (bit_or i j) silent_bit) (tested (λ i j a b. eqb (bit_or silent_bit j) (hear (bit_or i j) silent_bit)) refl i j h k true true)
 
   module _ (a b : Bool) where
     -- one that tells: the other half may keep all

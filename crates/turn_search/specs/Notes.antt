@@ -1,20 +1,20 @@
 -- What one pass over the rows notes for each process about its children, and who can move by it.
 use Rattle.std.specs.Prelude.{◌≡◌, ◌||◌, Bool, cond, false, List, ◌<◌, ℕ, ltb, get_or, set}
 use Rattle.std.specs.Int.Bits.{bit_or}
-use Rattle.children.specs.Notes.{latestBit, latestIn, noneSilent, Noted, someBad, someGood}
+use Rattle.children.specs.Notes.{latest_bit, latest_in, none_silent, Noted, some_bad, some_good}
 use Rattle.children.specs.declared.Note.{Note}
-use Rattle.parlog.specs.Codes.{and-par, and-seq, equate, guard-eval, input-match, or-par, or-search, seq-search, Tag, try-clause}
+use Rattle.parlog.specs.Codes.{and_par, and_seq, equate, guard_eval, input_match, or_par, or_search, seq_search, Tag, try_clause}
 use Rattle.parlog.specs.declared.Found.{Found}
 use Rattle.parlog.specs.declared.Found.TheVariants.{At, Nothing}
 use Rattle.parlog.specs.declared.Process.{Process}
 
 -- what was said to process p: whether one has nothing to tell stands in a row of its own
-abbrev pub saidIn : List ℕ → List ℕ → ℕ → ℕ
-saidIn silent said p = bit_or (get_or silent p 0) (get_or said p 0)
+abbrev pub said_in : List ℕ → List ℕ → ℕ → ℕ
+said_in silent said p = bit_or (get_or silent p 0) (get_or said p 0)
 
 -- the note of process p, in four rows of numbers
-abbrev pub noteIn : List ℕ → List ℕ → List ℕ → List ℕ → ℕ → Note
-noteIn silent said latest lowest p = record { said = saidIn silent said p; latest = get_or latest p 0; lowest = get_or lowest p 0 }
+abbrev pub note_in : List ℕ → List ℕ → List ℕ → List ℕ → ℕ → Note
+note_in silent said latest lowest p = record { said = said_in silent said p; latest = get_or latest p 0; lowest = get_or lowest p 0 }
 
 -- row i becomes q, where this holds
 abbrev pub kept : Bool → List ℕ → ℕ → ℕ → List ℕ
@@ -22,7 +22,7 @@ kept b rows i q = cond b (set rows i q) rows
 
 -- of each of the n the children from row q on were heard
 unfoldable pub AllNoted : List Process → ℕ → ℕ → List ℕ → List ℕ → List ℕ → List ℕ → Type 0
-AllNoted ps n q silent said latest lowest = (p : ℕ) → p < n → (get_or silent p 0 < 2) × (get_or said p 0 < 16) × Noted ps p q (noteIn silent said latest lowest p)
+AllNoted ps n q silent said latest lowest = (p : ℕ) → p < n → (get_or silent p 0 < 2) × (get_or said p 0 < 16) × Noted ps p q (note_in silent said latest lowest p)
 
 -- what the children of process p said, once all were heard
 abbrev pub AllSaid : List Process → ℕ → ℕ → Type 0
@@ -30,40 +30,40 @@ AllSaid ps p s = (x : Note) × (x.said ≡ s) × Noted ps p 0 x
 
 -- a waiting process of this tag can move by what its children said
 unfoldable pub tells : Tag → ℕ → Bool
-tells and-par s = someBad s || noneSilent s
-tells and-seq s = latestIn s
-tells or-par s = latestIn s
-tells seq-search s = latestIn s
-tells or-search s = someGood s || noneSilent s
-tells try-clause s = someBad s || noneSilent s
-tells input-match s = false
-tells guard-eval s = latestIn s
+tells and_par s = some_bad s || none_silent s
+tells and_seq s = latest_in s
+tells or_par s = latest_in s
+tells seq_search s = latest_in s
+tells or_search s = some_good s || none_silent s
+tells try_clause s = some_bad s || none_silent s
+tells input_match s = false
+tells guard_eval s = latest_in s
 tells equate s = false
 
 -- ---- the same as a number: in its low half what is asked for, in the high half what of it must not be all that was said
 
 -- one failure, or that none is silent
-abbrev pub failureOrAll : ℕ
-failureOrAll = 21
+abbrev pub failure_or_all : ℕ
+failure_or_all = 21
 
 -- one success, or that none is silent
-abbrev pub successOrAll : ℕ
-successOrAll = 19
+abbrev pub success_or_all : ℕ
+success_or_all = 19
 
 -- what a waiting process of this tag asks for
-abbrev pub asksOf : Tag → ℕ
-asksOf and-par = failureOrAll
-asksOf and-seq = latestBit
-asksOf or-par = latestBit
-asksOf seq-search = latestBit
-asksOf or-search = successOrAll
-asksOf try-clause = failureOrAll
-asksOf input-match = 0
-asksOf guard-eval = latestBit
-asksOf equate = 0
+abbrev pub asks_of : Tag → ℕ
+asks_of and_par = failure_or_all
+asks_of and_seq = latest_bit
+asks_of or_par = latest_bit
+asks_of seq_search = latest_bit
+asks_of or_search = success_or_all
+asks_of try_clause = failure_or_all
+asks_of input_match = 0
+asks_of guard_eval = latest_bit
+asks_of equate = 0
 
 -- ---- the search
 
 -- the number, where it is below n
-abbrev pub foundIn : ℕ → ℕ → Found
-foundIn n v = cond (ltb v n) (At v) Nothing
+abbrev pub found_in : ℕ → ℕ → Found
+found_in n v = cond (ltb v n) (At v) Nothing

@@ -1,17 +1,17 @@
 // Whose turn it is: one pass from the last row down, in which every process is asked whether it can move, and heard by its parent.
 ghost use Rattle.std.specs.Prelude.{◌≡◌, cond, ◌*◌, ◌≤◌, ◌<◌, suc, ℕ, eqb, ltb, length, set};
-ghost use Rattle.children.specs.Notes.{goodNote, hear};
+ghost use Rattle.children.specs.Notes.{good_note, hear};
 ghost use Rattle.children.specs.Telling.{Tells};
 ghost use Rattle.parlog.specs.Codes.{tag_of};
 ghost use Rattle.parlog.specs.Program.{Program};
-ghost use Rattle.parlog.specs.Run.{canMove, turn_of};
+ghost use Rattle.parlog.specs.Run.{can_move, turn_of};
 ghost use Rattle.parlog.specs.Scan.{or_else};
-ghost use Rattle.parlog.specs.Tables.{at, cellSize, noted, procsOf, rowSize, varsIn};
-ghost use Rattle.parlog.specs.Unify.{someBound};
+ghost use Rattle.parlog.specs.Tables.{at, cell_size, noted, procs_of, row_size, vars_in};
+ghost use Rattle.parlog.specs.Unify.{some_bound};
 ghost use Rattle.parlog.specs.declared.Found.TheVariants.{At};
-ghost use Rattle.move_plan.specs.Plans.{stateIn};
+ghost use Rattle.move_plan.specs.Plans.{state_in};
 ghost use Rattle.tree.specs.Family.{Falls};
-ghost use Rattle.turn_search.specs.Notes.{AllNoted, AllSaid, asksOf, foundIn, kept, noteIn, saidIn, tells};
+ghost use Rattle.turn_search.specs.Notes.{AllNoted, AllSaid, asks_of, found_in, kept, note_in, said_in, tells};
 
 use children::{Note, Told};
 use parlog::{Found, codes};
@@ -40,7 +40,7 @@ const NOTHING: u8 = 0;
 
 // What a waiting process of this tag asks for: it can move unless exactly the high half of the low half was said.
 fn asks(tag: u8) -> u8
-    ensures { result ≡ asksOf (tag_of tag) }
+    ensures { result ≡ asks_of (tag_of tag) }
 {
     match tag {
         codes::AND_PAR => FAILURE_OR_ALL,
@@ -78,8 +78,8 @@ fn few(count: u8) -> usize
 
 // One of the variables that process p noted is bound.
 fn wakes(procs: &[u8], n: usize, vars: &[u8], m: usize, p: usize) -> bool
-    requires { (n * rowSize ≤ length procs.now) × (m * cellSize ≤ length vars.now) }
-    ensures { result ≡ someBound (varsIn vars.now m) (noted (at (procsOf procs.now n) p)) }
+    requires { (n * row_size ≤ length procs.now) × (m * cell_size ≤ length vars.now) }
+    ensures { result ≡ some_bound (vars_in vars.now m) (noted (at (procs_of procs.now n) p)) }
 {
     let count = few(rows::count_at(procs, n, p));
     let notes = rows::notes_at(procs, n, p);
@@ -88,8 +88,8 @@ fn wakes(procs: &[u8], n: usize, vars: &[u8], m: usize, p: usize) -> bool
 
 // A rule applies to process p, once all its children were heard; s is what they said.
 fn can_move(procs: &[u8], n: usize, vars: &[u8], m: usize, p: usize, s: u8) -> bool
-    requires { (n * rowSize ≤ length procs.now) × (m * cellSize ≤ length vars.now) × AllSaid (procsOf procs.now n) p s }
-    ensures { (pr : Program) → result ≡ canMove pr (stateIn procs.now n vars.now m) p }
+    requires { (n * row_size ≤ length procs.now) × (m * cell_size ≤ length vars.now) × AllSaid (procs_of procs.now n) p s }
+    ensures { (pr : Program) → result ≡ can_move pr (state_in procs.now n vars.now m) p }
 {
     let mode = rows::mode_at(procs, n, p);
     if mode == codes::DORMANT {
@@ -113,7 +113,7 @@ fn can_move(procs: &[u8], n: usize, vars: &[u8], m: usize, p: usize, s: u8) -> b
 // What is noted for process p.
 fn note_at(silent: &[u8], said: &[u8], latest: &[u16], lowest: &[u16], p: usize) -> Note
     requires { (p < length silent.now) × (p < length said.now) × (p < length latest.now) × (p < length lowest.now) }
-    ensures { result ≡ noteIn silent.now said.now latest.now lowest.now p }
+    ensures { result ≡ note_in silent.now said.now latest.now lowest.now p }
 {
     Note {
         said: silent[p] | said[p],
@@ -143,7 +143,7 @@ fn hear_told(
     q: u16,
 )
     requires { (up < length silent.now) × (up < length said.old) × (up < length latest.old) × (up < length lowest.old) }
-    ensures { (said.new ≡ set said.old up (hear (saidIn silent.now said.old up) f)) × (latest.new ≡ kept (eqb (saidIn silent.now said.old up) 0) latest.old up q) × (lowest.new ≡ kept (eqb f goodNote) lowest.old up q) }
+    ensures { (said.new ≡ set said.old up (hear (said_in silent.now said.old up) f)) × (latest.new ≡ kept (eqb (said_in silent.now said.old up) 0) latest.old up q) × (lowest.new ≡ kept (eqb f good_note) lowest.old up q) }
 {
     let s = silent[up] | said[up];
     let t = children::with(s, f);
@@ -163,8 +163,8 @@ fn hear_row(
     lowest: &mut [u16],
     q: usize,
 )
-    requires { (n * rowSize ≤ length procs.now) × (n ≤ w) × (q < n) × Falls (procsOf procs.now n) × (length silent.old ≡ w) × (length said.old ≡ w) × (length latest.old ≡ w) × (length lowest.old ≡ w) × AllNoted (procsOf procs.now n) n (suc q) silent.old said.old latest.old lowest.old × (w ≤ 512) }
-    ensures { (length silent.new ≡ w) × (length said.new ≡ w) × (length latest.new ≡ w) × (length lowest.new ≡ w) × AllNoted (procsOf procs.now n) n q silent.new said.new latest.new lowest.new }
+    requires { (n * row_size ≤ length procs.now) × (n ≤ w) × (q < n) × Falls (procs_of procs.now n) × (length silent.old ≡ w) × (length said.old ≡ w) × (length latest.old ≡ w) × (length lowest.old ≡ w) × AllNoted (procs_of procs.now n) n (suc q) silent.old said.old latest.old lowest.old × (w ≤ 512) }
+    ensures { (length silent.new ≡ w) × (length said.new ≡ w) × (length latest.new ≡ w) × (length lowest.new ≡ w) × AllNoted (procs_of procs.now n) n q silent.new said.new latest.new lowest.new }
 {
     let up = rows::parent_at(procs, n, q) as usize;
     if up < q {
@@ -188,7 +188,7 @@ fn found(yes: bool, q: usize, before: usize) -> usize
 
 // The first of two numbers that is below n.
 fn first_below(n: usize, a: usize, b: usize) -> Found
-    ensures { result ≡ or_else (foundIn n a) (foundIn n b) }
+    ensures { result ≡ or_else (found_in n a) (found_in n b) }
 {
     if a < n {
         return Found::At(a);
@@ -212,8 +212,8 @@ fn pass(
     latest: &mut [u16],
     lowest: &mut [u16],
 ) -> Found
-    requires { (n * rowSize ≤ length procs.now) × (n ≤ w) × (m * cellSize ≤ length vars.now) × Falls (procsOf procs.now n) × (length silent.old ≡ w) × (length said.old ≡ w) × (length latest.old ≡ w) × (length lowest.old ≡ w) × AllNoted (procsOf procs.now n) n n silent.old said.old latest.old lowest.old × (w ≤ 512) }
-    ensures { ((pr : Program) → result ≡ turn_of (canMove pr (stateIn procs.now n vars.now m)) n last) × (length silent.new ≡ w) × (length said.new ≡ w) × (length latest.new ≡ w) × (length lowest.new ≡ w) × AllNoted (procsOf procs.now n) n 0 silent.new said.new latest.new lowest.new }
+    requires { (n * row_size ≤ length procs.now) × (n ≤ w) × (m * cell_size ≤ length vars.now) × Falls (procs_of procs.now n) × (length silent.old ≡ w) × (length said.old ≡ w) × (length latest.old ≡ w) × (length lowest.old ≡ w) × AllNoted (procs_of procs.now n) n n silent.old said.old latest.old lowest.old × (w ≤ 512) }
+    ensures { ((pr : Program) → result ≡ turn_of (can_move pr (state_in procs.now n vars.now m)) n last) × (length silent.new ≡ w) × (length said.new ≡ w) × (length latest.new ≡ w) × (length lowest.new ≡ w) × AllNoted (procs_of procs.now n) n 0 silent.new said.new latest.new lowest.new }
 {
     let mut behind = n;
     let mut round = n;
@@ -241,8 +241,8 @@ fn told_of(
     lowest: &[u16],
     who: Found,
 ) -> Told
-    requires { (n * rowSize ≤ length procs.now) × (n ≤ w) × (length silent.now ≡ w) × (length said.now ≡ w) × (length latest.now ≡ w) × (length lowest.now ≡ w) × AllNoted (procsOf procs.now n) n 0 silent.now said.now latest.now lowest.now × ((p : ℕ) → who ≡ At p → p < n) × (w ≤ 512) }
-    ensures { (p : ℕ) → who ≡ At p → Tells (procsOf procs.now n) p result }
+    requires { (n * row_size ≤ length procs.now) × (n ≤ w) × (length silent.now ≡ w) × (length said.now ≡ w) × (length latest.now ≡ w) × (length lowest.now ≡ w) × AllNoted (procs_of procs.now n) n 0 silent.now said.now latest.now lowest.now × ((p : ℕ) → who ≡ At p → p < n) × (w ≤ 512) }
+    ensures { (p : ℕ) → who ≡ At p → Tells (procs_of procs.now n) p result }
 {
     let Found::At(p) = who else {
         return children::nothing();
@@ -256,8 +256,8 @@ const FEW: usize = 64;
 
 // The same as `next`, for few rows.
 fn next_few(procs: &[u8], n: usize, vars: &[u8], m: usize, last: usize) -> Turn
-    requires { (n * rowSize ≤ length procs.now) × (n ≤ 64) × (m * cellSize ≤ length vars.now) × Falls (procsOf procs.now n) × (last < n) }
-    ensures { ((pr : Program) → result.who ≡ turn_of (canMove pr (stateIn procs.now n vars.now m)) n last) × ((p : ℕ) → result.who ≡ At p → Tells (procsOf procs.now n) p result.told) }
+    requires { (n * row_size ≤ length procs.now) × (n ≤ 64) × (m * cell_size ≤ length vars.now) × Falls (procs_of procs.now n) × (last < n) }
+    ensures { ((pr : Program) → result.who ≡ turn_of (can_move pr (state_in procs.now n vars.now m)) n last) × ((p : ℕ) → result.who ≡ At p → Tells (procs_of procs.now n) p result.told) }
 {
     let mut silent = [0u8; FEW];
     let mut said = [0u8; FEW];
@@ -284,8 +284,8 @@ fn next_few(procs: &[u8], n: usize, vars: &[u8], m: usize, last: usize) -> Turn
 
 // The same, for as many as there can be.
 fn next_many(procs: &[u8], n: usize, vars: &[u8], m: usize, last: usize) -> Turn
-    requires { (n * rowSize ≤ length procs.now) × (n ≤ 512) × (m * cellSize ≤ length vars.now) × Falls (procsOf procs.now n) × (last < n) }
-    ensures { ((pr : Program) → result.who ≡ turn_of (canMove pr (stateIn procs.now n vars.now m)) n last) × ((p : ℕ) → result.who ≡ At p → Tells (procsOf procs.now n) p result.told) }
+    requires { (n * row_size ≤ length procs.now) × (n ≤ 512) × (m * cell_size ≤ length vars.now) × Falls (procs_of procs.now n) × (last < n) }
+    ensures { ((pr : Program) → result.who ≡ turn_of (can_move pr (state_in procs.now n vars.now m)) n last) × ((p : ℕ) → result.who ≡ At p → Tells (procs_of procs.now n) p result.told) }
 {
     let mut silent = [0u8; codes::MOST_PROCS];
     let mut said = [0u8; codes::MOST_PROCS];
@@ -321,8 +321,8 @@ fn next_many(procs: &[u8], n: usize, vars: &[u8], m: usize, last: usize) -> Turn
 
 // The next process behind the last that can move, coming round to the last itself, and what its children report.
 pub fn next(procs: &[u8], n: usize, vars: &[u8], m: usize, last: usize) -> Turn
-    requires { (n * rowSize ≤ length procs.now) × (n ≤ 512) × (m * cellSize ≤ length vars.now) × Falls (procsOf procs.now n) × (last < n) }
-    ensures { ((pr : Program) → result.who ≡ turn_of (canMove pr (stateIn procs.now n vars.now m)) n last) × ((p : ℕ) → result.who ≡ At p → Tells (procsOf procs.now n) p result.told) }
+    requires { (n * row_size ≤ length procs.now) × (n ≤ 512) × (m * cell_size ≤ length vars.now) × Falls (procs_of procs.now n) × (last < n) }
+    ensures { ((pr : Program) → result.who ≡ turn_of (can_move pr (state_in procs.now n vars.now m)) n last) × ((p : ℕ) → result.who ≡ At p → Tells (procs_of procs.now n) p result.told) }
 {
     if n <= FEW {
         return next_few(procs, n, vars, m, last);

@@ -9,8 +9,8 @@ use lib.Seq.{drop-cons, get_or-set_other, get_or-set_same, get_or-take, length-t
 use borrow.Author.Tests.{eqb-false, eqb-true, le-leb, leb-false, lt-leb}
 use native.Mathlib.Omega.{arith}
 use native.Mathlib.Numerals.{add-one}
-use Rattle.parlog.specs.Tables.{bindingAt, bindingBy, bindingOf, number_at, sortAt, varsIn}
-use Rattle.parlog.specs.Unify.{bound, changed, chase, clash, follow, isBound, joined, meet, Outcome, someBound, unifyFrom, unifyOne, value, value_of}
+use Rattle.parlog.specs.Tables.{binding_at, binding_by, binding_of, number_at, sort_at, vars_in}
+use Rattle.parlog.specs.Unify.{bound, changed, chase, clash, follow, is_bound, joined, meet, Outcome, some_bound, unify_from, unify_one, value, value_of}
 use Rattle.parlog.specs.declared.Binding.{Binding}
 use Rattle.parlog.specs.declared.Binding.TheVariants.{Bound, Free}
 use Rattle.parlog.specs.declared.Change.{Change}
@@ -19,7 +19,7 @@ use Rattle.parlog.specs.declared.Met.TheVariants.{Bind}
 use Rattle.parlog.specs.declared.Pair.{Pair}
 use Rattle.parlog.specs.declared.Term.{Term}
 use Rattle.parlog.specs.declared.Term.TheVariants.{Const, Var}
-use Rattle.unify.specs.Pending.{boundIn, boundVars, latest, newerOf, noChange, noPair, outcome, pending, top, under}
+use Rattle.unify.specs.Pending.{bound_in, bound_vars, latest, newer_of, no_change, no_pair, outcome, pending, top, under}
 use Rattle.unify.specs.declared.Unified.{Unified}
 use Rattle.vars.proofs.Tables.{vars-at, vars-length, vars-past}
 
@@ -48,14 +48,14 @@ chase-fuel : (l : List Binding) (n m a : ℕ) → a < n → a < m → chase l n 
 unfolding chase
 chase-fuel l zero m a h k = absurd (omega arith)
 chase-fuel l (suc n) zero a h k = absurd (omega arith)
-chase-fuel l (suc n) (suc m) a h k = follow-cong a (bindingOf l a) (λ w. chase l n w) (λ w. chase l m w) (λ w lt. chase-fuel l n m w (omega arith) (omega arith))
+chase-fuel l (suc n) (suc m) a h k = follow-cong a (binding_of l a) (λ w. chase l n w) (λ w. chase l m w) (λ w lt. chase-fuel l n m w (omega arith) (omega arith))
 
 -- the equation by which value_of is used: no fuel in it
-pub value-step : (vs : List Binding) (a : ℕ) → value_of vs a ≡ follow a (bindingOf vs a) (λ w. value_of vs w)
+pub value-step : (vs : List Binding) (a : ℕ) → value_of vs a ≡ follow a (binding_of vs a) (λ w. value_of vs w)
 unfolding value_of chase
-value-step l a = follow-cong a (bindingOf l a) (λ w. chase l a w) (λ w. chase l (suc w) w) (λ w lt. chase-fuel l a (suc w) w lt (omega arith))
+value-step l a = follow-cong a (binding_of l a) (λ w. chase l a w) (λ w. chase l (suc w) w) (λ w lt. chase-fuel l a (suc w) w lt (omega arith))
 
-module _ (vs : List Binding) (a : ℕ) {b : Binding} (is : b ≡ bindingOf vs a) where
+module _ (vs : List Binding) (a : ℕ) {b : Binding} (is : b ≡ binding_of vs a) where
   pub value-unbound : b ≡ Free → value_of vs a ≡ Var a
   unfolding follow
   value-unbound e = value-step vs a ∙ rw (sym is ∙ e)
@@ -82,20 +82,20 @@ latest-is vs (c ∷ cs) v h =
     ap (λ (b : Binding). latest cs b v) (one c (eqb c.var v) refl)
     ∙ latest-is (set vs c.var (Bound c.to)) cs v (rw length-set h)
   where
-    one : (c : Change) (t : Bool) → eqb c.var v ≡ t → newerOf c (get_or vs v Free) v ≡ get_or (set vs c.var (Bound c.to)) v Free
-    one c true e = unfold newerOf in (rw (e, ← eqb-true c.var v e, get_or-set_same vs c.var (Bound c.to) Free (rw (eqb-true c.var v e) h)))
-    one c false e = unfold newerOf in (rw (e, get_or-set_other vs c.var v (Bound c.to) Free (λ q. eqb-false c.var v e (sym q))))
+    one : (c : Change) (t : Bool) → eqb c.var v ≡ t → newer_of c (get_or vs v Free) v ≡ get_or (set vs c.var (Bound c.to)) v Free
+    one c true e = unfold newer_of in (rw (e, ← eqb-true c.var v e, get_or-set_same vs c.var (Bound c.to) Free (rw (eqb-true c.var v e) h)))
+    one c false e = unfold newer_of in (rw (e, get_or-set_other vs c.var v (Bound c.to) Free (λ q. eqb-false c.var v e (sym q))))
 
-pub under_at : (l : List ℕ) (n : ℕ) (cs : List Change) (v : ℕ) → v < n → {row b : Binding} → row ≡ bindingOf (varsIn l n) v → b ≡ latest cs row v → b ≡ bindingOf (under l n cs) v
+pub under_at : (l : List ℕ) (n : ℕ) (cs : List Change) (v : ℕ) → v < n → {row b : Binding} → row ≡ binding_of (vars_in l n) v → b ≡ latest cs row v → b ≡ binding_of (under l n cs) v
 unfolding under
-under_at l n cs v h p q = q ∙ ap (λ (r : Binding). latest cs r v) p ∙ latest-is (varsIn l n) cs v (rw vars-length h)
+under_at l n cs v h p q = q ∙ ap (λ (r : Binding). latest cs r v) p ∙ latest-is (vars_in l n) cs v (rw vars-length h)
 
 -- ---- the loop over pending changes
 
 module _ (xs : List Change) (n k : ℕ) (h : k < n) (g : n ≤ length xs) where
-  pub latest-more : (b c : Binding) (v : ℕ) → c ≡ newerOf (get_or xs k noChange) b v → latest (drop (k + 1) (take n xs)) c v ≡ latest (drop k (take n xs)) b v
+  pub latest-more : (b c : Binding) (v : ℕ) → c ≡ newer_of (get_or xs k no_change) b v → latest (drop (k + 1) (take n xs)) c v ≡ latest (drop k (take n xs)) b v
   unfolding latest
-  latest-more b c v e = rw (rest_more xs n k noChange h g, e)
+  latest-more b c v e = rw (rest_more xs n k no_change h g, e)
 
 module _ (xs : List Change) (n k : ℕ) (h : n ≤ k) (g : n ≤ length xs) where
   pub latest-done : (b : Binding) (v : ℕ) → b ≡ latest (drop k (take n xs)) b v
@@ -119,26 +119,26 @@ outcome-clash u e = rw e
 
 -- ---- the variables told
 
-pub bound-ok : (u : Unified) → u.ok ≡ true → boundIn u ≡ boundVars (outcome u)
-unfolding boundIn boundVars
+pub bound-ok : (u : Unified) → u.ok ≡ true → bound_in u ≡ bound_vars (outcome u)
+unfolding bound_in bound_vars
 bound-ok u e = rw (outcome-ok u e)
 
-pub bound-clash : (u : Unified) → u.ok ≡ false → u.count ≡ 0 → boundIn u ≡ boundVars (outcome u)
-unfolding boundIn boundVars pending
+pub bound-clash : (u : Unified) → u.ok ≡ false → u.count ≡ 0 → bound_in u ≡ bound_vars (outcome u)
+unfolding bound_in bound_vars pending
 bound-clash u e z = rw (outcome-clash u e, z)
 
-pub bound-same : (u : Unified) {o : Outcome} → boundIn u ≡ boundVars (outcome u) → outcome u ≡ o → boundIn u ≡ boundVars o
-bound-same u e h = e ∙ ap boundVars h
+pub bound-same : (u : Unified) {o : Outcome} → bound_in u ≡ bound_vars (outcome u) → outcome u ≡ o → bound_in u ≡ bound_vars o
+bound-same u e h = e ∙ ap bound_vars h
 
 -- ---- the pairs
 
 module _ (vs : List Binding) (es : List Pair) (n k : ℕ) (g : n ≤ length es) where
-  pub unify-more : (o o' : Outcome) → k < n → o' ≡ unifyOne vs o (get_or es k noPair) → unifyFrom vs o' (drop (k + 1) (take n es)) ≡ unifyFrom vs o (drop k (take n es))
-  unfolding unifyFrom
-  unify-more o o' h e = rw (rest_more es n k noPair h g, e)
+  pub unify-more : (o o' : Outcome) → k < n → o' ≡ unify_one vs o (get_or es k no_pair) → unify_from vs o' (drop (k + 1) (take n es)) ≡ unify_from vs o (drop k (take n es))
+  unfolding unify_from
+  unify-more o o' h e = rw (rest_more es n k no_pair h g, e)
 
-  pub unify-done : (o : Outcome) → n ≤ k → unifyFrom vs o (drop k (take n es)) ≡ o
-  unfolding unifyFrom
+  pub unify-done : (o : Outcome) → n ≤ k → unify_from vs o (drop k (take n es)) ≡ o
+  unfolding unify_from
   unify-done o h = rw (rest-none es n k h g)
 
 -- ---- the ways through value_under and unify_one
@@ -155,44 +155,44 @@ pub top-var : {t : Term} {v : ℕ} → t ≡ Var v → top t ≡ suc v
 unfolding top
 top-var e = rw e
 
-pub unify-kept : (vs : List Binding) (u : Unified) (p : Pair) → u.ok ≡ false → outcome u ≡ unifyOne vs (outcome u) p
-unfolding unifyOne
+pub unify-kept : (vs : List Binding) (u : Unified) (p : Pair) → u.ok ≡ false → outcome u ≡ unify_one vs (outcome u) p
+unfolding unify_one
 unify-kept vs u p e = rw (outcome-clash u e)
 
 pub unify-step : (l : List ℕ) (n : ℕ) (u : Unified) (p : Pair) {x y : Term} {m : Met} {o : Outcome} → u.ok ≡ true
     → x ≡ value (under l n (pending u)) p.left → y ≡ value (under l n (pending u)) p.right → m ≡ meet x y → o ≡ joined (pending u) m
-    → o ≡ unifyOne (varsIn l n) (outcome u) p
-unfolding unifyOne under
+    → o ≡ unify_one (vars_in l n) (outcome u) p
+unfolding unify_one under
 unify-step l n u p ok ex ey em eo = rw (outcome-ok u ok, eo, em, ex, ey)
 
-pub value-nothing : (l : List ℕ) (n : ℕ) (t : Term) {cs : List Change} {r : Term} → cs ≡ [] → r ≡ value (under l n cs) t → r ≡ value (varsIn l n) t
+pub value-nothing : (l : List ℕ) (n : ℕ) (t : Term) {cs : List Change} {r : Term} → cs ≡ [] → r ≡ value (under l n cs) t → r ≡ value (vars_in l n) t
 unfolding under changed
-value-nothing l n t e q = q ∙ ap (λ (cs : List Change). value (changed (varsIn l n) cs) t) e
+value-nothing l n t e q = q ∙ ap (λ (cs : List Change). value (changed (vars_in l n) cs) t) e
 
 -- ---- the ways through some_bound
 
-pub bound-sort : (l : List ℕ) (m v : ℕ) → v < m → not (eqb (get_or l (v * 4) 0) 0) ≡ isBound (bindingOf (varsIn l m) v)
-unfolding bindingAt bindingBy
-bound-sort l m v h = rw (vars-at l m v h) (go (eqb (sortAt l v) 0) (eqb (sortAt l v) 1))
+pub bound-sort : (l : List ℕ) (m v : ℕ) → v < m → not (eqb (get_or l (v * 4) 0) 0) ≡ is_bound (binding_of (vars_in l m) v)
+unfolding binding_at binding_by
+bound-sort l m v h = rw (vars-at l m v h) (go (eqb (sort_at l v) 0) (eqb (sort_at l v) 1))
   where
-    go : (a b : Bool) → not a ≡ isBound (cond a Free (cond b (Bound (Const (number_at l v))) (Bound (Var (number_at l v)))))
+    go : (a b : Bool) → not a ≡ is_bound (cond a Free (cond b (Bound (Const (number_at l v))) (Bound (Var (number_at l v)))))
     go true b = refl
     go false true = refl
     go false false = refl
 
-pub bound-past : (l : List ℕ) (m v : ℕ) → m ≤ v → false ≡ isBound (bindingOf (varsIn l m) v)
+pub bound-past : (l : List ℕ) (m v : ℕ) → m ≤ v → false ≡ is_bound (binding_of (vars_in l m) v)
 bound-past l m v h = rw (vars-past l m v h)
 
 module _ (vs : List Binding) (ns : List ℕ) (n k : ℕ) (g : n ≤ length ns) where
-  module _ (h : k < n) {t : Bool} (here : t ≡ isBound (bindingOf vs (get_or ns k 0))) where
-    pub some-hit : t ≡ true → true ≡ someBound vs (drop k (take n ns))
-    unfolding someBound
+  module _ (h : k < n) {t : Bool} (here : t ≡ is_bound (binding_of vs (get_or ns k 0))) where
+    pub some-hit : t ≡ true → true ≡ some_bound vs (drop k (take n ns))
+    unfolding some_bound
     some-hit e = rw (rest_more ns n k 0 h g, ← here, e)
 
-    pub some-miss : t ≡ false → someBound vs (drop (k + 1) (take n ns)) ≡ someBound vs (drop k (take n ns))
-    unfolding someBound
+    pub some-miss : t ≡ false → some_bound vs (drop (k + 1) (take n ns)) ≡ some_bound vs (drop k (take n ns))
+    unfolding some_bound
     some-miss e = rw (rest_more ns n k 0 h g, ← here, e)
 
-  pub some-done : n ≤ k → false ≡ someBound vs (drop k (take n ns))
-  unfolding someBound
+  pub some-done : n ≤ k → false ≡ some_bound vs (drop k (take n ns))
+  unfolding some_bound
   some-done h = rw (rest-none ns n k h g)

@@ -1,6 +1,6 @@
 -- The unifier that the code carries, and what its pending bindings say.
 use Rattle.std.specs.Prelude.{Bool, cond, false, true, [], ◌∷◌, List, map, ◌<◌, ◌≤◌, suc, ℕ, eqb, get_or, length, take}
-use Rattle.parlog.specs.Tables.{numberCode, varsIn}
+use Rattle.parlog.specs.Tables.{number_code, vars_in}
 use Rattle.parlog.specs.Unify.{bound, changed, clash, Outcome}
 use Rattle.parlog.specs.declared.Binding.{Binding}
 use Rattle.parlog.specs.declared.Binding.TheVariants.{Bound}
@@ -21,56 +21,56 @@ top (Var v) = suc v
 unfoldable pub pending : Unified → List Change
 pending u = take u.count u.binds
 
-abbrev pub outcomeBy : Bool → List Change → Outcome
-outcomeBy true cs = bound cs
-outcomeBy false cs = clash
+abbrev pub outcome_by : Bool → List Change → Outcome
+outcome_by true cs = bound cs
+outcome_by false cs = clash
 
 -- what a unifier came to so far
 unfoldable pub outcome : Unified → Outcome
-outcome u = outcomeBy u.ok (pending u)
+outcome u = outcome_by u.ok (pending u)
 
 -- ---- what is told: the variables bound
 
 -- the variables of changes, in their order
-abbrev pub varsBound : List Change → List ℕ
-varsBound cs = map (λ c. c.var) cs
+abbrev pub vars_bound : List Change → List ℕ
+vars_bound cs = map (λ c. c.var) cs
 
 -- Bound 1: the variables that unifying binds, in order; a clash binds none
-unfoldable pub boundVars : Outcome → List ℕ
-boundVars clash = []
-boundVars (bound cs) = varsBound cs
+unfoldable pub bound_vars : Outcome → List ℕ
+bound_vars clash = []
+bound_vars (bound cs) = vars_bound cs
 
 -- the variables that a unifier tells
-unfoldable pub boundIn : Unified → List ℕ
-boundIn u = varsBound (pending u)
+unfoldable pub bound_in : Unified → List ℕ
+bound_in u = vars_bound (pending u)
 
 -- ---- the table under changes
 
 -- the binding of v after one change, where it was b
-unfoldable pub newerOf : Change → Binding → ℕ → Binding
-newerOf c b v = cond (eqb c.var v) (Bound c.to) b
+unfoldable pub newer_of : Change → Binding → ℕ → Binding
+newer_of c b v = cond (eqb c.var v) (Bound c.to) b
 
 -- the binding of v after changes, where it was b
 unfoldable pub latest : List Change → Binding → ℕ → Binding
 latest [] b v = b
-latest (c ∷ cs) b v = latest cs (newerOf c b v) v
+latest (c ∷ cs) b v = latest cs (newer_of c b v) v
 
 -- the table's bindings after changes
 unfoldable pub under : List ℕ → ℕ → List Change → List Binding
-under l n cs = changed (varsIn l n) cs
+under l n cs = changed (vars_in l n) cs
 
 -- ---- bounds
 
 -- what stands past the end of changes and of pairs
-abbrev pub noChange : Change
-noChange = record { var = 0; to = Const 0 }
+abbrev pub no_change : Change
+no_change = record { var = 0; to = Const 0 }
 
-abbrev pub noPair : Pair
-noPair = record { left = Const 0; right = Const 0 }
+abbrev pub no_pair : Pair
+no_pair = record { left = Const 0; right = Const 0 }
 
 -- the variables of the first pairs are below n
 abbrev pub Below : ℕ → ℕ → List Pair → Type 0
-Below n count es = (k : ℕ) → k < count → (top (get_or es k noPair).left ≤ n) × (top (get_or es k noPair).right ≤ n)
+Below n count es = (k : ℕ) → k < count → (top (get_or es k no_pair).left ≤ n) × (top (get_or es k no_pair).right ≤ n)
 
 -- it binds a variable below n, to a constant or a lower variable
 abbrev pub Lowers : ℕ → Change → Type 0
@@ -86,5 +86,5 @@ OutcomeLowers n (bound cs) = AllLower n cs
 
 -- what a writer of the table asks of changes: every variable among the first n, every number one of three bytes
 pub record Writable (n : ℕ) (cs : List Change) : Type 0 where
-  pub rows : (k : ℕ) → k < length cs → (get_or cs k noChange).var < n
-  pub numbers : (k : ℕ) → k < length cs → numberCode (Bound (get_or cs k noChange).to) < 16777216
+  pub rows : (k : ℕ) → k < length cs → (get_or cs k no_change).var < n
+  pub numbers : (k : ℕ) → k < length cs → number_code (Bound (get_or cs k no_change).to) < 16777216

@@ -1,8 +1,8 @@
 // Values and unifying over the lent variable table. Nothing is written: what a unifier binds is pending, in a struct by value.
 ghost use Rattle.std.specs.Prelude.{◌≡◌, true, false, [], ◌+◌, ◌*◌, ◌≤◌, ◌<◌, length, take};
-ghost use Rattle.parlog.specs.Tables.{bindingOf, cellSize, varsIn};
-ghost use Rattle.parlog.specs.Unify.{bound, isBound, joined, meet, meetVars, someBound, unify, unifyOne, value, value_of};
-ghost use Rattle.unify.specs.Pending.{Below, boundIn, boundVars, latest, newerOf, outcome, pending, top, under};
+ghost use Rattle.parlog.specs.Tables.{binding_of, cell_size, vars_in};
+ghost use Rattle.parlog.specs.Unify.{bound, is_bound, joined, meet, meet_vars, some_bound, unify, unify_one, value, value_of};
+ghost use Rattle.unify.specs.Pending.{Below, bound_in, bound_vars, latest, newer_of, outcome, pending, top, under};
 
 use parlog::{Binding, Change, Met, Pair, Term, codes};
 
@@ -16,7 +16,7 @@ pub struct Unified {
 
 // What one binding makes of the row b of v.
 fn newer(c: Change, b: Binding, v: u32) -> Binding
-    ensures { result ≡ newerOf c b v }
+    ensures { result ≡ newer_of c b v }
 {
     let t = c.to;
     if c.var == v { Binding::Bound(t) } else { b }
@@ -41,7 +41,7 @@ fn found_in(u: Unified, row: Binding, v: u32) -> Binding
 
 // The constant or unbound variable that v's bindings lead to.
 fn value_of_var(vars: &[u8], n: usize, u: Unified, v: u32) -> Term
-    requires { (n * cellSize ≤ length vars.now) × (v < n) × (u.count ≤ 4) × (length u.binds ≡ 4) }
+    requires { (n * cell_size ≤ length vars.now) × (v < n) × (u.count ≤ 4) × (length u.binds ≡ 4) }
     ensures { result ≡ value_of (under vars.now n (pending u)) v }
 {
     let mut a = v;
@@ -63,7 +63,7 @@ fn value_of_var(vars: &[u8], n: usize, u: Unified, v: u32) -> Term
 
 // A term's value under the pending bindings.
 fn value_under(vars: &[u8], n: usize, u: Unified, t: Term) -> Term
-    requires { (n * cellSize ≤ length vars.now) × (top t ≤ n) × (u.count ≤ 4) × (length u.binds ≡ 4) }
+    requires { (n * cell_size ≤ length vars.now) × (top t ≤ n) × (u.count ≤ 4) × (length u.binds ≡ 4) }
     ensures { result ≡ value (under vars.now n (pending u)) t }
 {
     let Term::Var(v) = t else {
@@ -74,7 +74,7 @@ fn value_under(vars: &[u8], n: usize, u: Unified, t: Term) -> Term
 
 // Nothing bound yet.
 fn nothing() -> Unified
-    ensures { (outcome result ≡ bound []) × (pending result ≡ []) × (result.count ≡ 0) × (length result.binds ≡ 4) × (boundIn result ≡ boundVars (outcome result)) }
+    ensures { (outcome result ≡ bound []) × (pending result ≡ []) × (result.count ≡ 0) × (length result.binds ≡ 4) × (bound_in result ≡ bound_vars (outcome result)) }
 {
     let none = Change {
         var: 0,
@@ -89,8 +89,8 @@ fn nothing() -> Unified
 
 // A term's value under the table's bindings.
 pub fn value_of(vars: &[u8], n: usize, t: Term) -> Term
-    requires { (n * cellSize ≤ length vars.now) × (top t ≤ n) }
-    ensures { result ≡ value (varsIn vars.now n) t }
+    requires { (n * cell_size ≤ length vars.now) × (top t ≤ n) }
+    ensures { result ≡ value (vars_in vars.now n) t }
 {
     let u = nothing();
     value_under(vars, n, u, t)
@@ -98,7 +98,7 @@ pub fn value_of(vars: &[u8], n: usize, t: Term) -> Term
 
 // Two unbound variables: the higher gives way to the lower.
 fn meet_vars(v: u32, w: u32) -> Met
-    ensures { result ≡ meetVars v w }
+    ensures { result ≡ meet_vars v w }
 {
     if v < w {
         return Met::Bind(w, Term::Var(v));
@@ -128,7 +128,7 @@ fn meet(x: Term, y: Term) -> Met
 // The unifier with what two values more come to; a clash binds nothing.
 fn join(u: Unified, m: Met) -> Unified
     requires { (u.ok ≡ true) × (u.count < 4) × (length u.binds ≡ 4) }
-    ensures { (outcome result ≡ joined (pending u) m) × (result.count ≤ u.count + 1) × (length result.binds ≡ 4) × (boundIn result ≡ boundVars (outcome result)) }
+    ensures { (outcome result ≡ joined (pending u) m) × (result.count ≤ u.count + 1) × (length result.binds ≡ 4) × (bound_in result ≡ bound_vars (outcome result)) }
 {
     let n = u.count;
     let mut binds = u.binds;
@@ -152,8 +152,8 @@ fn join(u: Unified, m: Met) -> Unified
 
 // One pair more; a clash stays one.
 fn unify_one(vars: &[u8], n: usize, u: Unified, p: Pair) -> Unified
-    requires { (n * cellSize ≤ length vars.now) × (top p.left ≤ n) × (top p.right ≤ n) × (u.count < 4) × (length u.binds ≡ 4) × (boundIn u ≡ boundVars (outcome u)) }
-    ensures { (outcome result ≡ unifyOne (varsIn vars.now n) (outcome u) p) × (result.count ≤ u.count + 1) × (length result.binds ≡ 4) × (boundIn result ≡ boundVars (outcome result)) }
+    requires { (n * cell_size ≤ length vars.now) × (top p.left ≤ n) × (top p.right ≤ n) × (u.count < 4) × (length u.binds ≡ 4) × (bound_in u ≡ bound_vars (outcome u)) }
+    ensures { (outcome result ≡ unify_one (vars_in vars.now n) (outcome u) p) × (result.count ≤ u.count + 1) × (length result.binds ≡ 4) × (bound_in result ≡ bound_vars (outcome result)) }
 {
     let ok = u.ok;
     if !ok {
@@ -169,8 +169,8 @@ fn unify_one(vars: &[u8], n: usize, u: Unified, p: Pair) -> Unified
 
 // The first of these pairs, from the left; it tells the variables bound, in order, and none after a clash.
 pub fn unify(vars: &[u8], n: usize, pairs: [Pair; codes::MOST_ARITY], count: usize) -> Unified
-    requires { (n * cellSize ≤ length vars.now) × (count ≤ 4) × Below n count pairs }
-    ensures { (outcome result ≡ unify (varsIn vars.now n) (take count pairs)) × (result.count ≤ count) × (length result.binds ≡ 4) × (boundIn result ≡ boundVars (unify (varsIn vars.now n) (take count pairs))) }
+    requires { (n * cell_size ≤ length vars.now) × (count ≤ 4) × Below n count pairs }
+    ensures { (outcome result ≡ unify (vars_in vars.now n) (take count pairs)) × (result.count ≤ count) × (length result.binds ≡ 4) × (bound_in result ≡ bound_vars (unify (vars_in vars.now n) (take count pairs))) }
 {
     let mut u = nothing();
     let mut i = 0;
@@ -184,8 +184,8 @@ pub fn unify(vars: &[u8], n: usize, pairs: [Pair; codes::MOST_ARITY], count: usi
 
 // Variable v of the first n is bound.
 fn is_bound(vars: &[u8], n: usize, v: usize) -> bool
-    requires { n * cellSize ≤ length vars.now }
-    ensures { result ≡ isBound (bindingOf (varsIn vars.now n) v) }
+    requires { n * cell_size ≤ length vars.now }
+    ensures { result ≡ is_bound (binding_of (vars_in vars.now n) v) }
 {
     if v < n {
         return vars[v * codes::CELL_SIZE] != codes::UNBOUND;
@@ -200,8 +200,8 @@ pub fn some_bound(
     count: usize,
     notes: [u16; codes::MOST_NOTES as usize],
 ) -> bool
-    requires { (n * cellSize ≤ length vars.now) × (count ≤ 4) }
-    ensures { result ≡ someBound (varsIn vars.now n) (take count notes) }
+    requires { (n * cell_size ≤ length vars.now) × (count ≤ 4) }
+    ensures { result ≡ some_bound (vars_in vars.now n) (take count notes) }
 {
     let mut k = 0;
     while k < count {

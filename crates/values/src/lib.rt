@@ -2,10 +2,10 @@
 ghost use Rattle.std.specs.Prelude.{◌≡◌, ◌*◌, ◌≤◌, length};
 ghost use Rattle.parlog.specs.Limits.{small};
 ghost use Rattle.parlog.specs.Program.{program_of};
-ghost use Rattle.parlog.specs.Tables.{cellSize, headSize, lent, varCount, varsIn, written};
+ghost use Rattle.parlog.specs.Tables.{cell_size, head_size, lent, var_count, vars_in, written};
 ghost use Rattle.parlog.specs.Orders.{KeepRules};
 ghost use Rattle.program_index.specs.Indexed.{Indexed};
-ghost use Rattle.values.specs.Values.{GatherSays, ValuesSays, valuesBytes};
+ghost use Rattle.values.specs.Values.{GatherSays, ValuesSays, values_bytes};
 
 use parlog::{Loaded, Refusal, Term, codes};
 
@@ -18,8 +18,8 @@ pub enum Gathered {
 
 // The values of the first `goal` variables, one row behind the other.
 fn write(vars: &[u8], n: usize, goal: usize, values: &mut [u8])
-    requires { (n * cellSize ≤ length vars.now) × (goal ≤ n) × (goal ≤ 255) × (goal * cellSize ≤ length values.old) × KeepRules (varsIn vars.now n) }
-    ensures { values.new ≡ written (valuesBytes (varsIn vars.now n) goal) values.old }
+    requires { (n * cell_size ≤ length vars.now) × (goal ≤ n) × (goal ≤ 255) × (goal * cell_size ≤ length values.old) × KeepRules (vars_in vars.now n) }
+    ensures { values.new ≡ written (values_bytes (vars_in vars.now n) goal) values.old }
 {
     let mut v: u32 = 0;
     while (v as usize) < goal {
@@ -39,8 +39,8 @@ fn gather(
     vars: &[u8],
     values: &mut [u8],
 ) -> Gathered
-    requires { (rels ≤ 32) × (clauses ≤ 64) × (headSize ≤ length head.now) × (varCount head.now * cellSize ≤ length vars.now) × ((program_of image.now rels clauses).goalVars ≤ varCount head.now) × KeepRules (varsIn vars.now (varCount head.now)) × Indexed image.now rels clauses ix.now }
-    ensures { GatherSays (program_of image.now rels clauses).goalVars (varsIn vars.now (varCount head.now)) values.old result values.new }
+    requires { (rels ≤ 32) × (clauses ≤ 64) × (head_size ≤ length head.now) × (var_count head.now * cell_size ≤ length vars.now) × ((program_of image.now rels clauses).goal_vars ≤ var_count head.now) × KeepRules (vars_in vars.now (var_count head.now)) × Indexed image.now rels clauses ix.now }
+    ensures { GatherSays (program_of image.now rels clauses).goal_vars (vars_in vars.now (var_count head.now)) values.old result values.new }
 {
     let goal = program_clause::goal_vars(image, rels, clauses, ix);
     if values.len() < goal * codes::CELL_SIZE {

@@ -11,58 +11,58 @@ use Rattle.parlog.proofs.Bools.{split}
 use Rattle.parlog.proofs.Rows.{build-cong, build-is, build-more, build-past, build-set}
 use Rattle.parlog.proofs.Scans.{build-at, build-length, every-at, every-is}
 use Rattle.parlog.specs.Scan.{every}
-use Rattle.parlog.specs.TableRules.{cellKnown}
-use Rattle.parlog.specs.Tables.{bindingAt, bindingBytes, bindingOf, cellSize, varsIn}
+use Rattle.parlog.specs.TableRules.{cell_known}
+use Rattle.parlog.specs.Tables.{binding_at, binding_bytes, binding_of, cell_size, vars_in}
 use Rattle.parlog.specs.declared.Binding.{Binding}
 use Rattle.parlog.specs.declared.Binding.TheVariants.{Free}
 use Rattle.rows.proofs.Laws.{wiped-after, wiped-before, wiped-in, wiped-length}
 use Rattle.rows.specs.Rows.{wiped}
 use Rattle.vars.proofs.Laws.{binding-cong, binding-none, binding-other, binding-same, cell-byte-past, known-cong, known-none, known-other, known_same, cell-put-length}
-use Rattle.vars.specs.Cells.{Cells, putCell}
+use Rattle.vars.specs.Cells.{Cells, put_cell}
 
-pub vars-length : (l : List ℕ) (n : ℕ) → length (varsIn l n) ≡ n
-unfolding varsIn
-vars-length l n = build-length (bindingAt l) n
+pub vars-length : (l : List ℕ) (n : ℕ) → length (vars_in l n) ≡ n
+unfolding vars_in
+vars-length l n = build-length (binding_at l) n
 
-pub vars-at : (l : List ℕ) (n v : ℕ) → v < n → bindingOf (varsIn l n) v ≡ bindingAt l v
-unfolding varsIn
-vars-at l n v h = build-at (bindingAt l) n v Free h
+pub vars-at : (l : List ℕ) (n v : ℕ) → v < n → binding_of (vars_in l n) v ≡ binding_at l v
+unfolding vars_in
+vars-at l n v h = build-at (binding_at l) n v Free h
 
 -- past the used rows every variable is unbound
-pub vars-past : (l : List ℕ) (n v : ℕ) → n ≤ v → bindingOf (varsIn l n) v ≡ Free
-unfolding varsIn
-vars-past l n v h = build-past (bindingAt l) n v Free h
+pub vars-past : (l : List ℕ) (n v : ℕ) → n ≤ v → binding_of (vars_in l n) v ≡ Free
+unfolding vars_in
+vars-past l n v h = build-past (binding_at l) n v Free h
 
-pub vars-cong : (l m : List ℕ) (n : ℕ) → ((v : ℕ) → v < n → bindingAt l v ≡ bindingAt m v) → varsIn l n ≡ varsIn m n
-unfolding varsIn
-vars-cong l m n h = build-cong (bindingAt l) (bindingAt m) n h
+pub vars-cong : (l m : List ℕ) (n : ℕ) → ((v : ℕ) → v < n → binding_at l v ≡ binding_at m v) → vars_in l n ≡ vars_in m n
+unfolding vars_in
+vars-cong l m n h = build-cong (binding_at l) (binding_at m) n h
 
-pub vars-is : (l : List ℕ) (vs : List Binding) → ((v : ℕ) → v < length vs → bindingAt l v ≡ bindingOf vs v) → varsIn l (length vs) ≡ vs
-unfolding varsIn
-vars-is l vs h = build-is (bindingAt l) Free vs h
+pub vars-is : (l : List ℕ) (vs : List Binding) → ((v : ℕ) → v < length vs → binding_at l v ≡ binding_of vs v) → vars_in l (length vs) ≡ vs
+unfolding vars_in
+vars-is l vs h = build-is (binding_at l) Free vs h
 
-pub vars-set-length : (l : List ℕ) (n v : ℕ) (b : Binding) → length (set (varsIn l n) v b) ≡ n
-vars-set-length l n v b = length-set (varsIn l n) v b ∙ vars-length l n
+pub vars-set-length : (l : List ℕ) (n v : ℕ) (b : Binding) → length (set (vars_in l n) v b) ≡ n
+vars-set-length l n v b = length-set (vars_in l n) v b ∙ vars-length l n
 
-pub vars-more-length : (l : List ℕ) (n k : ℕ) → length (varsIn l n ++ replicate k Free) ≡ n + k
-vars-more-length l n k = length-append (varsIn l n) (replicate k Free) ∙ rw (vars-length, length-replicate)
+pub vars-more-length : (l : List ℕ) (n k : ℕ) → length (vars_in l n ++ replicate k Free) ≡ n + k
+vars-more-length l n k = length-append (vars_in l n) (replicate k Free) ∙ rw (vars-length, length-replicate)
 
 -- ---- one row written
 
-module _ (l : List ℕ) (n v : ℕ) (b : Binding) (enough : n * cellSize ≤ length l) (h : v < n) where
-  pub vars-put : varsIn (putCell l v (bindingBytes b)) n ≡ set (varsIn l n) v b
-  unfolding varsIn
+module _ (l : List ℕ) (n v : ℕ) (b : Binding) (enough : n * cell_size ≤ length l) (h : v < n) where
+  pub vars-put : vars_in (put_cell l v (binding_bytes b)) n ≡ set (vars_in l n) v b
+  unfolding vars_in
   vars-put =
-      build-set (bindingAt (putCell l v (bindingBytes b))) (bindingAt l) n v b h (binding-same l v b (omega arith)) (λ w u ne. binding-other l v b (omega arith) w ne)
+      build-set (binding_at (put_cell l v (binding_bytes b))) (binding_at l) n v b h (binding-same l v b (omega arith)) (λ w u ne. binding-other l v b (omega arith) w ne)
 
-  known-put : every (cellKnown l) n ≡ true → every (cellKnown (putCell l v (bindingBytes b))) n ≡ true
-  known-put e = every-is (cellKnown (putCell l v (bindingBytes b))) n (λ w u. split (eqb w v)
+  known-put : every (cell_known l) n ≡ true → every (cell_known (put_cell l v (binding_bytes b))) n ≡ true
+  known-put e = every-is (cell_known (put_cell l v (binding_bytes b))) n (λ w u. split (eqb w v)
       (λ q. rw (eqb-true w v q) (known_same l v b (omega arith)))
-      (λ q. known-other l v b (omega arith) w (eqb-false w v q) ∙ every-at (cellKnown l) n w e u))
+      (λ q. known-other l v b (omega arith) w (eqb-false w v q) ∙ every-at (cell_known l) n w e u))
 
-  pub cells-put : Cells n l (putCell l v (bindingBytes b)) (set (varsIn l n) v b)
+  pub cells-put : Cells n l (put_cell l v (binding_bytes b)) (set (vars_in l n) v b)
   cells-put =
-      let k : length (set (varsIn l n) v b) ≡ n = vars-set-length l n v b in
+      let k : length (set (vars_in l n) v b) ≡ n = vars-set-length l n v b in
       record {
         size = cell-put-length l v b (omega arith);
         cells = rw k vars-put;
@@ -72,54 +72,54 @@ module _ (l : List ℕ) (n v : ℕ) (b : Binding) (enough : n * cellSize ≤ len
 
 -- ---- rows more
 
-module _ (l : List ℕ) (n k : ℕ) (enough : n * cellSize + k * cellSize ≤ length l) where
-  old-byte : (v : ℕ) → v < n → (j : ℕ) → j < cellSize → get_or (wiped l (n * cellSize) (k * cellSize)) (v * cellSize + j) 0 ≡ get_or l (v * cellSize + j) 0
-  old-byte v h j u = wiped-before l (n * cellSize) (k * cellSize) enough (v * cellSize + j) (omega arith)
+module _ (l : List ℕ) (n k : ℕ) (enough : n * cell_size + k * cell_size ≤ length l) where
+  old-byte : (v : ℕ) → v < n → (j : ℕ) → j < cell_size → get_or (wiped l (n * cell_size) (k * cell_size)) (v * cell_size + j) 0 ≡ get_or l (v * cell_size + j) 0
+  old-byte v h j u = wiped-before l (n * cell_size) (k * cell_size) enough (v * cell_size + j) (omega arith)
 
-  new-byte : (v : ℕ) → v < k → (j : ℕ) → j < cellSize → get_or (wiped l (n * cellSize) (k * cellSize)) ((n + v) * cellSize + j) 0 ≡ 0
+  new-byte : (v : ℕ) → v < k → (j : ℕ) → j < cell_size → get_or (wiped l (n * cell_size) (k * cell_size)) ((n + v) * cell_size + j) 0 ≡ 0
   new-byte v h j u =
-      ap (λ (i : ℕ). get_or (wiped l (n * cellSize) (k * cellSize)) i 0) (omega arith) ∙ wiped-in l (n * cellSize) (k * cellSize) enough (v * cellSize + j) (omega arith)
+      ap (λ (i : ℕ). get_or (wiped l (n * cell_size) (k * cell_size)) i 0) (omega arith) ∙ wiped-in l (n * cell_size) (k * cell_size) enough (v * cell_size + j) (omega arith)
 
-  pub vars-grow : varsIn (wiped l (n * cellSize) (k * cellSize)) (n + k) ≡ varsIn l n ++ replicate k Free
-  unfolding varsIn
+  pub vars-grow : vars_in (wiped l (n * cell_size) (k * cell_size)) (n + k) ≡ vars_in l n ++ replicate k Free
+  unfolding vars_in
   vars-grow =
-      build-more (bindingAt (wiped l (n * cellSize) (k * cellSize))) n k Free (λ v h. binding-none (wiped l (n * cellSize) (k * cellSize)) (n + v) (new-byte v h))
+      build-more (binding_at (wiped l (n * cell_size) (k * cell_size))) n k Free (λ v h. binding-none (wiped l (n * cell_size) (k * cell_size)) (n + v) (new-byte v h))
       ∙ ap (λ (vs : List Binding). vs ++ replicate k Free)
-      (build-cong (bindingAt (wiped l (n * cellSize) (k * cellSize))) (bindingAt l) n (λ v h. binding-cong (wiped l (n * cellSize) (k * cellSize)) l v v (old-byte v h)))
+      (build-cong (binding_at (wiped l (n * cell_size) (k * cell_size))) (binding_at l) n (λ v h. binding-cong (wiped l (n * cell_size) (k * cell_size)) l v v (old-byte v h)))
 
-  known-grow : every (cellKnown l) n ≡ true → every (cellKnown (wiped l (n * cellSize) (k * cellSize))) (n + k) ≡ true
-  known-grow e = every-is (cellKnown (wiped l (n * cellSize) (k * cellSize))) (n + k) (λ v u. split (ltb v n)
-      (λ q. let h : v < n = ltb-true v n q in known-cong (wiped l (n * cellSize) (k * cellSize)) l v v (old-byte v h) ∙ every-at (cellKnown l) n v e h)
+  known-grow : every (cell_known l) n ≡ true → every (cell_known (wiped l (n * cell_size) (k * cell_size))) (n + k) ≡ true
+  known-grow e = every-is (cell_known (wiped l (n * cell_size) (k * cell_size))) (n + k) (λ v u. split (ltb v n)
+      (λ q. let h : v < n = ltb-true v n q in known-cong (wiped l (n * cell_size) (k * cell_size)) l v v (old-byte v h) ∙ every-at (cell_known l) n v e h)
       (λ q. let h : n ≤ v = ltb-false v n q in
       let i : n + (v - n) ≡ v = omega arith in
-      rw i at (known-none (wiped l (n * cellSize) (k * cellSize)) (n + (v - n)) (new-byte (v - n) (omega arith)))))
+      rw i at (known-none (wiped l (n * cell_size) (k * cell_size)) (n + (v - n)) (new-byte (v - n) (omega arith)))))
 
-  pub cells-grow : Cells n l (wiped l (n * cellSize) (k * cellSize)) (varsIn l n ++ replicate k Free)
+  pub cells-grow : Cells n l (wiped l (n * cell_size) (k * cell_size)) (vars_in l n ++ replicate k Free)
   cells-grow =
-      let m : length (varsIn l n ++ replicate k Free) ≡ n + k = length-append (varsIn l n) (replicate k Free) ∙ omega (arith, vars-length l n, length-replicate k Free) in
+      let m : length (vars_in l n ++ replicate k Free) ≡ n + k = length-append (vars_in l n) (replicate k Free) ∙ omega (arith, vars-length l n, length-replicate k Free) in
       record {
-        size = wiped-length l (n * cellSize) (k * cellSize) enough;
+        size = wiped-length l (n * cell_size) (k * cell_size) enough;
         cells = rw m vars-grow;
-        rest = λ j u. wiped-after l (n * cellSize) (k * cellSize) enough j (omega (arith, m));
+        rest = λ j u. wiped-after l (n * cell_size) (k * cell_size) enough j (omega (arith, m));
         known = λ e. rw m (known-grow e);
       }
 
 -- ---- changes in a row
 
 -- nothing written
-pub cells_same : (l : List ℕ) (n : ℕ) → Cells n l l (varsIn l n)
+pub cells_same : (l : List ℕ) (n : ℕ) → Cells n l l (vars_in l n)
 cells_same l n =
-    let k : length (varsIn l n) ≡ n = vars-length l n in
-    record { size = refl; cells = ap (varsIn l) k; rest = λ j u. refl; known = λ e. rw k e }
+    let k : length (vars_in l n) ≡ n = vars-length l n in
+    record { size = refl; cells = ap (vars_in l) k; rest = λ j u. refl; known = λ e. rw k e }
 
 -- one change after another
 pub cells-then : {n : ℕ} {l m k : List ℕ} {us vs : List Binding} → Cells n l m us → Cells (length us) m k vs → length us ≤ length vs → Cells n l k vs
 cells-then a b h = record { size = b.size ∙ a.size; cells = b.cells; rest = λ j u. b.rest j u ∙ a.rest j (omega arith); known = λ e. b.known (a.known e) }
 
 -- the rows of a table, by their number
-pub cells-rows : {n : ℕ} {l m : List ℕ} {vs : List Binding} (k : ℕ) → Cells n l m vs → length vs ≡ k → varsIn m k ≡ vs
+pub cells-rows : {n : ℕ} {l m : List ℕ} {vs : List Binding} (k : ℕ) → Cells n l m vs → length vs ≡ k → vars_in m k ≡ vs
 cells-rows {vs = vs} k t e = rw e at t.cells
 
 -- a row of it
-pub cells_at : {n : ℕ} {l m : List ℕ} {vs : List Binding} (v : ℕ) → Cells n l m vs → v < length vs → bindingAt m v ≡ bindingOf vs v
-cells_at {m = m} {vs = vs} v t h = sym (vars-at m (length vs) v h) ∙ ap (λ (q : List Binding). bindingOf q v) t.cells
+pub cells_at : {n : ℕ} {l m : List ℕ} {vs : List Binding} (v : ℕ) → Cells n l m vs → v < length vs → binding_at m v ≡ binding_of vs v
+cells_at {m = m} {vs = vs} v t h = sym (vars-at m (length vs) v h) ∙ ap (λ (q : List Binding). binding_of q v) t.cells

@@ -1,8 +1,8 @@
 // The variable table: a lent row of bytes, one cell of them a variable, read and written a binding at a time.
 ghost use Rattle.std.specs.Prelude.{◌≡◌, ◌++◌, ◌+◌, ◌*◌, ◌/◌, ◌%◌, ◌≤◌, ◌<◌, length, replicate, set};
-ghost use Rattle.parlog.specs.Tables.{bindingAt, bindingBy, bindingBytes, bindingOf, cellSize, numberCode, sortCode, varsIn};
+ghost use Rattle.parlog.specs.Tables.{binding_at, binding_by, binding_bytes, binding_of, cell_size, number_code, sort_code, vars_in};
 ghost use Rattle.parlog.specs.declared.Binding.TheVariants.{Bound, Free};
-ghost use Rattle.vars.specs.Cells.{Cells, putCell};
+ghost use Rattle.vars.specs.Cells.{Cells, put_cell};
 
 use parlog::{Binding, Term, codes};
 
@@ -35,7 +35,7 @@ pub fn join(a: u8, b: u8, c: u8) -> u32
 }
 
 fn sort_of(t: Term) -> u8
-    ensures { result ≡ sortCode (Bound t) }
+    ensures { result ≡ sort_code (Bound t) }
 {
     match t {
         Term::Const(_) => codes::CONSTANT,
@@ -44,7 +44,7 @@ fn sort_of(t: Term) -> u8
 }
 
 fn number_of(t: Term) -> u32
-    ensures { result ≡ numberCode (Bound t) }
+    ensures { result ≡ number_code (Bound t) }
 {
     match t {
         Term::Const(c) => c,
@@ -53,7 +53,7 @@ fn number_of(t: Term) -> u32
 }
 
 fn binding_by(sort: u8, number: u32) -> Binding
-    ensures { result ≡ bindingBy sort number }
+    ensures { result ≡ binding_by sort number }
 {
     if sort == codes::UNBOUND {
         return Binding::Free;
@@ -65,8 +65,8 @@ fn binding_by(sort: u8, number: u32) -> Binding
 }
 
 fn get_binding(vars: &[u8], v: usize) -> Binding
-    requires { v * cellSize + cellSize ≤ length vars.now }
-    ensures { result ≡ bindingAt vars.now v }
+    requires { v * cell_size + cell_size ≤ length vars.now }
+    ensures { result ≡ binding_at vars.now v }
 {
     let b = v * codes::CELL_SIZE;
     let sort = vars[b];
@@ -76,8 +76,8 @@ fn get_binding(vars: &[u8], v: usize) -> Binding
 
 // Row v becomes that of a variable bound to t.
 pub fn put_bound(vars: &mut [u8], v: usize, t: Term)
-    requires { (v * cellSize + cellSize ≤ length vars.old) × (numberCode (Bound t) < 16777216) }
-    ensures { vars.new ≡ putCell vars.old v (bindingBytes (Bound t)) }
+    requires { (v * cell_size + cell_size ≤ length vars.old) × (number_code (Bound t) < 16777216) }
+    ensures { vars.new ≡ put_cell vars.old v (binding_bytes (Bound t)) }
 {
     let b = v * codes::CELL_SIZE;
     let number = number_of(t);
@@ -89,8 +89,8 @@ pub fn put_bound(vars: &mut [u8], v: usize, t: Term)
 
 // The binding of variable v of the first n; past them, unbound.
 pub fn get(vars: &[u8], n: usize, v: usize) -> Binding
-    requires { n * cellSize ≤ length vars.now }
-    ensures { result ≡ bindingOf (varsIn vars.now n) v }
+    requires { n * cell_size ≤ length vars.now }
+    ensures { result ≡ binding_of (vars_in vars.now n) v }
 {
     if v < n {
         return get_binding(vars, v);
@@ -100,16 +100,16 @@ pub fn get(vars: &[u8], n: usize, v: usize) -> Binding
 
 // Variable v of the first n becomes bound to t.
 pub fn bind(vars: &mut [u8], n: usize, v: usize, t: Term)
-    requires { (n * cellSize ≤ length vars.old) × (v < n) × (numberCode (Bound t) < 16777216) }
-    ensures { Cells n vars.old vars.new (set (varsIn vars.old n) v (Bound t)) }
+    requires { (n * cell_size ≤ length vars.old) × (v < n) × (number_code (Bound t) < 16777216) }
+    ensures { Cells n vars.old vars.new (set (vars_in vars.old n) v (Bound t)) }
 {
     put_bound(vars, v, t);
 }
 
 // After the first n come k variables more, unbound.
 pub fn grow(vars: &mut [u8], n: usize, k: usize)
-    requires { n * cellSize + k * cellSize ≤ length vars.old }
-    ensures { Cells n vars.old vars.new (varsIn vars.old n ++ replicate k Free) }
+    requires { n * cell_size + k * cell_size ≤ length vars.old }
+    ensures { Cells n vars.old vars.new (vars_in vars.old n ++ replicate k Free) }
 {
     rows::wipe(vars, n * codes::CELL_SIZE, k * codes::CELL_SIZE);
 }

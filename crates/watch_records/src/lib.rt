@@ -1,12 +1,12 @@
 // The watch call of operators: a lent row of process records, scanned by one thin function over a covered test on one record.
 ghost use Rattle.std.specs.Prelude.{◌≡◌};
-ghost use Rattle.parlog.specs.Run.{watchOf};
+ghost use Rattle.parlog.specs.Run.{watch_of};
 
 use parlog::{Found, Process};
 
 // The lowest number of a process that is suspended, or none; any row will do.
 pub fn watch(rows: &[Process]) -> Found
-    ensures { result ≡ watchOf rows.now }
+    ensures { result ≡ watch_of rows.now }
 {
     let mut i = 0;
     while i < rows.len() {

@@ -9,19 +9,19 @@ use borrow.Author.Tests.{ltb-false, ltb-true}
 use native.Mathlib.Omega.{arith}
 use Rattle.parlog.proofs.Bools.{never, not_so, split}
 use Rattle.parlog.proofs.Scans.{below_suc, lowest-at, lowest-is, lowest-none, lowest-nothing}
-use Rattle.parlog.specs.Codes.{isMode, suspended}
-use Rattle.parlog.specs.Run.{watchOf}
+use Rattle.parlog.specs.Codes.{is_mode, suspended}
+use Rattle.parlog.specs.Run.{watch_of}
 use Rattle.parlog.specs.Tables.{at}
 use Rattle.parlog.specs.declared.Found.TheVariants.{At, Nothing}
 use Rattle.parlog.specs.declared.Process.{Process}
 
 -- process i is suspended
-abbrev pub suspendedAt : List Process → ℕ → Bool
-suspendedAt ps i = isMode suspended (at ps i).mode
+abbrev pub suspended_at : List Process → ℕ → Bool
+suspended_at ps i = is_mode suspended (at ps i).mode
 
 -- none below q is
 abbrev pub Quiet : List Process → ℕ → Type 0
-Quiet ps q = (i : ℕ) → i < q → suspendedAt ps i ≡ false
+Quiet ps q = (i : ℕ) → i < q → suspended_at ps i ≡ false
 
 pub quiet-start : (ps : List Process) → Quiet ps 0
 quiet-start ps i h = absurd (omega arith)
@@ -31,41 +31,41 @@ quiet-start ps i h = absurd (omega arith)
 -- the lowest number of a suspended process
 pub record First (ps : List Process) (i : ℕ) : Type 0 where
   pub there : i < length ps
-  pub suspends : suspendedAt ps i ≡ true
+  pub suspends : suspended_at ps i ≡ true
   pub quiet : Quiet ps i
 
 module _ (ps : List Process) where
-  pub watch-at : (i : ℕ) → watchOf ps ≡ At i → First ps i
-  unfolding watchOf
+  pub watch-at : (i : ℕ) → watch_of ps ≡ At i → First ps i
+  unfolding watch_of
   watch-at i e =
-      let r = lowest-at (suspendedAt ps) (length ps) i e in
-      record { there = r.there; suspends = r.passes; quiet = λ j h. not_so (suspendedAt ps j) (λ p. absurd (let l = r.least j (omega (arith, r.there)) p in omega arith)) }
+      let r = lowest-at (suspended_at ps) (length ps) i e in
+      record { there = r.there; suspends = r.passes; quiet = λ j h. not_so (suspended_at ps j) (λ p. absurd (let l = r.least j (omega (arith, r.there)) p in omega arith)) }
 
-  pub watch-none : watchOf ps ≡ Nothing → Quiet ps (length ps)
-  unfolding watchOf
-  watch-none e i h = lowest-none (suspendedAt ps) (length ps) i e h
+  pub watch-none : watch_of ps ≡ Nothing → Quiet ps (length ps)
+  unfolding watch_of
+  watch-none e i h = lowest-none (suspended_at ps) (length ps) i e h
 
   -- ---- and what makes it
 
-  pub watch-first : (i : ℕ) → First ps i → watchOf ps ≡ At i
-  unfolding watchOf
-  watch-first i f = lowest-is (suspendedAt ps) (length ps) i (record { there = f.there; passes = f.suspends; least = least })
+  pub watch-first : (i : ℕ) → First ps i → watch_of ps ≡ At i
+  unfolding watch_of
+  watch-first i f = lowest-is (suspended_at ps) (length ps) i (record { there = f.there; passes = f.suspends; least = least })
     where
-      least : (j : ℕ) → j < length ps → suspendedAt ps j ≡ true → i ≤ j
+      least : (j : ℕ) → j < length ps → suspended_at ps j ≡ true → i ≤ j
       least j h p = split (ltb j i) (λ z. never (sym (f.quiet j (ltb-true j i z)) ∙ p)) (λ z. ltb-false j i z)
 
-  pub watch-quiet : Quiet ps (length ps) → watchOf ps ≡ Nothing
-  unfolding watchOf
-  watch-quiet q = lowest-nothing (suspendedAt ps) (length ps) q
+  pub watch-quiet : Quiet ps (length ps) → watch_of ps ≡ Nothing
+  unfolding watch_of
+  watch-quiet q = lowest-nothing (suspended_at ps) (length ps) q
 
 -- ---- a turn of a scan that has come to q; b is what the test says of process q
 
 module _ (ps : List Process) (q : ℕ) (so : Quiet ps q) where
-  pub watch-end : length ps ≤ q → watchOf ps ≡ Nothing
+  pub watch-end : length ps ≤ q → watch_of ps ≡ Nothing
   watch-end h = watch-quiet ps (λ i u. so i (omega arith))
 
-  module _ {b : Bool} (e : b ≡ suspendedAt ps q) where
-    pub watch-hit : q < length ps → b ≡ true → watchOf ps ≡ At q
+  module _ {b : Bool} (e : b ≡ suspended_at ps q) where
+    pub watch-hit : q < length ps → b ≡ true → watch_of ps ≡ At q
     watch-hit h y = watch-first ps q (record { there = h; suspends = sym e ∙ y; quiet = so })
 
     pub quiet_next : b ≡ false → Quiet ps (q + 1)

@@ -1,21 +1,21 @@
 // The watch over process rows: the test on one record, and the scan of a lent row of bytes.
 ghost use Rattle.std.specs.Prelude.{◌≡◌, ◌/◌, length};
-ghost use Rattle.parlog.specs.Codes.{isMode, suspended};
-ghost use Rattle.parlog.specs.Run.{watchOf};
-ghost use Rattle.parlog.specs.Tables.{procsOf, rowSize};
+ghost use Rattle.parlog.specs.Codes.{is_mode, suspended};
+ghost use Rattle.parlog.specs.Run.{watch_of};
+ghost use Rattle.parlog.specs.Tables.{procs_of, row_size};
 
 use parlog::{Found, Process, codes};
 
 // A process is suspended.
 pub fn is_suspended(x: Process) -> bool
-    ensures { result ≡ isMode suspended x.mode }
+    ensures { result ≡ is_mode suspended x.mode }
 {
     x.mode == codes::SUSPENDED
 }
 
 // The lowest number of a row whose process is suspended; a rest of fewer bytes than a row has is no row.
 pub fn watch_rows(procs: &[u8]) -> Found
-    ensures { result ≡ watchOf (procsOf procs.now (length procs.now / rowSize)) }
+    ensures { result ≡ watch_of (procs_of procs.now (length procs.now / row_size)) }
 {
     let n = procs.len() / codes::ROW_SIZE;
     let mut q = 0;

@@ -3,7 +3,7 @@ use mathlib.Core.Path.{◌≡◌, refl}
 use Prim.Native.Nat.{◌<◌, ◌≤◌, ℕ}
 use borrow.Author.Tests.{le-ltb, lt-ltb}
 use native.Mathlib.Omega.{arith}
-use Rattle.parlog.specs.Numbers.{endNumber, Numbers, ruleNumber, runNumbers, stepNumbers, touched, variable, watchNumbers, word}
+use Rattle.parlog.specs.Numbers.{end_number, Numbers, rule_number, run_numbers, step_numbers, touched, variable, watch_numbers, word}
 use Rattle.parlog.specs.declared.End.{End}
 use Rattle.parlog.specs.declared.Found.{Found}
 use Rattle.parlog.specs.declared.Found.TheVariants.{At}
@@ -27,28 +27,28 @@ module _ {A : Type 0} {a x : A} (e : a ≡ x) where
 -- ---- a move
 
 -- a process is told
-pub told-process : {m x : Move} → m ≡ x → (touched x).number ≤ 4294967295 → ToldSays m (ruleNumber x) (touched x).sort (touched x).number
-told-process e h = record { rule-is = rw e; sort-is = rw e; number_is = rw e; fits = h }
+pub told-process : {m x : Move} → m ≡ x → (touched x).number ≤ 4294967295 → ToldSays m (rule_number x) (touched x).sort (touched x).number
+told-process e h = record { rule_is = rw e; sort_is = rw e; number_is = rw e; fits = h }
 
 variable-sort : (t : Term) → 1 ≡ (variable t).sort
 variable-sort (Const c) = refl
 variable-sort (Var v) = refl
 
 -- a variable is told
-pub told-variable : (f : Term → Move) {m : Move} {t : Term} {n : ℕ} → m ≡ f t → touched (f t) ≡ variable t → (n ≡ (variable t).number) × (n ≤ 4294967295) → ToldSays m (ruleNumber (f t)) 1 n
-told-variable f {t = t} e q h = record { rule-is = rw e; sort-is = rw (e, q) (variable-sort t); number_is = rw (e, q) h.0; fits = h.1 }
+pub told-variable : (f : Term → Move) {m : Move} {t : Term} {n : ℕ} → m ≡ f t → touched (f t) ≡ variable t → (n ≡ (variable t).number) × (n ≤ 4294967295) → ToldSays m (rule_number (f t)) 1 n
+told-variable f {t = t} e q h = record { rule_is = rw e; sort_is = rw (e, q) (variable-sort t); number_is = rw (e, q) h.0; fits = h.1 }
 
-pub move-told : {m : Move} {r s n w : ℕ} → ToldSays m r s n → w ≡ word (record { refused = 0; a = r; b = s; c = n }) → w ≡ word (stepNumbers (Moved m))
-move-told t h = rw (h, t.rule-is, t.sort-is, t.number_is)
+pub move-told : {m : Move} {r s n w : ℕ} → ToldSays m r s n → w ≡ word (record { refused = 0; a = r; b = s; c = n }) → w ≡ word (step_numbers (Moved m))
+move-told t h = rw (h, t.rule_is, t.sort_is, t.number_is)
 
 -- ---- a run and a watch
 
-pub run-ended : {a : Ran} {e : End} {n k w : ℕ} → a ≡ Ended e n → k ≡ endNumber e → w ≡ word (record { refused = 0; a = k; b = 0; c = n }) → w ≡ word (runNumbers a)
+pub run-ended : {a : Ran} {e : End} {n k w : ℕ} → a ≡ Ended e n → k ≡ end_number e → w ≡ word (record { refused = 0; a = k; b = 0; c = n }) → w ≡ word (run_numbers a)
 run-ended q k h = rw (h, k, q)
 
 module _ {a : Found} {i w : ℕ} (e : a ≡ At i) where
-  pub watch-beyond : 4294967295 < i → w ≡ word (record { refused = 0; a = 0; b = 0; c = 0 }) → w ≡ word (watchNumbers (reached a))
+  pub watch-beyond : 4294967295 < i → w ≡ word (record { refused = 0; a = 0; b = 0; c = 0 }) → w ≡ word (watch_numbers (reached a))
   watch-beyond h k = rw (e, le-ltb i 4294967296 (omega arith)) k
 
-  pub watch-at : i ≤ 4294967295 → w ≡ word (record { refused = 0; a = 1; b = 0; c = i }) → w ≡ word (watchNumbers (reached a))
+  pub watch-at : i ≤ 4294967295 → w ≡ word (record { refused = 0; a = 1; b = 0; c = i }) → w ≡ word (watch_numbers (reached a))
   watch-at h k = rw (e, lt-ltb i 4294967296 (omega arith)) k

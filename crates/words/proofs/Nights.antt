@@ -7,31 +7,31 @@ use lib.Dec.{ltb}
 use lib.ListN.{length}
 use borrow.Author.Tests.{le-ltb, lt-ltb}
 use native.Mathlib.Omega.{arith}
-use Rattle.parlog.specs.Calls.{enter, entered, Entry, turned-away}
+use Rattle.parlog.specs.Calls.{enter, entered, Entry, turned_away}
 use Rattle.parlog.specs.Limits.{Limits}
 use Rattle.parlog.specs.Load.{load_of}
-use Rattle.parlog.specs.Numbers.{refusedAs, word}
+use Rattle.parlog.specs.Numbers.{refused_as, word}
 use Rattle.parlog.specs.Tables.{Lent}
 use Rattle.parlog.specs.declared.Loaded.TheVariants.{Refused}
 use Rattle.parlog.specs.declared.Refusal.{Refusal}
-use Rattle.resume.specs.Calls.{saveBy, saveCall, saveEntry}
+use Rattle.resume.specs.Calls.{save_by, save_call, save_entry}
 use Rattle.resume.specs.Says.{StoredFew}
 use Rattle.resume.specs.declared.Resumed.TheVariants.{Unresumed}
 use Rattle.resume.specs.declared.Saved.{Saved}
 use Rattle.resume.specs.declared.Saved.TheVariants.{Stored, Unsaved}
-use Rattle.saved.specs.Form.{savedBytes}
+use Rattle.saved.specs.Form.{saved_bytes}
 use Rattle.words.proofs.Fitting.{enter-within, EntryWithin, load_fits}
 use Rattle.words.specs.Fits.{RefusalFits}
-use Rattle.words.specs.Nights.{resumeNumbers, SaveFits, toldOffset, toldRefusal}
+use Rattle.words.specs.Nights.{resume_numbers, SaveFits, told_offset, told_refusal}
 
 -- a number over 32 bits, and one that fits
-pub told_over : (n : ℕ) → 4294967295 < n → 4294967295 ≡ toldOffset n
+pub told_over : (n : ℕ) → 4294967295 < n → 4294967295 ≡ told_offset n
 told_over n h = rw (lt-ltb 4294967295 n h)
 
-pub told-all : (n : ℕ) → n ≤ 4294967295 → n ≡ toldOffset n
+pub told-all : (n : ℕ) → n ≤ 4294967295 → n ≡ told_offset n
 told-all n h = rw (le-ltb 4294967295 n h)
 
-pub told-near : (r : Refusal) → r.offset ≤ 4294967295 → r ≡ toldRefusal r
+pub told-near : (r : Refusal) → r.offset ≤ 4294967295 → r ≡ told_refusal r
 told-near r h = rw (le-ltb 4294967295 r.offset h)
 
 -- the refusals of a save
@@ -39,20 +39,20 @@ abbrev RefusedFits : Saved → Type 0
 RefusedFits (Stored n) = Unit {0}
 RefusedFits (Unsaved r) = RefusalFits r
 
-save-within : (lim : Limits) (s : List ℕ) (l : Lent) (row : List ℕ) → RefusedFits (saveCall lim s l row).answer
-unfolding saveCall
+save-within : (lim : Limits) (s : List ℕ) (l : Lent) (row : List ℕ) → RefusedFits (save_call lim s l row).answer
+unfolding save_call
 save-within lim s l row = by (enter lim s l) (enter-within lim s l)
   where
-    roomy : (b : Bool) (bytes : List ℕ) → RefusedFits (saveBy b bytes row).answer
+    roomy : (b : Bool) (bytes : List ℕ) → RefusedFits (save_by b bytes row).answer
     roomy true bytes = omega arith
     roomy false bytes = tt
 
-    by : (e : Entry) → EntryWithin lim e → RefusedFits (saveEntry e s l row).answer
-    by (turned-away r) h = h
-    by (entered pr t) h = roomy (ltb (length row) (length (savedBytes l (length s)))) (savedBytes l (length s))
+    by : (e : Entry) → EntryWithin lim e → RefusedFits (save_entry e s l row).answer
+    by (turned_away r) h = h
+    by (entered pr t) h = roomy (ltb (length row) (length (saved_bytes l (length s)))) (saved_bytes l (length s))
 
 -- the size too
-pub save-fits : (lim : Limits) (s : List ℕ) (l : Lent) (row : List ℕ) (a : Saved) → a ≡ (saveCall lim s l row).answer → StoredFew a → SaveFits a
+pub save-fits : (lim : Limits) (s : List ℕ) (l : Lent) (row : List ℕ) (a : Saved) → a ≡ (save_call lim s l row).answer → StoredFew a → SaveFits a
 save-fits lim s l row (Stored n) e f = f
 save-fits lim s l row (Unsaved r) e f = rw (← e) at (save-within lim s l row)
 
@@ -61,5 +61,5 @@ pub image-near : (s : List ℕ) {f : Refusal} → load_of s ≡ Refused f → f.
 image-near s e = rw e at (load_fits s)
 
 -- a refusal told in place of another
-pub resume-told : (r : Refusal) {t : Refusal} {w : ℕ} → t ≡ toldRefusal r → w ≡ word (refusedAs t) → w ≡ word (resumeNumbers (Unresumed r))
-resume-told r e k = k ∙ ap (λ (x : Refusal). word (refusedAs x)) e
+pub resume-told : (r : Refusal) {t : Refusal} {w : ℕ} → t ≡ told_refusal r → w ≡ word (refused_as t) → w ≡ word (resume_numbers (Unresumed r))
+resume-told r e k = k ∙ ap (λ (x : Refusal). word (refused_as x)) e

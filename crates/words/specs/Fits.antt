@@ -1,6 +1,6 @@
 -- The answers whose numbers fit into a word: an offset, a process and a count of moves have 32 bits there.
 use Rattle.std.specs.Prelude.{◌≡◌, cond, ◌≤◌, suc, zero, ℕ, ltb}
-use Rattle.parlog.specs.Numbers.{ruleNumber, touched}
+use Rattle.parlog.specs.Numbers.{rule_number, touched}
 use Rattle.parlog.specs.declared.Found.{Found}
 use Rattle.parlog.specs.declared.Found.TheVariants.{At, Nothing}
 use Rattle.parlog.specs.declared.Move.{Move}
@@ -68,7 +68,7 @@ reached Nothing = Nothing
 
 -- the rule of a move, the sort of what it touched, and its number
 pub record ToldSays (m : Move) (rule sort number : ℕ) : Type 0 where
-  pub rule-is : rule ≡ ruleNumber m
-  pub sort-is : sort ≡ (touched m).sort
+  pub rule_is : rule ≡ rule_number m
+  pub sort_is : sort ≡ (touched m).sort
   pub number_is : number ≡ (touched m).number
   pub fits : number ≤ 4294967295

@@ -1,7 +1,7 @@
 -- The numbers of a save and a resume, and what of them can be told.
 use Rattle.std.specs.Prelude.{cond, ◌≤◌, ℕ, ltb}
 use Rattle.parlog.specs.Load.{refusal}
-use Rattle.parlog.specs.Numbers.{Numbers, refusedAs}
+use Rattle.parlog.specs.Numbers.{Numbers, refused_as}
 use Rattle.parlog.specs.declared.Refusal.{Refusal}
 use Rattle.resume.specs.declared.Resumed.{Resumed}
 use Rattle.resume.specs.declared.Resumed.TheVariants.{Restored, Unresumed}
@@ -10,22 +10,22 @@ use Rattle.resume.specs.declared.Saved.TheVariants.{Stored, Unsaved}
 use Rattle.words.specs.Fits.{RefusalFits}
 
 -- Saved 12: an offset over 32 bits is told as the largest number
-abbrev pub toldOffset : ℕ → ℕ
-toldOffset o = cond (ltb 4294967295 o) 4294967295 o
+abbrev pub told_offset : ℕ → ℕ
+told_offset o = cond (ltb 4294967295 o) 4294967295 o
 
 -- Saved 12: a refusal as it is told
-abbrev pub toldRefusal : Refusal → Refusal
-toldRefusal r = refusal r.number (toldOffset r.offset)
+abbrev pub told_refusal : Refusal → Refusal
+told_refusal r = refusal r.number (told_offset r.offset)
 
 -- Saved 4: of a save: how many bytes the saved run has
-abbrev pub saveNumbers : Saved → Numbers
-saveNumbers (Stored n) = record { refused = 0; a = 0; b = 0; c = n }
-saveNumbers (Unsaved r) = refusedAs r
+abbrev pub save_numbers : Saved → Numbers
+save_numbers (Stored n) = record { refused = 0; a = 0; b = 0; c = n }
+save_numbers (Unsaved r) = refused_as r
 
 -- Saved 10: of a resume: nothing to tell
-abbrev pub resumeNumbers : Resumed → Numbers
-resumeNumbers Restored = record { refused = 0; a = 0; b = 0; c = 0 }
-resumeNumbers (Unresumed r) = refusedAs (toldRefusal r)
+abbrev pub resume_numbers : Resumed → Numbers
+resume_numbers Restored = record { refused = 0; a = 0; b = 0; c = 0 }
+resume_numbers (Unresumed r) = refused_as (told_refusal r)
 
 -- a save whose numbers fit into a word
 abbrev pub SaveFits : Saved → Type 0

@@ -1,10 +1,10 @@
 // Each answer of a call as the one word that C is given.
 ghost use Rattle.std.specs.Prelude.{◌≡◌, ◌≤◌};
-ghost use Rattle.parlog.specs.Numbers.{endNumber, refusedAs, ruleNumber, runNumbers, startNumbers, stepNumbers, supplyNumbers, termNumbers, valueNumbers, variable, watchNumbers, word};
+ghost use Rattle.parlog.specs.Numbers.{end_number, refused_as, rule_number, run_numbers, start_numbers, step_numbers, supply_numbers, term_numbers, value_numbers, variable, watch_numbers, word};
 ghost use Rattle.parlog.specs.declared.Stepped.TheVariants.{Moved};
 ghost use Rattle.words.specs.Fits.{MoveWithin, reached, RefusalFits, RunFits, StartFits, StepFits, SupplyFits, ToldSays, ValueFits, ValuesFits};
-ghost use Rattle.values.specs.Values.{valuesNumbers};
-ghost use Rattle.words.specs.Nights.{resumeNumbers, SaveFits, saveNumbers, toldOffset, toldRefusal};
+ghost use Rattle.values.specs.Values.{values_numbers};
+ghost use Rattle.words.specs.Nights.{resume_numbers, SaveFits, save_numbers, told_offset, told_refusal};
 
 use parlog::{End, Found, Move, Ran, Refusal, Started, Stepped, Supplied, Term, Valued, codes};
 use resume::{Resumed, Saved};
@@ -44,7 +44,7 @@ pub fn word(refused: usize, a: usize, b: usize, c: usize) -> u64
 // A refusal as one word.
 pub fn refused(r: Refusal) -> u64
     requires { RefusalFits r }
-    ensures { result ≡ word (refusedAs r) }
+    ensures { result ≡ word (refused_as r) }
 {
     word(r.number as usize, 0, 0, r.offset)
 }
@@ -52,7 +52,7 @@ pub fn refused(r: Refusal) -> u64
 // Of a start: nothing to tell.
 pub fn start_word(a: Started) -> u64
     requires { StartFits a }
-    ensures { result ≡ word (startNumbers a) }
+    ensures { result ≡ word (start_numbers a) }
 {
     match a {
         Started::Begun => word(ACCEPTED, 0, 0, 0),
@@ -121,7 +121,7 @@ fn tell(m: Move) -> Told
 // The number of the rule that a move is.
 pub fn rule_number(m: Move) -> usize
     requires { MoveWithin 4294967295 m }
-    ensures { (result ≡ ruleNumber m) × (result ≤ 255) }
+    ensures { (result ≡ rule_number m) × (result ≤ 255) }
 {
     let t = tell(m);
     t.0 as usize
@@ -130,7 +130,7 @@ pub fn rule_number(m: Move) -> usize
 // A move as one word.
 fn move_word(m: Move) -> u64
     requires { MoveWithin 4294967295 m }
-    ensures { result ≡ word (stepNumbers (Moved m)) }
+    ensures { result ≡ word (step_numbers (Moved m)) }
 {
     let t = tell(m);
     word(ACCEPTED, t.0 as usize, t.1 as usize, t.2)
@@ -139,7 +139,7 @@ fn move_word(m: Move) -> u64
 // Of a step or a turn: the rule, and what it touched.
 pub fn step_word(a: Stepped) -> u64
     requires { StepFits a }
-    ensures { result ≡ word (stepNumbers a) }
+    ensures { result ≡ word (step_numbers a) }
 {
     match a {
         Stepped::Moved(m) => move_word(m),
@@ -151,7 +151,7 @@ pub fn step_word(a: Stepped) -> u64
 
 // The number of an end.
 fn end_number(e: End) -> u8
-    ensures { result ≡ endNumber e }
+    ensures { result ≡ end_number e }
 {
     match e {
         End::Success => 1,
@@ -165,7 +165,7 @@ fn end_number(e: End) -> u8
 // Of a run: its end, and the moves made.
 pub fn run_word(a: Ran) -> u64
     requires { RunFits a }
-    ensures { result ≡ word (runNumbers a) }
+    ensures { result ≡ word (run_numbers a) }
 {
     match a {
         Ran::Ended(e, n) => word(ACCEPTED, end_number(e) as usize, 0, n),
@@ -176,7 +176,7 @@ pub fn run_word(a: Ran) -> u64
 // Of a supply: nothing to tell.
 pub fn supply_word(a: Supplied) -> u64
     requires { SupplyFits a }
-    ensures { result ≡ word (supplyNumbers a) }
+    ensures { result ≡ word (supply_numbers a) }
 {
     match a {
         Supplied::Given(_) => word(ACCEPTED, 0, 0, 0),
@@ -186,7 +186,7 @@ pub fn supply_word(a: Supplied) -> u64
 
 // A term as one word: its sort and its number.
 fn term_word(t: Term) -> u64
-    ensures { result ≡ word (termNumbers t) }
+    ensures { result ≡ word (term_numbers t) }
 {
     match t {
         Term::Const(c) => word(ACCEPTED, CONSTANT_VALUE, 0, c as usize),
@@ -197,7 +197,7 @@ fn term_word(t: Term) -> u64
 // Of a look: what was seen.
 pub fn value_word(a: Valued) -> u64
     requires { ValueFits a }
-    ensures { result ≡ word (valueNumbers a) }
+    ensures { result ≡ word (value_numbers a) }
 {
     match a {
         Valued::Value(t) => term_word(t),
@@ -208,7 +208,7 @@ pub fn value_word(a: Valued) -> u64
 // Of a look at all goal variables: how many they are.
 pub fn values_word(a: Gathered) -> u64
     requires { ValuesFits a }
-    ensures { result ≡ word (valuesNumbers a) }
+    ensures { result ≡ word (values_numbers a) }
 {
     match a {
         Gathered::Values(n) => word(ACCEPTED, 0, 0, n),
@@ -218,7 +218,7 @@ pub fn values_word(a: Gathered) -> u64
 
 // Of a watch: 1 and the number, where there is one that can be told.
 pub fn watch_word(a: Found) -> u64
-    ensures { result ≡ word (watchNumbers (reached a)) }
+    ensures { result ≡ word (watch_numbers (reached a)) }
 {
     let Found::At(i) = a else {
         return word(ACCEPTED, 0, 0, 0);
@@ -233,7 +233,7 @@ pub fn watch_word(a: Found) -> u64
 
 // A number as it can be told: one over 32 bits becomes the largest.
 pub fn told_number(n: usize) -> usize
-    ensures { (result ≡ toldOffset n) × (result ≤ 4294967295) }
+    ensures { (result ≡ told_offset n) × (result ≤ 4294967295) }
 {
     if MOST_NUMBER < n {
         return MOST_NUMBER;
@@ -243,7 +243,7 @@ pub fn told_number(n: usize) -> usize
 
 // A refusal as it can be told, its offset so.
 pub fn told_refusal(r: Refusal) -> Refusal
-    ensures { (result ≡ toldRefusal r) × (result.offset ≤ 4294967295) }
+    ensures { (result ≡ told_refusal r) × (result.offset ≤ 4294967295) }
 {
     Refusal {
         number: r.number,
@@ -254,7 +254,7 @@ pub fn told_refusal(r: Refusal) -> Refusal
 // Of a save: how many bytes the saved run has.
 pub fn save_word(a: Saved) -> u64
     requires { SaveFits a }
-    ensures { result ≡ word (saveNumbers a) }
+    ensures { result ≡ word (save_numbers a) }
 {
     match a {
         Saved::Stored(n) => word(ACCEPTED, 0, 0, n),
@@ -264,7 +264,7 @@ pub fn save_word(a: Saved) -> u64
 
 // Of a resume: nothing to tell.
 pub fn resume_word(a: Resumed) -> u64
-    ensures { result ≡ word (resumeNumbers a) }
+    ensures { result ≡ word (resume_numbers a) }
 {
     match a {
         Resumed::Restored => word(ACCEPTED, 0, 0, 0),

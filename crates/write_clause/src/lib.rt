@@ -2,11 +2,11 @@
 ghost use Rattle.std.specs.Prelude.{◌&&◌, true, ◌≡◌, ◌+◌, ◌≤◌};
 ghost use Rattle.entry_table.specs.Entered.{Entered};
 ghost use Rattle.lay_text.specs.Laying.{Writes};
-ghost use Rattle.parlog.specs.Image.{goalEnd, recordEnd};
-ghost use Rattle.parlog.specs.Program.{clauseOf, goalOf};
+ghost use Rattle.parlog.specs.Image.{goal_end, record_end};
+ghost use Rattle.parlog.specs.Program.{clause_of, goal_of};
 ghost use Rattle.parlog.specs.Scan.{list_of};
 ghost use Rattle.text_program.specs.Parsing.{all_of};
-ghost use Rattle.text_program.specs.Printing.{clauseNamed, clausesText, clauseText, endMark, goalNamed, halvesText, nextMark};
+ghost use Rattle.text_program.specs.Printing.{clause_named, clauses_text, clause_text, end_mark, goal_named, halves_text, next_mark};
 
 use entry_table::Noted;
 use lay_text::To;
@@ -24,7 +24,7 @@ fn halves(
     at: usize,
 ) -> To
     requires { (r ≤ 255) × (at ≤ 67108864) × Entered names.now table.now e.every e.count }
-    ensures { Writes out.old w (halvesText r names.now (goalOf s.now at) (goalOf s.now (goalEnd s.now at))) (goalNamed r names.now (goalOf s.now at) && goalNamed r names.now (goalOf s.now (goalEnd s.now at))) out.new result }
+    ensures { Writes out.old w (halves_text r names.now (goal_of s.now at) (goal_of s.now (goal_end s.now at))) (goal_named r names.now (goal_of s.now at) && goal_named r names.now (goal_of s.now (goal_end s.now at))) out.new result }
 {
     let body = place::goal_end(s, at);
     if place::byte_at(s, at) == 0 {
@@ -42,7 +42,7 @@ fn halves(
 
 // The end of a clause, by the next one's mark.
 fn clause_end(out: &mut [u8], w: To, mark: usize) -> To
-    ensures { Writes out.old w (endMark mark) true out.new result }
+    ensures { Writes out.old w (end_mark mark) true out.new result }
 {
     if mark == 1 {
         return lay_text::word(out, w, b";\n");
@@ -63,7 +63,7 @@ fn clause(
     mark: usize,
 ) -> To
     requires { (r ≤ 255) × (at ≤ 33554432) × Entered names.now table.now e.every e.count }
-    ensures { Writes out.old w (clauseText r names.now (clauseOf s.now at) mark) (clauseNamed r names.now (clauseOf s.now at)) out.new result }
+    ensures { Writes out.old w (clause_text r names.now (clause_of s.now at) mark) (clause_named r names.now (clause_of s.now at)) out.new result }
 {
     let rel = place::byte_at(s, at + codes::CLAUSE_RELATION);
     let n = place::byte_at(s, at + codes::CLAUSE_ARITY);
@@ -85,7 +85,7 @@ fn clause(
 // The mark of the clause at a place, of which so many are left; 0 where none is.
 fn next_mark(s: &[u8], at: usize, left: usize) -> usize
     requires { at ≤ 33554432 }
-    ensures { result ≡ nextMark (list_of (clauseOf s.now) (recordEnd s.now) left at) }
+    ensures { result ≡ next_mark (list_of (clause_of s.now) (record_end s.now) left at) }
 {
     if left == 0 {
         return 0;
@@ -106,7 +106,7 @@ pub fn clauses(
     n: usize,
 ) -> To
     requires { (r ≤ 255) × (from ≤ 4194304) × (n ≤ 255) × Entered names.now table.now e.every e.count }
-    ensures { Writes out.old w (clausesText r names.now (list_of (clauseOf s.now) (recordEnd s.now) n from)) (all_of (clauseNamed r names.now) (list_of (clauseOf s.now) (recordEnd s.now) n from)) out.new result }
+    ensures { Writes out.old w (clauses_text r names.now (list_of (clause_of s.now) (record_end s.now) n from)) (all_of (clause_named r names.now) (list_of (clause_of s.now) (record_end s.now) n from)) out.new result }
 {
     let mut to = w;
     let mut at = from;

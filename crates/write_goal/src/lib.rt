@@ -2,11 +2,11 @@
 ghost use Rattle.std.specs.Prelude.{true, ◌≡◌, ◌%◌, ◌+◌, ◌≤◌};
 ghost use Rattle.entry_table.specs.Entered.{Entered};
 ghost use Rattle.lay_text.specs.Laying.{Writes};
-ghost use Rattle.parlog.specs.Image.{termAt};
-ghost use Rattle.parlog.specs.Program.{goalOf, literalOf, stageOf};
+ghost use Rattle.parlog.specs.Image.{term_at};
+ghost use Rattle.parlog.specs.Program.{goal_of, literal_of, stage_of};
 ghost use Rattle.text_program.specs.Parsing.{all_of};
-ghost use Rattle.text_program.specs.Printing.{bracketText, commaMark, goalNamed, goalText, literalNamed, literalText, rowText, termNamed, termText};
-ghost use Rattle.write_goal.specs.Rows.{leadOf, termsAt};
+ghost use Rattle.text_program.specs.Printing.{bracket_text, comma_mark, goal_named, goal_text, literal_named, literal_text, row_text, term_named, term_text};
+ghost use Rattle.write_goal.specs.Rows.{lead_of, terms_at};
 
 use entry_table::Noted;
 use lay_text::To;
@@ -21,7 +21,7 @@ fn letter(v: u32) -> u8
 
 // What stands before item k of a row.
 pub fn lead(out: &mut [u8], w: To, k: usize, mark: &[u8]) -> To
-    ensures { Writes out.old w (leadOf mark.now k) true out.new result }
+    ensures { Writes out.old w (lead_of mark.now k) true out.new result }
 {
     if k == 0 {
         return w;
@@ -41,7 +41,7 @@ fn term(
     at: usize,
 ) -> To
     requires { (r ≤ 255) × (at ≤ 4294967296) × Entered names.now table.now e.every e.count }
-    ensures { Writes out.old w (termText r names.now (termAt s.now at)) (termNamed r names.now (termAt s.now at)) out.new result }
+    ensures { Writes out.old w (term_text r names.now (term_at s.now at)) (term_named r names.now (term_at s.now at)) out.new result }
 {
     let t = place::term_at(s, at);
     match t {
@@ -64,7 +64,7 @@ fn terms(
     mark: &[u8],
 ) -> To
     requires { (r ≤ 255) × (from ≤ 1073741824) × (n ≤ 255) × Entered names.now table.now e.every e.count }
-    ensures { Writes out.old w (rowText (termText r names.now) mark.now (termsAt s.now n from)) (all_of (termNamed r names.now) (termsAt s.now n from)) out.new result }
+    ensures { Writes out.old w (row_text (term_text r names.now) mark.now (terms_at s.now n from)) (all_of (term_named r names.now) (terms_at s.now n from)) out.new result }
 {
     let mut to = w;
     let mut at = from;
@@ -91,7 +91,7 @@ pub fn arguments(
     n: usize,
 ) -> To
     requires { (r ≤ 255) × (from ≤ 1073741824) × (n ≤ 255) × Entered names.now table.now e.every e.count }
-    ensures { Writes out.old w (bracketText (termText r names.now) (termsAt s.now n from)) (all_of (termNamed r names.now) (termsAt s.now n from)) out.new result }
+    ensures { Writes out.old w (bracket_text (term_text r names.now) (terms_at s.now n from)) (all_of (term_named r names.now) (terms_at s.now n from)) out.new result }
 {
     if n == 0 {
         return w;
@@ -113,7 +113,7 @@ fn literal(
     at: usize,
 ) -> To
     requires { (r ≤ 255) × (at ≤ 536870912) × Entered names.now table.now e.every e.count }
-    ensures { Writes out.old w (literalText r names.now (literalOf s.now at)) (literalNamed r names.now (literalOf s.now at)) out.new result }
+    ensures { Writes out.old w (literal_text r names.now (literal_of s.now at)) (literal_named r names.now (literal_of s.now at)) out.new result }
 {
     let rel = place::byte_at(s, at);
     let n = place::byte_at(s, at + codes::LITERAL_ARITY);
@@ -147,7 +147,7 @@ fn stage(
     from: usize,
 ) -> To
     requires { (r ≤ 255) × (from ≤ 268435456) × Entered names.now table.now e.every e.count }
-    ensures { Writes out.old w (rowText (literalText r names.now) commaMark (stageOf s.now from)) (all_of (literalNamed r names.now) (stageOf s.now from)) out.new result }
+    ensures { Writes out.old w (row_text (literal_text r names.now) comma_mark (stage_of s.now from)) (all_of (literal_named r names.now) (stage_of s.now from)) out.new result }
 {
     let n = place::byte_at(s, from);
     let mut to = w;
@@ -176,7 +176,7 @@ pub fn goal(
     from: usize,
 ) -> To
     requires { (r ≤ 255) × (from ≤ 134217728) × Entered names.now table.now e.every e.count }
-    ensures { Writes out.old w (goalText r names.now (goalOf s.now from)) (goalNamed r names.now (goalOf s.now from)) out.new result }
+    ensures { Writes out.old w (goal_text r names.now (goal_of s.now from)) (goal_named r names.now (goal_of s.now from)) out.new result }
 {
     let n = place::byte_at(s, from);
     let mut to = w;

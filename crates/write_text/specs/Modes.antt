@@ -2,5 +2,5 @@
 use Rattle.std.specs.Prelude.{Bool, true, ℕ}
 
 -- nothing: every mode has its mark
-unfoldable pub anyMode : ℕ → Bool
-anyMode m = true
+unfoldable pub any_mode : ℕ → Bool
+any_mode m = true

@@ -2,13 +2,13 @@
 ghost use Rattle.std.specs.Prelude.{true, [], ◌∷◌, ◌≡◌, ◌*◌, ◌+◌, ◌≤◌};
 ghost use Rattle.entry_table.specs.Entered.{Entered};
 ghost use Rattle.lay_text.specs.Laying.{Writes};
-ghost use Rattle.parlog.specs.Image.{byte_at, modeEnd, recordAt, recordEnd};
-ghost use Rattle.parlog.specs.Program.{goalOf, modesOf, program_of};
+ghost use Rattle.parlog.specs.Image.{byte_at, mode_end, record_at, record_end};
+ghost use Rattle.parlog.specs.Program.{goal_of, modes_of, program_of};
 ghost use Rattle.parlog.specs.Scan.{list_of};
-ghost use Rattle.text_names.specs.Entries.{isEntry};
+ghost use Rattle.text_names.specs.Entries.{is_entry};
 ghost use Rattle.text_program.specs.Parsing.{all_of};
-ghost use Rattle.text_program.specs.Printing.{bracketText, goalLineText, goalNamed, modeLinesText, modeLineText, modeText, programNamed, programText, relationsNamed, rowText};
-ghost use Rattle.write_text.specs.Modes.{anyMode};
+ghost use Rattle.text_program.specs.Printing.{bracket_text, goal_line_text, goal_named, mode_lines_text, mode_line_text, mode_text, program_named, program_text, relations_named, row_text};
+ghost use Rattle.write_text.specs.Modes.{any_mode};
 
 use entry_table::Noted;
 use lay_text::To;
@@ -18,7 +18,7 @@ use parlog::codes;
 
 // The mark of a mode.
 fn mode(out: &mut [u8], w: To, m: usize) -> To
-    ensures { Writes out.old w (modeText m) (anyMode m) out.new result }
+    ensures { Writes out.old w (mode_text m) (any_mode m) out.new result }
 {
     if m == 0 {
         return lay_text::put(out, w, b'?');
@@ -29,7 +29,7 @@ fn mode(out: &mut [u8], w: To, m: usize) -> To
 // n modes from a place on.
 fn modes(out: &mut [u8], w: To, s: &[u8], from: usize, n: usize) -> To
     requires { (from ≤ 1073741824) × (n ≤ 255) }
-    ensures { Writes out.old w (rowText modeText (44 ∷ []) (list_of (byte_at s.now) modeEnd n from)) (all_of anyMode (list_of (byte_at s.now) modeEnd n from)) out.new result }
+    ensures { Writes out.old w (row_text mode_text (44 ∷ []) (list_of (byte_at s.now) mode_end n from)) (all_of any_mode (list_of (byte_at s.now) mode_end n from)) out.new result }
 {
     let mut to = w;
     let mut at = from;
@@ -46,7 +46,7 @@ fn modes(out: &mut [u8], w: To, s: &[u8], from: usize, n: usize) -> To
 // The modes of the relation at a place, in brackets.
 fn mode_marks(out: &mut [u8], w: To, s: &[u8], at: usize) -> To
     requires { at ≤ 33554432 }
-    ensures { Writes out.old w (bracketText modeText (modesOf s.now at)) true out.new result }
+    ensures { Writes out.old w (bracket_text mode_text (modes_of s.now at)) true out.new result }
 {
     let n = place::byte_at(s, at + codes::RELATION_ARITY);
     if n == 0 {
@@ -70,7 +70,7 @@ fn mode_line(
     at: usize,
 ) -> To
     requires { (at ≤ 33554432) × Entered names.now table.now e.every e.count }
-    ensures { Writes out.old w (modeLineText r names.now k (modesOf s.now at)) (isEntry names.now k) out.new result }
+    ensures { Writes out.old w (mode_line_text r names.now k (modes_of s.now at)) (is_entry names.now k) out.new result }
 {
     let a = lay_text::word(out, w, b"mode ");
     let b = lay_text::name(out, a, names, table, e, k);
@@ -89,7 +89,7 @@ fn mode_lines(
     r: usize,
 ) -> To
     requires { (r ≤ 255) × Entered names.now table.now e.every e.count }
-    ensures { Writes out.old w (modeLinesText r names.now 0 (list_of (modesOf s.now) (recordEnd s.now) r 0)) (relationsNamed r names.now 0 (list_of (modesOf s.now) (recordEnd s.now) r 0)) out.new result }
+    ensures { Writes out.old w (mode_lines_text r names.now 0 (list_of (modes_of s.now) (record_end s.now) r 0)) (relations_named r names.now 0 (list_of (modes_of s.now) (record_end s.now) r 0)) out.new result }
 {
     let mut to = w;
     let mut at = 0;
@@ -116,7 +116,7 @@ fn goal_line(
     at: usize,
 ) -> To
     requires { (r ≤ 255) × (at ≤ 134217728) × Entered names.now table.now e.every e.count }
-    ensures { Writes out.old w (goalLineText r names.now (goalOf s.now at)) (goalNamed r names.now (goalOf s.now at)) out.new result }
+    ensures { Writes out.old w (goal_line_text r names.now (goal_of s.now at)) (goal_named r names.now (goal_of s.now at)) out.new result }
 {
     let a = lay_text::word(out, w, b"<- ");
     let b = write_goal::goal(out, a, s, names, table, e, r, at);
@@ -126,7 +126,7 @@ fn goal_line(
 // Where record k begins.
 fn record_at(s: &[u8], k: usize) -> usize
     requires { k ≤ 255 }
-    ensures { (result ≡ recordAt s.now k) × (result ≤ 65535 * k) }
+    ensures { (result ≡ record_at s.now k) × (result ≤ 65535 * k) }
 {
     let mut at = 0;
     let mut left = k;
@@ -149,7 +149,7 @@ pub fn lines(
     c: usize,
 ) -> To
     requires { (r ≤ 32) × (c ≤ 64) × Entered names.now table.now e.every e.count }
-    ensures { Writes out.old w (programText names.now (program_of s.now r c)) (programNamed names.now (program_of s.now r c)) out.new result }
+    ensures { Writes out.old w (program_text names.now (program_of s.now r c)) (program_named names.now (program_of s.now r c)) out.new result }
 {
     let a = mode_lines(out, w, s, names, table, e, r);
     let from = record_at(s, r);

@@ -1,4 +1,4 @@
-use Rattle.bound_calls.proofs.Telling.{step-away, step-done, step-nobody}
+use Rattle.bound_calls.proofs.Telling.{step_away, step-done, step-nobody}
 use Rattle.entry.proofs.Entering.{indexed_of, inside_of}
 use Rattle.step.proofs.Deciding.{told_of}
 use native.Mathlib.Omega.{arith}
@@ -18,7 +18,7 @@ step-bound-spec =
     (λ c. search rules)
     (λ c. search rules)
     (λ c. search rules)
-    (λ c. step-away _ _ _ _ c.before.before.before.enter.ensures.0 _ c.before.enum_told.given.1 c.refusal.ensures)
+    (λ c. step_away _ _ _ _ c.before.before.before.enter.ensures.0 _ c.before.enum_told.given.1 c.refusal.ensures)
     (λ c κs. let i = inside_of _ _ _ c.before.before.before.before.enter.ensures.0 c.before.before.e.given.1 in omega (arith, i.head))
     (λ c κs. search rules)
     (λ c. search rules)

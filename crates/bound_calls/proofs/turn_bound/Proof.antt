@@ -1,4 +1,4 @@
-use Rattle.bound_calls.proofs.Telling.{turn-away, turn-done}
+use Rattle.bound_calls.proofs.Telling.{turn_away, turn-done}
 use Rattle.entry.proofs.Entering.{indexed_of, inside_of}
 use borrow.Author.Rules.{rules}
 use Rattle.bound_calls.proofs.turn_bound.Statement.{statement}
@@ -15,7 +15,7 @@ turn-bound-spec =
     (λ c. search rules)
     (λ c. search rules)
     (λ c. search rules)
-    (λ c. turn-away _ _ _ _ c.before.before.before.enter.ensures.0 c.before.enum_told.given.1 c.refusal.ensures)
+    (λ c. turn_away _ _ _ _ c.before.before.before.enter.ensures.0 c.before.enum_told.given.1 c.refusal.ensures)
     (λ c κs. (inside_of _ _ _ c.before.before.before.before.before.before.before.before.enter.ensures.0 c.before.before.before.before.before.before.e.given.1, indexed_of _ _ c.before.before.before.before.before.before.before.before.enter.ensures.1 c.before.before.before.before.before.before.e.given.1))
     (λ c. search rules)
     (λ c. search rules)

@@ -6,14 +6,14 @@ use Prim.Native.Nat.{◌+◌, ◌*◌, ◌-◌, ◌≤◌}
 use lib.ListN.{drop, length, take}
 use native.Mathlib.Omega.{arith}
 use Rattle.lay.specs.Lay.{laid}
-use Rattle.unify.specs.Pending.{varsBound}
+use Rattle.unify.specs.Pending.{vars_bound}
 use Rattle.bound_row.specs.Row.{twos}
 use Rattle.bound_row.proofs.Rows.{tell-done, tell-more, tell-start}
 use Rattle.bound_row.proofs.tell.Statement.{statement}
 use Rattle.bound_row.proofs.tell.Tie as tie
 
 abbrev invariant-loop : tie.invariant-loop
-invariant-loop out₀ count list at₀ k₀ out at k = (k ≤ count) × (at ≡ 2 + 2 * k) × (length list ≡ 4) × (length out ≡ length out₀) × (laid out at (twos (varsBound (drop k (take count list)))) ≡ laid out₀ at₀ (twos (varsBound (take count list))))
+invariant-loop out₀ count list at₀ k₀ out at k = (k ≤ count) × (at ≡ 2 + 2 * k) × (length list ≡ 4) × (length out ≡ length out₀) × (laid out at (twos (vars_bound (drop k (take count list)))) ≡ laid out₀ at₀ (twos (vars_bound (take count list))))
 
 abbrev decreases-loop : tie.decreases-loop
 decreases-loop out₀ count list at₀ k₀ out at k = count - k

@@ -1,7 +1,7 @@
 use Rattle.capi.proofs.Laws.{row-tells}
 use Rattle.capi.proofs.Traces.{run-traced-fit}
 use native.Mathlib.Omega.{arith}
-use Rattle.parlog.specs.Numbers.{runNumbers}
+use Rattle.parlog.specs.Numbers.{run_numbers}
 use borrow.Author.Rules.{rules}
 use Rattle.capi.proofs.rissobarm_run_traced.Statement.{statement}
 use Rattle.capi.proofs.rissobarm_run_traced.Tie as tie
@@ -16,4 +16,4 @@ rissobarm-run-traced-spec =
     (λ c. search rules)
     (λ c. search rules)
     (λ c. search rules)
-    (λ c. row-tells c.before.before.before.before.before.before.before.before.before.run-traced.ensures runNumbers c.run-word.ensures))
+    (λ c. row-tells c.before.before.before.before.before.before.before.before.before.run-traced.ensures run_numbers c.run-word.ensures))

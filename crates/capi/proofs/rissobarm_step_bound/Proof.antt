@@ -1,6 +1,6 @@
 use Rattle.capi.proofs.Laws.{row-tells, step-bound-fit}
 use Rattle.parlog.proofs.Limits.{small-usable}
-use Rattle.parlog.specs.Numbers.{stepNumbers}
+use Rattle.parlog.specs.Numbers.{step_numbers}
 use borrow.Author.Rules.{rules}
 use Rattle.capi.proofs.rissobarm_step_bound.Statement.{statement}
 use Rattle.capi.proofs.rissobarm_step_bound.Tie as tie
@@ -15,4 +15,4 @@ rissobarm-step-bound-spec =
     (λ c. search rules)
     (λ c. search rules)
     (λ c. search rules)
-    (λ c. row-tells c.before.before.before.before.before.before.before.before.before.step-bound.ensures stepNumbers c.step-word.ensures))
+    (λ c. row-tells c.before.before.before.before.before.before.before.before.before.step-bound.ensures step_numbers c.step-word.ensures))

@@ -1,7 +1,7 @@
 use Rattle.capi.proofs.Laws.{row-tells}
 use Rattle.capi.proofs.Traces.{step-traced-fit}
 use Rattle.parlog.proofs.Limits.{small-usable}
-use Rattle.parlog.specs.Numbers.{stepNumbers}
+use Rattle.parlog.specs.Numbers.{step_numbers}
 use borrow.Author.Rules.{rules}
 use Rattle.capi.proofs.rissobarm_step_traced.Statement.{statement}
 use Rattle.capi.proofs.rissobarm_step_traced.Tie as tie
@@ -16,4 +16,4 @@ rissobarm-step-traced-spec =
     (λ c. search rules)
     (λ c. search rules)
     (λ c. search rules)
-    (λ c. row-tells c.before.before.before.before.before.before.before.before.before.step-traced.ensures stepNumbers c.step-word.ensures))
+    (λ c. row-tells c.before.before.before.before.before.before.before.before.before.step-traced.ensures step_numbers c.step-word.ensures))

@@ -1,5 +1,5 @@
 use Rattle.capi.proofs.Laws.{row-tells, supply-bound-fit}
-use Rattle.parlog.specs.Numbers.{supplyNumbers}
+use Rattle.parlog.specs.Numbers.{supply_numbers}
 use borrow.Author.Rules.{rules}
 use Rattle.capi.proofs.rissobarm_supply_bound.Statement.{statement}
 use Rattle.capi.proofs.rissobarm_supply_bound.Tie as tie
@@ -12,4 +12,4 @@ rissobarm-supply-bound-spec =
     (λ c κs. supply-bound-fit _ _ _ _ _ _ c.before.before.before.before.supply-bound.ensures)
     (λ c. search rules)
     (λ c. search rules)
-    (λ c. row-tells c.before.before.before.before.before.supply-bound.ensures supplyNumbers c.supply-word.ensures))
+    (λ c. row-tells c.before.before.before.before.before.supply-bound.ensures supply_numbers c.supply-word.ensures))

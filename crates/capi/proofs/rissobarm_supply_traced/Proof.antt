@@ -1,6 +1,6 @@
 use Rattle.capi.proofs.Laws.{row-tells}
 use Rattle.capi.proofs.Traces.{supply-traced-fit}
-use Rattle.parlog.specs.Numbers.{supplyNumbers}
+use Rattle.parlog.specs.Numbers.{supply_numbers}
 use borrow.Author.Rules.{rules}
 use Rattle.capi.proofs.rissobarm_supply_traced.Statement.{statement}
 use Rattle.capi.proofs.rissobarm_supply_traced.Tie as tie
@@ -13,4 +13,4 @@ rissobarm-supply-traced-spec =
     (λ c κs. supply-traced-fit _ _ _ _ _ _ _ c.before.before.before.before.supply-traced.ensures)
     (λ c. search rules)
     (λ c. search rules)
-    (λ c. row-tells c.before.before.before.before.before.supply-traced.ensures supplyNumbers c.supply-word.ensures))
+    (λ c. row-tells c.before.before.before.before.before.supply-traced.ensures supply_numbers c.supply-word.ensures))

@@ -1,6 +1,6 @@
 use borrow.Author.Rules.{rules}
 use Prim.Native.Nat.{◌≤◌}
-use Rattle.parlog.specs.Tables.{procsOf}
+use Rattle.parlog.specs.Tables.{procs_of}
 use Rattle.children.specs.Notes.{Noted}
 use Rattle.children.proofs.Noting.{noted-start}
 use Rattle.children.proofs.Ways.{noted-end, noted-less}
@@ -11,7 +11,7 @@ use Rattle.children.proofs.asked.Statement.{statement}
 use Rattle.children.proofs.asked.Tie as tie
 
 abbrev invariant-loop : tie.invariant-loop
-invariant-loop procs n p x₀ q₀ x q = (q ≤ n) × Noted (procsOf procs n) p q x
+invariant-loop procs n p x₀ q₀ x q = (q ≤ n) × Noted (procs_of procs n) p q x
 
 abbrev decreases-loop : tie.decreases-loop
 decreases-loop procs n p x₀ q₀ x q = q

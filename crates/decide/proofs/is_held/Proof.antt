@@ -1,10 +1,10 @@
 use borrow.Author.Rules.{rules}
-use Rattle.decide.specs.Decision.{heldBy}
+use Rattle.decide.specs.Decision.{held_by}
 use Rattle.decide.proofs.is_held.Statement.{statement}
 use Rattle.decide.proofs.is_held.Tie as tie
 
 returns : tie.Need-returns
-unfolding heldBy
+unfolding held_by
 returns c = rw (← c.before.is-input.ensures) c.or.ensures
 
 pub is-held-spec : {M : Type 1} → statement M

@@ -5,13 +5,13 @@ use borrow.Author.Rules.{rules}
 use native.Mathlib.Omega.{arith}
 use Rattle.decide.proofs.Laws.{input-done, input-hit, input-miss}
 use Rattle.decide.proofs.Pairs.{top-shifted}
-use Rattle.parlog.specs.Tables.{varsIn}
-use Rattle.parlog.specs.Unify.{inputValue}
+use Rattle.parlog.specs.Tables.{vars_in}
+use Rattle.parlog.specs.Unify.{input_value}
 use Rattle.decide.proofs.is_input.Statement.{statement}
 use Rattle.decide.proofs.is_input.Tie as tie
 
 abbrev invariant-loop : tie.invariant-loop
-invariant-loop vars n base arity v modes args i₀ i = (i ≤ arity) × (length modes ≡ 4) × (length args ≡ 4) × (inputValue (varsIn vars n) (drop i (take arity modes)) (drop i (take arity args)) base v ≡ inputValue (varsIn vars n) (take arity modes) (take arity args) base v)
+invariant-loop vars n base arity v modes args i₀ i = (i ≤ arity) × (length modes ≡ 4) × (length args ≡ 4) × (input_value (vars_in vars n) (drop i (take arity modes)) (drop i (take arity args)) base v ≡ input_value (vars_in vars n) (take arity modes) (take arity args) base v)
 
 abbrev decreases-loop : tie.decreases-loop
 decreases-loop vars n base arity v modes args i₀ i = arity - i

@@ -4,14 +4,14 @@ use lib.ListN.{drop, length, take}
 use borrow.Author.Rules.{rules}
 use native.Mathlib.Omega.{arith}
 use Rattle.decide.proofs.Laws.{gather-done, gather-more, push-count}
-use Rattle.decide.specs.Decision.{gather, heldBy}
-use Rattle.parlog.specs.Tables.{varsIn}
+use Rattle.decide.specs.Decision.{gather, held_by}
+use Rattle.parlog.specs.Tables.{vars_in}
 use Rattle.unify.specs.Pending.{pending}
 use Rattle.decide.proofs.needed.Statement.{statement}
 use Rattle.decide.proofs.needed.Tie as tie
 
 abbrev invariant-loop : tie.invariant-loop
-invariant-loop vars n args h binds count s₀ k₀ s k = (k ≤ count) × (count ≤ 4) × (s.count ≤ k) × (length binds ≡ 4) × (gather (heldBy (varsIn vars n) args h) s (drop k (take count binds)) ≡ gather (heldBy (varsIn vars n) args h) s₀ (take count binds))
+invariant-loop vars n args h binds count s₀ k₀ s k = (k ≤ count) × (count ≤ 4) × (s.count ≤ k) × (length binds ≡ 4) × (gather (held_by (vars_in vars n) args h) s (drop k (take count binds)) ≡ gather (held_by (vars_in vars n) args h) s₀ (take count binds))
 
 abbrev decreases-loop : tie.decreases-loop
 decreases-loop vars n args h binds count s₀ k₀ s k = count - k

@@ -1,4 +1,4 @@
-use Rattle.declared_calls.proofs.Turns.{callsAbove, Passing, turn_end, turn-less, turn_on, turn-start, turn-stop}
+use Rattle.declared_calls.proofs.Turns.{calls_above, Passing, turn_end, turn-less, turn_on, turn-start, turn-stop}
 use native.Mathlib.Omega.{arith}
 use Rattle.declared_calls.proofs.class_declared.Statement.{statement}
 use Rattle.declared_calls.proofs.class_declared.Tie as tie
@@ -7,7 +7,7 @@ abbrev invariant-loop : tie.invariant-loop
 invariant-loop s places links named from left bounded₀ bound₀ bounded bound = Passing s named from left bounded bound
 
 abbrev decreases-loop : tie.decreases-loop
-decreases-loop s places links named from left bounded₀ bound₀ bounded bound = callsAbove s from left bounded bound
+decreases-loop s places links named from left bounded₀ bound₀ bounded bound = calls_above s from left bounded bound
 
 pub class-declared-spec : {M : Type 1} → statement M
 class-declared-spec =

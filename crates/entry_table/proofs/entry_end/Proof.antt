@@ -1,5 +1,5 @@
 use Rattle.entry_table.proofs.Places.{entry-go, entry-none, entry-stop}
-use Rattle.text_names.specs.Entries.{behindEntry}
+use Rattle.text_names.specs.Entries.{behind_entry}
 use native.Mathlib.Omega.{arith}
 use borrow.Author.Rules.{rules}
 use mathlib.Core.Path.{◌≡◌, refl, sym, ◌∙◌}
@@ -9,7 +9,7 @@ use Rattle.entry_table.proofs.entry_end.Statement.{statement}
 use Rattle.entry_table.proofs.entry_end.Tie as tie
 
 abbrev invariant-loop : tie.invariant-loop
-invariant-loop s from i₀ i = (from ≤ i) × (i ≤ length s) × (behindEntry (drop i s) ≡ behindEntry (drop from s))
+invariant-loop s from i₀ i = (from ≤ i) × (i ≤ length s) × (behind_entry (drop i s) ≡ behind_entry (drop from s))
 
 abbrev decreases-loop : tie.decreases-loop
 decreases-loop s from i₀ i = length s - i

@@ -1,5 +1,5 @@
 use Rattle.entry_table.proofs.Places.{thin-entered}
-use Rattle.entry_table.specs.Entered.{Entered, tableSize}
+use Rattle.entry_table.specs.Entered.{Entered, table_size}
 use native.Mathlib.Omega.{arith}
 use borrow.Author.Rules.{rules}
 use mathlib.Core.Path.{◌≡◌, ◌∙◌, sym}
@@ -9,7 +9,7 @@ use Rattle.entry_table.proofs.fill.Statement.{statement}
 use Rattle.entry_table.proofs.fill.Tie as tie
 
 abbrev invariant-loop : tie.invariant-loop
-invariant-loop table₀ names every₀ count₀ table every count = Entered names table every count × (length table ≡ tableSize)
+invariant-loop table₀ names every₀ count₀ table every count = Entered names table every count × (length table ≡ table_size)
 
 abbrev decreases-loop : tie.decreases-loop
 decreases-loop table₀ names every₀ count₀ table every count = 8 - every

@@ -1,5 +1,5 @@
 use Rattle.entry_table.proofs.Places.{Among, among-start, among-turn}
-use Rattle.entry_table.specs.Entered.{tableSize}
+use Rattle.entry_table.specs.Entered.{table_size}
 use native.Mathlib.Omega.{arith}
 use borrow.Author.Rules.{rules}
 use mathlib.Core.Path.{◌≡◌, ◌∙◌, refl, sym}
@@ -9,7 +9,7 @@ use Rattle.entry_table.proofs.fill_each.Statement.{statement}
 use Rattle.entry_table.proofs.fill_each.Tie as tie
 
 abbrev invariant-loop : tie.invariant-loop
-invariant-loop table₀ names n₀ i₀ table n i = Among names table n i × (length table ≡ tableSize)
+invariant-loop table₀ names n₀ i₀ table n i = Among names table n i × (length table ≡ table_size)
 
 abbrev decreases-loop : tie.decreases-loop
 decreases-loop table₀ names n₀ i₀ table n i = length names - i

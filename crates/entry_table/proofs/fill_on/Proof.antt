@@ -1,5 +1,5 @@
 use Rattle.entry_table.proofs.Places.{next-entered, next_last}
-use Rattle.entry_table.specs.Entered.{Entered, tableSize}
+use Rattle.entry_table.specs.Entered.{Entered, table_size}
 use native.Mathlib.Omega.{arith}
 use borrow.Author.Rules.{rules}
 use mathlib.Core.Path.{◌≡◌, ◌∙◌, refl, sym}
@@ -9,7 +9,7 @@ use Rattle.entry_table.proofs.fill_on.Statement.{statement}
 use Rattle.entry_table.proofs.fill_on.Tie as tie
 
 abbrev invariant-loop : tie.invariant-loop
-invariant-loop table₀ names every n count₀ at₀ table count at = Entered names table every count × (get_or table (count - 1) 0 ≡ at) × (at ≤ length names) × (length table ≡ tableSize)
+invariant-loop table₀ names every n count₀ at₀ table count at = Entered names table every count × (get_or table (count - 1) 0 ≡ at) × (at ≤ length names) × (length table ≡ table_size)
 
 abbrev decreases-loop : tie.decreases-loop
 decreases-loop table₀ names every n count₀ at₀ table count at = length names - at

@@ -1,5 +1,5 @@
 use Rattle.entry_table.proofs.Places.{entry-last, entry_next, walked-out}
-use Rattle.text_names.specs.Entries.{entryFrom}
+use Rattle.text_names.specs.Entries.{entry_from}
 use native.Mathlib.Omega.{arith}
 use borrow.Author.Rules.{rules}
 use mathlib.Core.Path.{◌≡◌, refl, sym, ◌∙◌}
@@ -9,7 +9,7 @@ use Rattle.entry_table.proofs.walk.Statement.{statement}
 use Rattle.entry_table.proofs.walk.Tie as tie
 
 abbrev invariant-loop : tie.invariant-loop
-invariant-loop s from k at₀ left₀ at left = (k + from ≤ at + left) × (at ≤ length s) × (entryFrom (drop at s) left ≡ entryFrom (drop from s) k)
+invariant-loop s from k at₀ left₀ at left = (k + from ≤ at + left) × (at ≤ length s) × (entry_from (drop at s) left ≡ entry_from (drop from s) k)
 
 abbrev decreases-loop : tie.decreases-loop
 decreases-loop s from k at₀ left₀ at left = left

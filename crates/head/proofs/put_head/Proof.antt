@@ -1,5 +1,5 @@
 use Rattle.head.proofs.Laws.{paste_all, paste-one}
-use Rattle.parlog.specs.Tables.{headBytes, headSize}
+use Rattle.parlog.specs.Tables.{head_bytes, head_size}
 use lib.Seq.{paste, paste-zero}
 use lib.ListN.{length}
 use borrow.Author.Rules.{rules}
@@ -10,10 +10,10 @@ use Rattle.head.proofs.put_head.Statement.{statement}
 use Rattle.head.proofs.put_head.Tie as tie
 
 abbrev invariant-loop : tie.invariant-loop
-invariant-loop head₀ n m last steps row k₀ head k = (k ≤ headSize) × (length row ≡ headSize) × (length head₀ ≡ headSize) × (length head ≡ headSize) × (row ≡ headBytes n m last steps) × (head ≡ paste head₀ 0 row k)
+invariant-loop head₀ n m last steps row k₀ head k = (k ≤ head_size) × (length row ≡ head_size) × (length head₀ ≡ head_size) × (length head ≡ head_size) × (row ≡ head_bytes n m last steps) × (head ≡ paste head₀ 0 row k)
 
 abbrev decreases-loop : tie.decreases-loop
-decreases-loop head₀ n m last steps row k₀ head k = headSize - k
+decreases-loop head₀ n m last steps row k₀ head k = head_size - k
 
 pub put-head-spec : {M : Type 1} → statement M
 put-head-spec =

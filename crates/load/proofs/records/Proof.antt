@@ -4,7 +4,7 @@ use mathlib.Core.Path.{◌≡◌, refl, sym}
 use Prim.Native.Nat.{◌-◌}
 use lib.ListN.{length}
 use borrow.Author.Tests.{eq-eqb, ne_eqb}
-use Rattle.parlog.specs.Load.{nothingRead, records, verdict}
+use Rattle.parlog.specs.Load.{nothing_read, records, verdict}
 use Rattle.load.specs.Bounds.{Small}
 use Rattle.parlog.specs.Records.{cut}
 use Rattle.parlog.proofs.Walk.{whole}
@@ -17,7 +17,7 @@ use Rattle.load.proofs.records.Statement.{statement}
 use Rattle.load.proofs.records.Tie as tie
 
 abbrev invariant-loop : tie.invariant-loop
-invariant-loop s ix₀ n arities₀ at₀ g₀ ix arities at g = (records s (length s) at g ≡ records s (length s) 0 nothingRead) × Small g × Reached s g at × Arities s g.relations arities × (length arities ≡ 33) × Holds s g ix
+invariant-loop s ix₀ n arities₀ at₀ g₀ ix arities at g = (records s (length s) at g ≡ records s (length s) 0 nothing_read) × Small g × Reached s g at × Arities s g.relations arities × (length arities ≡ 33) × Holds s g ix
 
 abbrev decreases-loop : tie.decreases-loop
 decreases-loop s ix₀ n arities₀ at₀ g₀ ix arities at g = length s - at

@@ -1,4 +1,4 @@
-use Rattle.parlog.specs.Records.{kindAt}
+use Rattle.parlog.specs.Records.{kind_at}
 use Rattle.load_body.specs.Reading.{place_of}
 use Rattle.parlog.proofs.Walk.{whole}
 use native.Mathlib.Omega.{arith}
@@ -11,17 +11,17 @@ use Rattle.load.proofs.test_record.Tie as tie
 -- src/lib.rt:159:9
 returns : tie.Need-returns
 unfolding verdict
-returns c = let a = c.before.before.before.before.args in broken-told 2 (place_of a.s.now a.at (kindAt a.s.now a.at)) c.broken.ensures.0 c.broken.ensures.1 (rw (← c.before.before.cut.ensures, c.before.if1.true)) (omega arith) (omega arith)
+returns c = let a = c.before.before.before.before.args in broken-told 2 (place_of a.s.now a.at (kind_at a.s.now a.at)) c.broken.ensures.0 c.broken.ensures.1 (rw (← c.before.before.cut.ensures, c.before.if1.true)) (omega arith) (omega arith)
 
 -- src/lib.rt:163:9
 returns-2 : tie.Need-returns-2
 unfolding verdict
-returns-2 c = let a = c.before.before.before.before.before.before.before.args in broken-told 3 (place_of a.s.now a.at (kindAt a.s.now a.at)) c.broken2.ensures.0 c.broken2.ensures.1 (rw (← c.before.before.before.before.before.cut.ensures, c.before.before.before.before.if1.false, ← c.before.before.before.kind_at.ensures.0, ← c.before.before.kind-fault.ensures, c.before.if2.true)) (omega arith) (omega arith)
+returns-2 c = let a = c.before.before.before.before.before.before.before.args in broken-told 3 (place_of a.s.now a.at (kind_at a.s.now a.at)) c.broken2.ensures.0 c.broken2.ensures.1 (rw (← c.before.before.before.before.before.cut.ensures, c.before.before.before.before.if1.false, ← c.before.before.before.kind_at.ensures.0, ← c.before.before.kind-fault.ensures, c.before.if2.true)) (omega arith) (omega arith)
 
 -- src/lib.rt:166:9
 returns-3 : tie.Need-returns-3
 unfolding verdict
-returns-3 c = let a = c.before.before.before.before.before.before.before.before.before.args in broken-told 6 (place_of a.s.now a.at (kindAt a.s.now a.at)) c.broken3.ensures.0 c.broken3.ensures.1 (rw (← c.before.before.before.before.before.before.before.cut.ensures, c.before.before.before.before.before.before.if1.false, ← c.before.before.before.before.before.kind_at.ensures.0, ← c.before.before.before.before.kind-fault.ensures, c.before.before.before.if2.false, ← c.before.before.too_many.ensures, c.before.if3.true)) (omega arith) (omega arith)
+returns-3 c = let a = c.before.before.before.before.before.before.before.before.before.args in broken-told 6 (place_of a.s.now a.at (kind_at a.s.now a.at)) c.broken3.ensures.0 c.broken3.ensures.1 (rw (← c.before.before.before.before.before.before.before.cut.ensures, c.before.before.before.before.before.before.if1.false, ← c.before.before.before.before.before.kind_at.ensures.0, ← c.before.before.before.before.kind-fault.ensures, c.before.before.before.if2.false, ← c.before.before.too_many.ensures, c.before.if3.true)) (omega arith) (omega arith)
 
 -- src/lib.rt:152:1
 returns-4 : tie.Need-returns-4

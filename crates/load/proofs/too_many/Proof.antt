@@ -1,10 +1,10 @@
-use Rattle.parlog.specs.Load.{tooMany}
+use Rattle.parlog.specs.Load.{too_many}
 use borrow.Author.Rules.{rules}
 use Rattle.load.proofs.too_many.Statement.{statement}
 use Rattle.load.proofs.too_many.Tie as tie
 
 returns : tie.Need-returns
-unfolding tooMany
+unfolding too_many
 returns c = rw (c.choose.ensures, c.before.before.and.ensures)
 
 pub too-many-spec : {M : Type 1} → statement M

@@ -1,10 +1,10 @@
-use Rattle.parlog.specs.Names.{clausePlaced}
+use Rattle.parlog.specs.Names.{clause_placed}
 use borrow.Author.Rules.{rules}
 use Rattle.load_names.proofs.clause_placed.Statement.{statement}
 use Rattle.load_names.proofs.clause_placed.Tie as tie
 
 returns : tie.Need-returns
-unfolding clausePlaced
+unfolding clause_placed
 returns c = rw (
   c.and2.ensures,
   c.before.and.ensures,

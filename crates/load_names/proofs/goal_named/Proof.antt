@@ -1,6 +1,6 @@
 use Rattle.place.proofs.Grows.{goal-grows, goal-in}
-use Rattle.parlog.specs.Names.{goalNamed}
-use Rattle.parlog.specs.Image.{goalEnd}
+use Rattle.parlog.specs.Names.{goal_named}
+use Rattle.parlog.specs.Image.{goal_end}
 use lib.ListN.{length}
 use native.Mathlib.Omega.{arith}
 use borrow.Author.Rules.{rules}
@@ -8,7 +8,7 @@ use Rattle.load_names.proofs.goal_named.Statement.{statement}
 use Rattle.load_names.proofs.goal_named.Tie as tie
 
 returns : tie.Need-returns
-unfolding goalNamed goalEnd
+unfolding goal_named goal_end
 returns c = (rw (← c.before.byte-in.ensures.0) c.stages-named.ensures.0, omega arith)
 
 pub goal-named-spec : {M : Type 1} → statement M

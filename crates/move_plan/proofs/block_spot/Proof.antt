@@ -1,10 +1,10 @@
 use mathlib.Core.Path.{refl}
-use Rattle.parlog.specs.Delta.{at_block, blockSpot, callSpot, literalSpot}
+use Rattle.parlog.specs.Delta.{at_block, block_spot, call_spot, literal_spot}
 use Rattle.move_plan.proofs.block_spot.Statement.{statement}
 use Rattle.move_plan.proofs.block_spot.Tie as tie
 
 returns : tie.Need-returns
-unfolding blockSpot at_block callSpot literalSpot
+unfolding block_spot at_block call_spot literal_spot
 returns c = refl
 
 pub block-spot-spec : {M : Type 1} → statement M

@@ -1,11 +1,11 @@
 use mathlib.Core.Path.{refl}
 use borrow.Author.Rules.{rules}
-use Rattle.move_plan.specs.Plans.{appliedOf}
+use Rattle.move_plan.specs.Plans.{applied_of}
 use Rattle.move_plan.proofs.none.Statement.{statement}
 use Rattle.move_plan.proofs.none.Tie as tie
 
 returns : tie.Need-returns
-unfolding appliedOf
+unfolding applied_of
 returns c = (refl, search rules, c.no-changes.ensures)
 
 pub none_spec : {M : Type 1} → statement M

@@ -1,10 +1,10 @@
 use mathlib.Core.Path.{refl}
-use Rattle.parlog.specs.Delta.{callSpot, literalSpot, trySpot, withClause}
+use Rattle.parlog.specs.Delta.{call_spot, literal_spot, try_spot, with_clause}
 use Rattle.move_plan.proofs.try_spot.Statement.{statement}
 use Rattle.move_plan.proofs.try_spot.Tie as tie
 
 returns : tie.Need-returns
-unfolding trySpot withClause callSpot literalSpot
+unfolding try_spot with_clause call_spot literal_spot
 returns c = refl
 
 pub try-spot-spec : {M : Type 1} → statement M

@@ -2,14 +2,14 @@ use mathlib.Core.List.{◌++◌}
 use Prim.Native.Nat.{◌-◌, ◌≤◌}
 use borrow.Author.Rules.{rules}
 use native.Mathlib.Omega.{arith}
-use Rattle.parlog.specs.Tables.{procsOf}
+use Rattle.parlog.specs.Tables.{procs_of}
 use Rattle.move_write.proofs.Writers.{all_end, all-next, all_start}
 use Rattle.rows.specs.Rows.{Table}
 use Rattle.move_write.proofs.append_all.Statement.{statement}
 use Rattle.move_write.proofs.append_all.Tie as tie
 
 abbrev invariant-loop : tie.invariant-loop
-invariant-loop procs₀ n k rows i₀ procs i = (i ≤ k) × Table procs₀ procs (procsOf procs₀ n ++ procsOf rows i)
+invariant-loop procs₀ n k rows i₀ procs i = (i ≤ k) × Table procs₀ procs (procs_of procs₀ n ++ procs_of rows i)
 
 abbrev decreases-loop : tie.decreases-loop
 decreases-loop procs₀ n k rows i₀ procs i = k - i

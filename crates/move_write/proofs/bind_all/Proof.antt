@@ -3,7 +3,7 @@ use Prim.Native.Nat.{◌-◌, ◌≤◌}
 use lib.ListN.{take}
 use borrow.Author.Rules.{rules}
 use native.Mathlib.Omega.{arith}
-use Rattle.parlog.specs.Tables.{varsIn}
+use Rattle.parlog.specs.Tables.{vars_in}
 use Rattle.parlog.specs.Unify.{change, changed}
 use Rattle.parlog.specs.declared.Term.TheVariants.{Const}
 use Rattle.move_write.proofs.Writers.{bind-end, bind-next, bind-start}
@@ -12,7 +12,7 @@ use Rattle.move_write.proofs.bind_all.Statement.{statement}
 use Rattle.move_write.proofs.bind_all.Tie as tie
 
 abbrev invariant-loop : tie.invariant-loop
-invariant-loop vars₀ m k list i₀ vars i = (i ≤ k) × Cells m vars₀ vars (changed (varsIn vars₀ m) (take i list))
+invariant-loop vars₀ m k list i₀ vars i = (i ≤ k) × Cells m vars₀ vars (changed (vars_in vars₀ m) (take i list))
 
 abbrev decreases-loop : tie.decreases-loop
 decreases-loop vars₀ m k list i₀ vars i = k - i

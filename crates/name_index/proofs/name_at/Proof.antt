@@ -4,13 +4,13 @@ use lib.ListN.{length, drop}
 use Prim.Native.Nat.{◌<◌, ◌≤◌, ◌-◌}
 use mathlib.Core.Path.{◌≡◌, refl, sym, ◌∙◌}
 use Rattle.text_names.specs.Bytes.{back, front}
-use Rattle.name_index.specs.Index.{chainFrom, chainOf}
+use Rattle.name_index.specs.Index.{chain_from, chain_of}
 use Rattle.name_index.proofs.Spelled.{name-stop, name-go, name-none}
 use Rattle.name_index.proofs.name_at.Statement.{statement}
 use Rattle.name_index.proofs.name_at.Tie as tie
 
 abbrev invariant-loop : tie.invariant-loop
-invariant-loop s at i₀ h₀ i h = (i ≤ length s) × (h < 512) × (back (drop i s) ≡ back (drop at s)) × (chainFrom h (front (drop i s)) ≡ chainOf (front (drop at s)))
+invariant-loop s at i₀ h₀ i h = (i ≤ length s) × (h < 512) × (back (drop i s) ≡ back (drop at s)) × (chain_from h (front (drop i s)) ≡ chain_of (front (drop at s)))
 
 abbrev decreases-loop : tie.decreases-loop
 decreases-loop s at i₀ h₀ i h = length s - i

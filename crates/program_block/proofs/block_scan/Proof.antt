@@ -7,13 +7,13 @@ use Rattle.parlog.specs.Program.{in_block, opens, program_of}
 use Rattle.parlog.specs.Scan.{tally, those}
 use Rattle.program_clause.proofs.Turns.{item-turn, size-turn}
 use Rattle.program_block.proofs.BlockTurns.{behind_more, clause-end, clause-start, count-end, count-start, opens-turn, own-start, own_turn, size-end, sized-start, tally-turn, there-turn}
-use Rattle.program_block.specs.Parts.{ownBefore}
+use Rattle.program_block.specs.Parts.{own_before}
 use Rattle.program_block.proofs.block_scan.Statement.{statement}
 use Rattle.program_block.proofs.block_scan.Tie as tie
 
 abbrev invariant-loop : tie.invariant-loop
 invariant-loop s rels clauses ix q b j next to own₀ count₀ size₀ clause₀ k₀ own count size clause k = (k ≤ clauses) × (count ≤ k) × (size ≤ k) × (clause ≤ 255)
-    × (own ≡ ownBefore (program_of s rels clauses) q k)
+    × (own ≡ own_before (program_of s rels clauses) q k)
     × (count ≡ tally (opens (program_of s rels clauses) q) k)
     × (size ≡ length (those (in_block (program_of s rels clauses) q b) k))
     × (clause ≡ get_or (those (in_block (program_of s rels clauses) q b) k) j 255)

@@ -1,4 +1,4 @@
-use Rattle.read_clause.proofs.Parted.{no-halves, body-only, both_halves}
+use Rattle.read_clause.proofs.Parted.{no_halves, body-only, both_halves}
 use borrow.Author.Rules.{rules}
 use Rattle.read_clause.proofs.halves.Statement.{statement}
 use Rattle.read_clause.proofs.halves.Tie as tie
@@ -8,7 +8,7 @@ halves-spec =
     tie.close
     (tie.spec
     (λ c κs. search rules)
-    (λ c. no-halves c.before.before.before.args.s.now c.before.before.before.args.at _ c.before.before.before.requires c.before.byte-at.ensures.0 c.if1.true)
+    (λ c. no_halves c.before.before.before.args.s.now c.before.before.before.args.at _ c.before.before.before.requires c.before.byte-at.ensures.0 c.if1.true)
     (λ c κs. search rules)
     (λ c κs. c.behind-arrow.ensures.1)
     (λ c κs. search rules)

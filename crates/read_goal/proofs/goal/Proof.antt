@@ -1,6 +1,6 @@
 use Rattle.read_goal.proofs.Spanned.{goal-span}
 use lib.ListN.{drop}
-use Rattle.text_program.specs.Source.{readGoal}
+use Rattle.text_program.specs.Source.{read_goal}
 use borrow.Author.Rules.{rules}
 use Rattle.read_goal.proofs.goal.Statement.{statement}
 use Rattle.read_goal.proofs.goal.Tie as tie
@@ -11,4 +11,4 @@ goal-spec =
     (tie.spec
     (λ c κs. search rules)
     (λ c κs. search rules)
-    (λ c. goal-span _ _ (readGoal (drop c.before.before.before.before.args.at c.before.before.before.before.args.s.now)).value c.before.before.stages.result _ c.and.ensures c.before.before.stages.ensures))
+    (λ c. goal-span _ _ (read_goal (drop c.before.before.before.before.args.at c.before.before.before.before.args.s.now)).value c.before.before.stages.result _ c.and.ensures c.before.before.stages.ensures))

@@ -3,7 +3,7 @@ use mathlib.Core.Path.{refl}
 use lib.ListN.{drop}
 use Rattle.read_goal.proofs.Turn.{row-fuel, row_last, row_more, row-none}
 use Rattle.read_goal.proofs.Spanned.{SpanLeft, span-start, span-on, span_last, span-done, term-rest}
-use Rattle.text_program.specs.Source.{readTerm, row, rowFor}
+use Rattle.text_program.specs.Source.{read_term, row, row_for}
 use lib.ListN.{length}
 use Prim.Native.Nat.{◌-◌}
 use borrow.Author.Rules.{rules}
@@ -12,7 +12,7 @@ use Rattle.read_goal.proofs.names.Statement.{statement}
 use Rattle.read_goal.proofs.names.Tie as tie
 
 abbrev invariant-loop : tie.invariant-loop
-invariant-loop s at q₀ n₀ left₀ q n left = SpanLeft s (row readTerm 44 (drop at s)) (rowFor left readTerm 44 (drop q s)) true true q n left
+invariant-loop s at q₀ n₀ left₀ q n left = SpanLeft s (row read_term 44 (drop at s)) (row_for left read_term 44 (drop q s)) true true q n left
 
 abbrev decreases-loop : tie.decreases-loop
 decreases-loop s at q₀ n₀ left₀ q n left = left
@@ -24,13 +24,13 @@ names-spec =
     invariant-loop
     decreases-loop
     (λ c. search rules)
-    (λ c. span-start _ c.before.requires (omega arith) (row-fuel readTerm 44 c.before.args.s.now c.before.args.at (length c.before.args.s.now - c.before.args.at) refl) refl)
+    (λ c. span-start _ c.before.requires (omega arith) (row-fuel read_term 44 c.before.args.s.now c.before.args.at (length c.before.args.s.now - c.before.args.at) refl) refl)
     (λ c κs. c.before.loop.invariant.inside)
     (λ c. let h = c.before.before.loop.invariant.budget in omega arith)
     (λ c κs. search rules)
-    (λ c. span_last _ _ (row_last readTerm 44 c.before.before.before.before.before.before.args.s.now c.before.before.before.before.loop.left c.before.before.before.before.loop.q c.before.before.past-name.result _ (term-rest c.before.before.before.before.before.before.args.s.now c.before.before.before.before.loop.q c.before.before.past-name.result c.before.before.past-name.ensures.0) c.before.byte-at.ensures.0 c.before.before.before.loop-test.true c.if1.true) refl c.before.before.past-name.ensures.1 c.before.before.before.before.loop.invariant)
+    (λ c. span_last _ _ (row_last read_term 44 c.before.before.before.before.before.before.args.s.now c.before.before.before.before.loop.left c.before.before.before.before.loop.q c.before.before.past-name.result _ (term-rest c.before.before.before.before.before.before.args.s.now c.before.before.before.before.loop.q c.before.before.past-name.result c.before.before.past-name.ensures.0) c.before.byte-at.ensures.0 c.before.before.before.loop-test.true c.if1.true) refl c.before.before.past-name.ensures.1 c.before.before.before.before.loop.invariant)
     (λ c κs. c.before.before.past-name.ensures.1)
     (λ c. search rules)
     (λ c. search rules)
-    (λ c. span-on _ _ (row_more readTerm 44 c.before.before.before.before.before.before.before.args.s.now c.before.before.before.before.before.loop.left c.before.before.before.before.before.loop.q c.before.before.before.past-name.result _ (term-rest c.before.before.before.before.before.before.before.args.s.now c.before.before.before.before.before.loop.q c.before.before.before.past-name.result c.before.before.before.past-name.ensures.0) c.before.before.byte-at.ensures.0 c.after-mark.result c.before.before.before.before.loop-test.true c.before.if1.false c.after-mark.ensures.0) refl c.before.before.before.before.loop-test.true c.after-mark.ensures.1 c.before.before.before.before.before.loop.invariant)
-    (λ c. span-done _ (row-none readTerm 44 c.before.before.before.args.s.now c.before.loop.left c.before.loop.q (omega arith)) refl c.before.loop.invariant))
+    (λ c. span-on _ _ (row_more read_term 44 c.before.before.before.before.before.before.before.args.s.now c.before.before.before.before.before.loop.left c.before.before.before.before.before.loop.q c.before.before.before.past-name.result _ (term-rest c.before.before.before.before.before.before.before.args.s.now c.before.before.before.before.before.loop.q c.before.before.before.past-name.result c.before.before.before.past-name.ensures.0) c.before.before.byte-at.ensures.0 c.after-mark.result c.before.before.before.before.loop-test.true c.before.if1.false c.after-mark.ensures.0) refl c.before.before.before.before.loop-test.true c.after-mark.ensures.1 c.before.before.before.before.before.loop.invariant)
+    (λ c. span-done _ (row-none read_term 44 c.before.before.before.args.s.now c.before.loop.left c.before.loop.q (omega arith)) refl c.before.loop.invariant))

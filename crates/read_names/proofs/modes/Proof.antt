@@ -1,5 +1,5 @@
-use Rattle.read_goal.proofs.Spanned.{no-brackets, in-brackets}
-use Rattle.text_program.specs.Source.{readMode}
+use Rattle.read_goal.proofs.Spanned.{no_brackets, in_brackets}
+use Rattle.text_program.specs.Source.{read_mode}
 use borrow.Author.Rules.{rules}
 use Rattle.read_names.proofs.modes.Statement.{statement}
 use Rattle.read_names.proofs.modes.Tie as tie
@@ -9,8 +9,8 @@ modes-spec =
     tie.close
     (tie.spec
     (λ c κs. search rules)
-    (λ c. no-brackets c.before.before.before.args.s.now c.before.before.before.args.at 0 readMode _ c.before.before.before.requires c.before.byte-at.ensures.0 c.if1.true)
+    (λ c. no_brackets c.before.before.before.args.s.now c.before.before.before.args.at 0 read_mode _ c.before.before.before.requires c.before.byte-at.ensures.0 c.if1.true)
     (λ c κs. search rules)
     (λ c κs. c.after-mark.ensures.1)
     (λ c κs. c.marks.ensures.inside)
-    (λ c. in-brackets c.before.before.before.before.before.before.args.s.now c.before.before.before.before.before.before.args.at c.after-mark2.result readMode _ c.before.before.after-mark.result c.before.marks.result c.before.before.before.before.byte-at.ensures.0 c.before.before.before.if1.false c.before.before.after-mark.ensures.0 c.before.marks.ensures c.after-mark2.ensures.0 c.after-mark2.ensures.1))
+    (λ c. in_brackets c.before.before.before.before.before.before.args.s.now c.before.before.before.before.before.before.args.at c.after-mark2.result read_mode _ c.before.before.after-mark.result c.before.marks.result c.before.before.before.before.byte-at.ensures.0 c.before.before.before.if1.false c.before.before.after-mark.ensures.0 c.before.marks.ensures c.after-mark2.ensures.0 c.after-mark2.ensures.1))

@@ -10,8 +10,8 @@ unfolding small
 restore-requires c κs = let r = resume-restores _ _ _ _ c.before.before.before.before.before.before.decided.ensures c.before.before.before.before.d.given.1 in
     let n = r.procs in
     let v = r.vars in
-    let a = r.procs-most in
-    let b = r.vars-most in
+    let a = r.procs_most in
+    let b = r.vars_most in
     (omega arith, omega arith, r.inside, r.head, omega arith, omega arith, omega arith, omega arith)
 
 pub resume-spec : {M : Type 1} → statement M

@@ -6,13 +6,13 @@ use native.Mathlib.Omega.{arith}
 use Rattle.parlog.specs.Program.{program_of}
 use Rattle.parlog.specs.Rules.{member}
 use Rattle.parlog.specs.Scan.{build}
-use Rattle.parlog.specs.Tables.{procsOf}
+use Rattle.parlog.specs.Tables.{procs_of}
 use Rattle.rules_and.proofs.Children.{fill_end, fill-next, fill_start}
 use Rattle.rules_and.proofs.members.Statement.{statement}
 use Rattle.rules_and.proofs.members.Tie as tie
 
 abbrev invariant-loop : tie.invariant-loop
-invariant-loop image rels clauses ix p z k new₀ j₀ new j = (j ≤ k) × (length new ≡ length new₀) × (procsOf new j ≡ build (member (program_of image rels clauses) p z) j)
+invariant-loop image rels clauses ix p z k new₀ j₀ new j = (j ≤ k) × (length new ≡ length new₀) × (procs_of new j ≡ build (member (program_of image rels clauses) p z) j)
 
 abbrev decreases-loop : tie.decreases-loop
 decreases-loop image rels clauses ix p z k new₀ j₀ new j = k - j

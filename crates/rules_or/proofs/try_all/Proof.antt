@@ -4,8 +4,8 @@ use Prim.Native.Nat.{◌+◌, ◌*◌, ◌-◌, ◌≤◌}
 use lib.ListN.{drop, length}
 use borrow.Author.Rules.{rules}
 use native.Mathlib.Omega.{arith}
-use Rattle.parlog.specs.Tables.{procsOf}
-use Rattle.parlog.specs.Rules.{tries, triesVars}
+use Rattle.parlog.specs.Tables.{procs_of}
+use Rattle.parlog.specs.Rules.{tries, tries_vars}
 use Rattle.parlog.specs.Program.{block_of, program_of}
 use Rattle.rules_or.proofs.Tried.{tries-end, tries-next, tries-start, vars-end, vars-next}
 use Rattle.rules_or.proofs.try_all.Statement.{statement}
@@ -13,8 +13,8 @@ use Rattle.rules_or.proofs.try_all.Tie as tie
 
 abbrev invariant-loop : tie.invariant-loop
 invariant-loop image rels clauses ix rows₀ m p z rel b size v₀ j₀ rows v j = (j ≤ size) × (v ≤ m + 510 * j) × (length rows ≡ length rows₀)
-    × (procsOf rows j ++ tries (program_of image rels clauses) p z v (drop j (block_of (program_of image rels clauses) rel b)) ≡ tries (program_of image rels clauses) p z m (block_of (program_of image rels clauses) rel b))
-    × (v + triesVars (program_of image rels clauses) (drop j (block_of (program_of image rels clauses) rel b)) ≡ m + triesVars (program_of image rels clauses) (block_of (program_of image rels clauses) rel b))
+    × (procs_of rows j ++ tries (program_of image rels clauses) p z v (drop j (block_of (program_of image rels clauses) rel b)) ≡ tries (program_of image rels clauses) p z m (block_of (program_of image rels clauses) rel b))
+    × (v + tries_vars (program_of image rels clauses) (drop j (block_of (program_of image rels clauses) rel b)) ≡ m + tries_vars (program_of image rels clauses) (block_of (program_of image rels clauses) rel b))
 
 abbrev decreases-loop : tie.decreases-loop
 decreases-loop image rels clauses ix rows₀ m p z rel b size v₀ j₀ rows v j = size - j

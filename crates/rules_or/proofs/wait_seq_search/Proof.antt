@@ -15,4 +15,4 @@ wait-seq-search-spec =
     (λ c κs. search rules)
     (λ c. (λ vs. seq-silent _ _ _ vs _ _ c.before.before.before.before.before.requires.6.latest c.before.enum_told.given.1 c.none.ensures.0, c.none.ensures.1, c.none.ensures.2))
     (λ c. (λ vs. seq-good _ _ _ vs _ _ c.before.before.before.before.before.before.requires.6.latest c.before.before.h.given.1 (c.commit.ensures.0 vs), c.commit.ensures.1, c.commit.ensures.2))
-    (λ c. (λ vs. seq-bad _ _ _ vs _ _ c.before.before.before.before.before.before.requires.6.latest c.before.before.h2.given.1 c.next-block.ensures.0, c.next-block.ensures.1, c.next-block.ensures.2)))
+    (λ c. (λ vs. seq-bad _ _ _ vs _ _ c.before.before.before.before.before.before.requires.6.latest c.before.before.h2.given.1 c.next_block.ensures.0, c.next_block.ensures.1, c.next_block.ensures.2)))

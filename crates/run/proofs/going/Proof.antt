@@ -26,12 +26,12 @@ going-spec =
     (λ c. search rules)
     (λ c. search rules)
     (λ c. omega (arith, c.before.before.before.before.before.before.before.loop.invariant.inside.head, c.before.before.before.before.before.before.before.before.before.before.before.before.requires.0.head))
-    (λ c. omega (arith, c.before.before.before.before.before.before.before.loop.invariant.inside.procs-size, c.before.before.before.before.before.before.before.before.before.before.before.before.requires.0.procs-size))
-    (λ c. omega (arith, c.before.before.before.before.before.before.before.loop.invariant.inside.vars-size, c.before.before.before.before.before.before.before.before.before.before.before.before.requires.0.vars-size))
+    (λ c. omega (arith, c.before.before.before.before.before.before.before.loop.invariant.inside.procs_size, c.before.before.before.before.before.before.before.before.before.before.before.before.requires.0.procs_size))
+    (λ c. omega (arith, c.before.before.before.before.before.before.before.loop.invariant.inside.vars_size, c.before.before.before.before.before.before.before.before.before.before.before.before.requires.0.vars_size))
     (λ c. going-none _ _ _ _ _ _ c.before.before.before.before.before.before.before.before.before.before.before.before.requires.0 _ _ c.before.before.before.before.before.before.before.loop.invariant c.before.before.look.ensures c.enum_told.given.1)
     (λ c. omega (arith, c.before.before.before.before.before.before.before.before.before.loop.invariant.inside.head, c.before.before.before.before.before.before.before.before.before.before.before.before.before.before.requires.0.head))
-    (λ c. omega (arith, c.before.before.before.before.before.before.before.before.before.loop.invariant.inside.procs-size, c.before.before.before.before.before.before.before.before.before.before.before.before.before.before.requires.0.procs-size))
-    (λ c. omega (arith, c.before.before.before.before.before.before.before.before.before.loop.invariant.inside.vars-size, c.before.before.before.before.before.before.before.before.before.before.before.before.before.before.requires.0.vars-size))
+    (λ c. omega (arith, c.before.before.before.before.before.before.before.before.before.loop.invariant.inside.procs_size, c.before.before.before.before.before.before.before.before.before.before.before.before.before.before.requires.0.procs_size))
+    (λ c. omega (arith, c.before.before.before.before.before.before.before.before.before.loop.invariant.inside.vars_size, c.before.before.before.before.before.before.before.before.before.before.before.before.before.before.requires.0.vars_size))
     (λ c. let c1 = c.before.before.before.before in
     let c2 = c1.before.before.before.before.before in
     let c3 = c2.before.before.before.before.before in
@@ -43,8 +43,8 @@ going-spec =
     (λ c. search rules)
     (λ c. search rules)
     (λ c. omega (arith, c.before.before.before.before.before.before.before.head.given, c.before.before.before.before.before.before.before.before.before.before.before.before.before.before.before.before.before.before.before.before.before.loop.invariant.inside.head, c.before.before.before.before.before.before.before.before.before.before.before.before.before.before.before.before.before.before.before.before.before.before.before.before.before.before.requires.0.head))
-    (λ c. omega (arith, c.before.before.before.before.before.procs.given, c.before.before.before.before.before.before.before.before.before.before.before.before.before.before.before.before.before.before.before.before.before.loop.invariant.inside.procs-size, c.before.before.before.before.before.before.before.before.before.before.before.before.before.before.before.before.before.before.before.before.before.before.before.before.before.before.requires.0.procs-size))
-    (λ c. omega (arith, c.before.before.before.vars.given, c.before.before.before.before.before.before.before.before.before.before.before.before.before.before.before.before.before.before.before.before.before.loop.invariant.inside.vars-size, c.before.before.before.before.before.before.before.before.before.before.before.before.before.before.before.before.before.before.before.before.before.before.before.before.before.before.requires.0.vars-size))
+    (λ c. omega (arith, c.before.before.before.before.before.procs.given, c.before.before.before.before.before.before.before.before.before.before.before.before.before.before.before.before.before.before.before.before.before.loop.invariant.inside.procs_size, c.before.before.before.before.before.before.before.before.before.before.before.before.before.before.before.before.before.before.before.before.before.before.before.before.before.before.requires.0.procs_size))
+    (λ c. omega (arith, c.before.before.before.vars.given, c.before.before.before.before.before.before.before.before.before.before.before.before.before.before.before.before.before.before.before.before.before.loop.invariant.inside.vars_size, c.before.before.before.before.before.before.before.before.before.before.before.before.before.before.before.before.before.before.before.before.before.before.before.before.before.before.requires.0.vars_size))
     (λ c. let c1 = c.before.before.before.before.before.before.before.before in
     let c2 = c1.before.before.before.before in
     let c3 = c2.before.before in
@@ -62,6 +62,6 @@ going-spec =
     let c6 = c5.before.before.before.before.before in
     going_on _ _ _ _ _ _ c6.requires.0 _ _ c5.loop.invariant c4.look.ensures c3.f.given.1 c2.if1.false c1.stepped.ensures c.enum-told2.given.1)
     (λ c. omega (arith, c.before.loop.invariant.inside.head, c.before.before.before.before.before.before.requires.0.head))
-    (λ c. omega (arith, c.before.loop.invariant.inside.procs-size, c.before.before.before.before.before.before.requires.0.procs-size))
-    (λ c. omega (arith, c.before.loop.invariant.inside.vars-size, c.before.before.before.before.before.before.requires.0.vars-size))
+    (λ c. omega (arith, c.before.loop.invariant.inside.procs_size, c.before.before.before.before.before.before.requires.0.procs_size))
+    (λ c. omega (arith, c.before.loop.invariant.inside.vars_size, c.before.before.before.before.before.before.requires.0.vars_size))
     (λ c. let m = c.before.loop.invariant.most in let t = c.loop-test.false in absurd (omega arith)))

@@ -13,5 +13,5 @@ whose-spec =
     (λ c κs. search rules)
     (λ c κs. search rules)
     (λ c κs. search rules)
-    (λ c κs. (omega (arith, c.before.before.before.before.before.before.requires.rows, c.before.before.proc-count.ensures.0), omega (arith, c.before.before.before.before.before.before.requires.procs-most, c.before.before.proc-count.ensures.0), omega (arith, c.before.before.before.before.before.before.requires.cells, c.before.var-count.ensures.0), rw (c.before.before.proc-count.ensures.0) c.before.before.before.before.before.before.requires.falls, omega (arith, c.before.before.before.before.before.before.requires.last, c.before.before.proc-count.ensures.0, c.marker-last.ensures.0)))
+    (λ c κs. (omega (arith, c.before.before.before.before.before.before.requires.rows, c.before.before.proc-count.ensures.0), omega (arith, c.before.before.before.before.before.before.requires.procs_most, c.before.before.proc-count.ensures.0), omega (arith, c.before.before.before.before.before.before.requires.cells, c.before.var-count.ensures.0), rw (c.before.before.proc-count.ensures.0) c.before.before.before.before.before.before.requires.falls, omega (arith, c.before.before.before.before.before.before.requires.last, c.before.before.proc-count.ensures.0, c.marker-last.ensures.0)))
     (λ c. whose-is _ _ _ c.before.before.before.proc-count.ensures.0 c.before.before.var-count.ensures.0 c.before.marker-last.ensures.0 c.next.ensures.0 c.next.ensures.1))

@@ -1,5 +1,5 @@
 use Rattle.parlog.proofs.Limits.{small-usable}
-use Rattle.run_traced.proofs.Noting.{move-kept, move-noted, rule-within}
+use Rattle.run_traced.proofs.Noting.{move-kept, move_noted, rule-within}
 use borrow.Author.Rules.{rules}
 use Rattle.run_traced.proofs.move_noted.Statement.{statement}
 use Rattle.run_traced.proofs.move_noted.Tie as tie
@@ -21,4 +21,4 @@ move-noted-spec =
     (λ c. search rules)
     (λ c. search rules)
     (λ c. search rules)
-    (λ c. move-noted _ _ _ _ _ _ c.before.before.before.before.before.before.before.before.before.before.before.before.before.before.stepped.ensures _ _ _ c.before.before.before.before.before.before.a.given.1 c.before.before.before.before.rule-number.ensures.0 c.before.before.put_record.ensures.row))
+    (λ c. move_noted _ _ _ _ _ _ c.before.before.before.before.before.before.before.before.before.before.before.before.before.before.stepped.ensures _ _ _ c.before.before.before.before.before.before.a.given.1 c.before.before.before.before.rule-number.ensures.0 c.before.before.put_record.ensures.row))

@@ -1,12 +1,12 @@
 use native.Mathlib.Omega.{arith}
 use Rattle.machine.proofs.Looking.{var-top}
-use Rattle.parlog.specs.Tables.{varsIn}
+use Rattle.parlog.specs.Tables.{vars_in}
 use Rattle.runner.proofs.Telling.{list_done, Listing, list_on, list-start}
 use Rattle.runner.proofs.lines.Statement.{statement}
 use Rattle.runner.proofs.lines.Tie as tie
 
 abbrev invariant-loop : tie.invariant-loop
-invariant-loop vars n goal out₀ p₀ v₀ out p v = Listing out₀ (varsIn vars n) goal out p v
+invariant-loop vars n goal out₀ p₀ v₀ out p v = Listing out₀ (vars_in vars n) goal out p v
 
 abbrev decreases-loop : tie.decreases-loop
 decreases-loop vars n goal out₀ p₀ v₀ out p v = v

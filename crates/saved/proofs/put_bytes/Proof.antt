@@ -3,13 +3,13 @@ use mathlib.Core.Path.{◌≡◌}
 use borrow.Author.Rules.{rules}
 use lib.ListN.{length}
 use Rattle.lay.specs.Lay.{Lays}
-use Rattle.saved.specs.Form.{bytesFrom}
+use Rattle.saved.specs.Form.{bytes_from}
 use Rattle.saved.proofs.Written.{bytes-end, bytes-none, bytes-step}
 use Rattle.saved.proofs.put_bytes.Statement.{statement}
 use Rattle.saved.proofs.put_bytes.Tie as tie
 
 abbrev invariant-loop : tie.invariant-loop
-invariant-loop out₀ at row from n next₀ k₀ out next k = (k ≤ n) × (next ≡ at + k) × (length out ≡ length out₀) × Lays out₀ out at (bytesFrom row from k) next
+invariant-loop out₀ at row from n next₀ k₀ out next k = (k ≤ n) × (next ≡ at + k) × (length out ≡ length out₀) × Lays out₀ out at (bytes_from row from k) next
 
 abbrev decreases-loop : tie.decreases-loop
 decreases-loop out₀ at row from n next₀ k₀ out next k = n - k

@@ -1,6 +1,6 @@
 use Rattle.lay.proofs.Laws.{lays-then}
 use Rattle.saved.proofs.Written.{record-place}
-use Rattle.saved.specs.Form.{headRecord}
+use Rattle.saved.specs.Form.{head_record}
 use native.Mathlib.Omega.{arith}
 use borrow.Author.Rules.{rules}
 use Rattle.saved.proofs.put_head.Statement.{statement}
@@ -8,7 +8,7 @@ use Rattle.saved.proofs.put_head.Tie as tie
 
 -- src/lib.rt:108:1
 returns : tie.Need-returns
-unfolding headRecord
+unfolding head_record
 returns c = lays-then (lays-then c.before.before.before.before.before.before.before.before.before.before.put_record.ensures c.before.before.before.before.before.before.put2.ensures) c.before.before.put22.ensures
 
 pub put-head-spec : {M : Type 1} → statement M

@@ -3,19 +3,19 @@ use mathlib.Core.Path.{◌∙◌, ◌≡◌, refl, sym}
 use native.Mathlib.Omega.{arith}
 use borrow.Author.Rules.{rules}
 use lib.ListN.{length}
-use Rattle.saved.specs.Reading.{reads, readSaved}
+use Rattle.saved.specs.Reading.{reads, read_saved}
 use Rattle.saved.proofs.Passing.{end_none, end_whole, loop-begun, loop-inside, loop-step, stops}
 use Rattle.saved.proofs.read.Statement.{statement}
 use Rattle.saved.proofs.read.Tie as tie
 
 abbrev invariant-loop : tie.invariant-loop
-invariant-loop s n at₀ g₀ at g = (reads s (length s) at g ≡ readSaved s) × (g.procs ≤ at) × (g.vars ≤ at) × (at ≤ length s)
+invariant-loop s n at₀ g₀ at g = (reads s (length s) at g ≡ read_saved s) × (g.procs ≤ at) × (g.vars ≤ at) × (at ≤ length s)
 
 abbrev decreases-loop : tie.decreases-loop
 decreases-loop s n at₀ g₀ at g = length s - at
 
 loop-holds : tie.Need-loop-init invariant-loop decreases-loop
-unfolding readSaved
+unfolding read_saved
 loop-holds c = (refl, omega arith, omega arith, omega arith)
 
 returns : tie.Need-returns invariant-loop decreases-loop

@@ -8,9 +8,9 @@ use Rattle.saved.proofs.restore.Tie as tie
 returns : tie.Need-returns
 returns c = let s = c.before.before.before.before.before.before.before.before.before.before.before.before.before.before.before.before.args in
     record {
-      head-is = head_done s.head.now _ (from-length s.s.now 4 10 ∙ sym c.before.before.before.before.before.before.before.before.before.before.before.before.before.before.before.before.requires.3) c.before.before.before.before.before.before.before.before.before.before.put-bytes.ensures.row;
-      procs-are = c.before.before.before.before.before.before.take-processes.ensures;
-      vars-are = c.before.before.take-variables.ensures;
+      head_is = head_done s.head.now _ (from-length s.s.now 4 10 ∙ sym c.before.before.before.before.before.before.before.before.before.before.before.before.before.before.before.before.requires.3) c.before.before.before.before.before.before.before.before.before.before.put-bytes.ensures.row;
+      procs_are = c.before.before.before.before.before.before.take-processes.ensures;
+      vars_are = c.before.before.take-variables.ensures;
     }
 
 pub restore-spec : {M : Type 1} → statement M

@@ -1,7 +1,7 @@
-use Rattle.spell.specs.Rows.{cellCount, kindCount, lastState}
+use Rattle.spell.specs.Rows.{cell_count, kind_count, last_state}
 use Rattle.spell.proofs.Sim.{row-run-stuck}
 use borrow.Author.Tests.{eq-eqb, ne_eqb}
-use Rattle.spell.specs.Table.{rowRun}
+use Rattle.spell.specs.Table.{row_run}
 use lib.ListN.{length, drop}
 use Prim.Native.Nat.{◌*◌, ◌+◌, ◌≤◌, ◌-◌}
 use mathlib.Core.Path.{◌≡◌, refl, sym, ◌∙◌}
@@ -12,7 +12,7 @@ use Rattle.spell.proofs.scan.Statement.{statement}
 use Rattle.spell.proofs.scan.Tie as tie
 
 abbrev invariant-loop : tie.invariant-loop
-invariant-loop ks rs text row₀ i₀ row i = (row + kindCount ≤ cellCount) × (i ≤ length text) × (rowRun (drop i text) row i ≡ rowRun text kindCount 0)
+invariant-loop ks rs text row₀ i₀ row i = (row + kind_count ≤ cell_count) × (i ≤ length text) × (row_run (drop i text) row i ≡ row_run text kind_count 0)
 
 abbrev decreases-loop : tie.decreases-loop
 decreases-loop ks rs text row₀ i₀ row i = length text - i
@@ -39,10 +39,10 @@ loop-again : tie.Need-loop-preserved invariant-loop decreases-loop
 loop-again c = let p = c.before.before.before.before.loop in (c.before.follows.ensures.1, omega arith, sym (run-go (c.before.before.before.before.before.before.args.text.now) p.row (c.before.follows.result) p.i (c.before.before.before.loop-test.true) (c.before.follows.ensures.0) c.if1.false) ∙ p.invariant.2)
 
 returns-2 : tie.Need-returns-2 invariant-loop decreases-loop
-returns-2 c = let p = c.before.before.loop in sym (run_end (c.before.before.before.before.args.text.now) p.row p.i (omega arith) ∙ rw (eq-eqb p.row (lastState * kindCount) c.if2.true)) ∙ p.invariant.2 ∙ row-run-stuck _ (λ j. omega (arith, c.before.before.before.shared-slice-known.given j))
+returns-2 c = let p = c.before.before.loop in sym (run_end (c.before.before.before.before.args.text.now) p.row p.i (omega arith) ∙ rw (eq-eqb p.row (last_state * kind_count) c.if2.true)) ∙ p.invariant.2 ∙ row-run-stuck _ (λ j. omega (arith, c.before.before.before.shared-slice-known.given j))
 
 returns-3 : tie.Need-returns-3 invariant-loop decreases-loop
-returns-3 c = let p = c.before.before.loop in sym (run_end (c.before.before.before.before.args.text.now) p.row p.i (omega arith) ∙ rw (ne_eqb p.row (lastState * kindCount) c.if2.false)) ∙ p.invariant.2 ∙ row-run-stuck _ (λ j. omega (arith, c.before.before.before.shared-slice-known.given j))
+returns-3 c = let p = c.before.before.loop in sym (run_end (c.before.before.before.before.args.text.now) p.row p.i (omega arith) ∙ rw (ne_eqb p.row (last_state * kind_count) c.if2.false)) ∙ p.invariant.2 ∙ row-run-stuck _ (λ j. omega (arith, c.before.before.before.shared-slice-known.given j))
 
 pub scan-spec : {M : Type 1} → statement M
 scan-spec =

@@ -4,13 +4,13 @@ use native.Mathlib.Omega.{arith}
 use mathlib.Core.Path.{◌≡◌, ◌∙◌, refl, sym}
 use borrow.Author.Tests.{not-true, not-false}
 use Rattle.parlog.specs.Scan.{every}
-use Rattle.table_rules.specs.Parts.{cellOk}
+use Rattle.table_rules.specs.Parts.{cell_ok}
 use Rattle.table_rules.proofs.Whole.{cells-both, down-none, down_step, down-stop}
 use Rattle.table_rules.proofs.cells_ok.Statement.{statement}
 use Rattle.table_rules.proofs.cells_ok.Tie as tie
 
 abbrev invariant-loop : tie.invariant-loop
-invariant-loop vars n q₀ q = (q ≤ n) × (every (cellOk vars n) n ≡ every (cellOk vars n) q)
+invariant-loop vars n q₀ q = (q ≤ n) × (every (cell_ok vars n) n ≡ every (cell_ok vars n) q)
 
 abbrev decreases-loop : tie.decreases-loop
 decreases-loop vars n q₀ q = q

@@ -4,15 +4,15 @@ use native.Mathlib.Omega.{arith}
 use mathlib.Core.Path.{◌≡◌, ◌∙◌, refl, sym}
 use borrow.Author.Tests.{not-true, not-false}
 use Rattle.parlog.specs.Scan.{every}
-use Rattle.parlog.specs.Tables.{procsOf}
+use Rattle.parlog.specs.Tables.{procs_of}
 use Rattle.parlog.specs.Program.{program_of}
-use Rattle.parlog.specs.TableRules.{rowOk}
+use Rattle.parlog.specs.TableRules.{row_ok}
 use Rattle.table_rules.proofs.Whole.{down-none, down_step, down-stop}
 use Rattle.table_rules.proofs.rows_ok.Statement.{statement}
 use Rattle.table_rules.proofs.rows_ok.Tie as tie
 
 abbrev invariant-loop : tie.invariant-loop
-invariant-loop image rels clauses ix procs count n q₀ q = (q ≤ count) × (every (rowOk (program_of image rels clauses) (procsOf procs count) n) count ≡ every (rowOk (program_of image rels clauses) (procsOf procs count) n) q)
+invariant-loop image rels clauses ix procs count n q₀ q = (q ≤ count) × (every (row_ok (program_of image rels clauses) (procs_of procs count) n) count ≡ every (row_ok (program_of image rels clauses) (procs_of procs count) n) q)
 
 abbrev decreases-loop : tie.decreases-loop
 decreases-loop image rels clauses ix procs count n q₀ q = q

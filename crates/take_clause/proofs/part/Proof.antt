@@ -1,4 +1,4 @@
-use Rattle.read_names.specs.Tables.{modesFrom}
+use Rattle.read_names.specs.Tables.{modes_from}
 use Rattle.read_clause.proofs.Parted.{part-goal, part_body}
 use Rattle.take_clause.proofs.Recorded.{part-nothing}
 use mathlib.Core.Path.{refl}
@@ -13,7 +13,7 @@ part-spec =
     (λ c κs. search rules)
     (λ c κs. search rules)
     (λ c. search rules)
-    (λ c. part-nothing (modesFrom c.before.before.before.before.before.before.before.before.before.before.before.before.before.before.args.s.now c.before.before.before.before.before.before.before.before.before.before.before.before.before.before.args.lines.from) c.before.before.before.before.before.before.before.before.before.before.before.before.before.before.args.how c.before.before.before.before.before.if1.true c.before.before.before.before.before.before.before.before.before.before.before.before.before.before.requires.0 c.before.before.before.number.ensures refl c.behind.ensures)
+    (λ c. part-nothing (modes_from c.before.before.before.before.before.before.before.before.before.before.before.before.before.before.args.s.now c.before.before.before.before.before.before.before.before.before.before.before.before.before.before.args.lines.from) c.before.before.before.before.before.before.before.before.before.before.before.before.before.before.args.how c.before.before.before.before.before.if1.true c.before.before.before.before.before.before.before.before.before.before.before.before.before.before.requires.0 c.before.before.before.number.ensures refl c.behind.ensures)
     (λ c κs. (c.before.before.before.before.before.before.before.before.before.before.before.before.before.before.requires.0, c.before.before.before.before.before.before.before.before.before.before.before.before.before.before.requires.1))
     (λ c. search rules)
     (λ c. search rules)

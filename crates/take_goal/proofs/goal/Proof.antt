@@ -1,6 +1,6 @@
-use Rattle.read_names.specs.Tables.{modesFrom}
+use Rattle.read_names.specs.Tables.{modes_from}
 use Rattle.take_goal.proofs.Ways.{goal-row, puts-ready, take-goal}
-use Rattle.text_program.specs.Source.{readLiteral, row}
+use Rattle.text_program.specs.Source.{read_literal, row}
 use borrow.Author.Rules.{rules}
 use Rattle.take_goal.proofs.goal.Statement.{statement}
 use Rattle.take_goal.proofs.goal.Tie as tie
@@ -16,4 +16,4 @@ goal-spec =
     (λ c. search rules)
     (λ c. search rules)
     (λ c. search rules)
-    (λ c. (goal-row (modesFrom (c.before.before.before.before.before.before.before.before.before.before.before.before.before.before.before.before.before.before.before.before.before.before.before.before.before.before.before.before.before.args.s.now) (c.before.before.before.before.before.before.before.before.before.before.before.before.before.before.before.before.before.before.before.before.before.before.before.before.before.before.before.before.before.args.lines.from)) (take-goal (modesFrom (c.before.before.before.before.before.before.before.before.before.before.before.before.before.before.before.before.before.before.before.before.before.before.before.before.before.before.before.before.before.args.s.now) (c.before.before.before.before.before.before.before.before.before.before.before.before.before.before.before.before.before.before.before.before.before.before.before.before.before.before.before.before.before.args.lines.from)) (row (row readLiteral 44) 38) c.before.before.before.before.before.before.before.before.before.before.before.before.before.before.before.before.before.before.before.number.ensures c.before.before.before.before.before.before.before.before.before.before.before.before.stages.ensures c.before.before.patch.ensures))))
+    (λ c. (goal-row (modes_from (c.before.before.before.before.before.before.before.before.before.before.before.before.before.before.before.before.before.before.before.before.before.before.before.before.before.before.before.before.before.args.s.now) (c.before.before.before.before.before.before.before.before.before.before.before.before.before.before.before.before.before.before.before.before.before.before.before.before.before.before.before.before.before.args.lines.from)) (take-goal (modes_from (c.before.before.before.before.before.before.before.before.before.before.before.before.before.before.before.before.before.before.before.before.before.before.before.before.before.before.before.before.before.args.s.now) (c.before.before.before.before.before.before.before.before.before.before.before.before.before.before.before.before.before.before.before.before.before.before.before.before.before.before.before.before.before.args.lines.from)) (row (row read_literal 44) 38) c.before.before.before.before.before.before.before.before.before.before.before.before.before.before.before.before.before.before.before.number.ensures c.before.before.before.before.before.before.before.before.before.before.before.before.stages.ensures c.before.before.patch.ensures))))

@@ -2,14 +2,14 @@ use mathlib.Core.Path.{◌∙◌, ◌≡◌, refl}
 use mathlib.Core.Bool.{false, true}
 use Prim.Native.Nat.{◌+◌, ◌-◌, ◌≤◌}
 use lib.ListN.{length}
-use Rattle.lay_literal.specs.Lows.{literalFits}
-use Rattle.text_program.specs.Numbered.{saidTerms}
-use Rattle.text_program.specs.Source.{readLiteral}
+use Rattle.lay_literal.specs.Lows.{literal_fits}
+use Rattle.text_program.specs.Numbered.{said_terms}
+use Rattle.text_program.specs.Source.{read_literal}
 use Rattle.lay_text.specs.Laying.{most}
-use Rattle.read_names.specs.Tables.{modesFrom}
+use Rattle.read_names.specs.Tables.{modes_from}
 use Rattle.take_goal.proofs.Going.{Going, going_done, going-last, going_on, going_start}
 use Rattle.take_goal.proofs.Ways.{links-same}
-use Rattle.take_goal.specs.Turns.{literalIn}
+use Rattle.take_goal.specs.Turns.{literal_in}
 use Rattle.take_term.proofs.Laws.{takes-ready}
 use Rattle.take_term.specs.Takes.{rows}
 use borrow.Author.Rules.{rules}
@@ -18,7 +18,7 @@ use Rattle.take_goal.proofs.literals.Statement.{statement}
 use Rattle.take_goal.proofs.literals.Tie as tie
 
 abbrev invariant-loop : tie.invariant-loop
-invariant-loop s rels arities chains lines out₀ consts₀ links₀ vars₀ x₀ n₀ left₀ out consts links vars x n left = Going readLiteral 44 saidTerms (literalIn (modesFrom s lines.from)) (literalFits true (modesFrom s lines.from)) (literalFits false (modesFrom s lines.from)) s (rows out₀ consts₀ links₀ vars₀) x₀ (rows out consts links vars) x n left × (n + left ≤ most) × (length links ≡ length links₀)
+invariant-loop s rels arities chains lines out₀ consts₀ links₀ vars₀ x₀ n₀ left₀ out consts links vars x n left = Going read_literal 44 said_terms (literal_in (modes_from s lines.from)) (literal_fits true (modes_from s lines.from)) (literal_fits false (modes_from s lines.from)) s (rows out₀ consts₀ links₀ vars₀) x₀ (rows out consts links vars) x n left × (n + left ≤ most) × (length links ≡ length links₀)
 
 abbrev decreases-loop : tie.decreases-loop
 decreases-loop s rels arities chains lines out₀ consts₀ links₀ vars₀ x₀ n₀ left₀ out consts links vars x n left = left
@@ -30,7 +30,7 @@ literals-spec =
     invariant-loop
     decreases-loop
     (λ c. (c.before.before.before.before.before.before.before.before.before.requires.0.inside))
-    (λ c. (going_start readLiteral 44 saidTerms (literalIn (modesFrom (c.before.before.before.before.before.before.before.before.before.args.s.now) (c.before.before.before.before.before.before.before.before.before.args.lines.from))) (literalFits true (modesFrom (c.before.before.before.before.before.before.before.before.before.args.s.now) (c.before.before.before.before.before.before.before.before.before.args.lines.from))) (literalFits false (modesFrom (c.before.before.before.before.before.before.before.before.before.args.s.now) (c.before.before.before.before.before.before.before.before.before.args.lines.from))) (c.before.before.before.before.before.before.before.before.before.args.s.now) (rows (c.before.before.before.before.before.before.before.before.before.args.out.now) (c.before.before.before.before.before.before.before.before.before.args.consts.now) (c.before.before.before.before.before.before.before.before.before.args.links.now) (c.before.before.before.before.before.before.before.before.before.args.vars.now)) (c.before.before.before.before.before.before.before.before.before.args.w) (length (c.before.before.before.before.before.before.before.before.before.args.s.now) - (c.before.before.before.before.before.before.before.before.before.args.w.end)) refl c.before.before.before.before.before.before.before.before.before.requires.0 (omega arith) (omega arith), (omega arith), refl))
+    (λ c. (going_start read_literal 44 said_terms (literal_in (modes_from (c.before.before.before.before.before.before.before.before.before.args.s.now) (c.before.before.before.before.before.before.before.before.before.args.lines.from))) (literal_fits true (modes_from (c.before.before.before.before.before.before.before.before.before.args.s.now) (c.before.before.before.before.before.before.before.before.before.args.lines.from))) (literal_fits false (modes_from (c.before.before.before.before.before.before.before.before.before.args.s.now) (c.before.before.before.before.before.before.before.before.before.args.lines.from))) (c.before.before.before.before.before.before.before.before.before.args.s.now) (rows (c.before.before.before.before.before.before.before.before.before.args.out.now) (c.before.before.before.before.before.before.before.before.before.args.consts.now) (c.before.before.before.before.before.before.before.before.before.args.links.now) (c.before.before.before.before.before.before.before.before.before.args.vars.now)) (c.before.before.before.before.before.before.before.before.before.args.w) (length (c.before.before.before.before.before.before.before.before.before.args.s.now) - (c.before.before.before.before.before.before.before.before.before.args.w.end)) refl c.before.before.before.before.before.before.before.before.before.requires.0 (omega arith) (omega arith), (omega arith), refl))
     (λ c κs. (takes-ready c.before.before.before.before.before.loop.invariant.0.taken, c.before.before.before.before.before.before.before.before.before.before.before.before.before.before.before.requires.1))
     (λ c. (let h : c.before.before.before.before.before.before.before.before.before.before.before.before.before.before.loop.n + c.before.before.before.before.before.before.before.before.before.before.before.before.before.before.loop.left ≤ most = c.before.before.before.before.before.before.before.before.before.before.before.before.before.before.loop.invariant.1 in omega arith))
     (λ c κs. search rules)
@@ -39,15 +39,15 @@ literals-spec =
     (λ c. (c.before.before.before.before.before.before.before.before.before.before.before.literal.ensures.consts.size ∙ c.before.before.before.before.before.before.before.before.before.before.before.before.before.before.before.before.before.loop.invariant.0.taken.consts.size))
     (λ c. (links-same (takes-ready c.before.before.before.before.before.before.before.before.before.before.before.before.before.before.before.before.before.loop.invariant.0.taken) c.before.before.before.before.before.before.before.before.before.before.before.literal.ensures ∙ c.before.before.before.before.before.before.before.before.before.before.before.before.before.before.before.before.before.loop.invariant.2))
     (λ c. (c.before.before.before.before.before.before.before.before.before.before.before.literal.ensures.vars.size ∙ c.before.before.before.before.before.before.before.before.before.before.before.before.before.before.before.before.before.loop.invariant.0.taken.vars.size))
-    (λ c. (going-last readLiteral 44 saidTerms (literalIn (modesFrom (c.before.before.before.before.before.before.before.before.before.before.before.before.before.before.before.before.before.before.before.before.before.before.before.before.before.before.before.args.s.now) (c.before.before.before.before.before.before.before.before.before.before.before.before.before.before.before.before.before.before.before.before.before.before.before.before.before.before.before.args.lines.from))) (literalFits true (modesFrom (c.before.before.before.before.before.before.before.before.before.before.before.before.before.before.before.before.before.before.before.before.before.before.before.before.before.before.before.args.s.now) (c.before.before.before.before.before.before.before.before.before.before.before.before.before.before.before.before.before.before.before.before.before.before.before.before.before.before.before.args.lines.from))) (literalFits false (modesFrom (c.before.before.before.before.before.before.before.before.before.before.before.before.before.before.before.before.before.before.before.before.before.before.before.before.before.before.before.args.s.now) (c.before.before.before.before.before.before.before.before.before.before.before.before.before.before.before.before.before.before.before.before.before.before.before.before.before.before.before.args.lines.from))) (c.before.before.before.before.before.before.before.before.before.before.before.before.before.before.before.before.before.before.before.before.before.before.before.before.before.before.before.args.s.now) (rows (c.before.before.before.before.before.before.before.before.before.before.before.before.before.before.before.before.before.before.before.before.before.before.before.before.before.before.before.args.out.now) (c.before.before.before.before.before.before.before.before.before.before.before.before.before.before.before.before.before.before.before.before.before.before.before.before.before.before.before.args.consts.now) (c.before.before.before.before.before.before.before.before.before.before.before.before.before.before.before.before.before.before.before.before.before.before.before.before.before.before.before.args.links.now) (c.before.before.before.before.before.before.before.before.before.before.before.before.before.before.before.before.before.before.before.before.before.before.before.before.before.before.before.args.vars.now)) (c.before.before.before.before.before.before.before.before.before.before.before.before.before.before.before.before.before.before.before.before.before.before.before.before.before.before.before.args.w) c.before.before.before.before.before.before.before.before.before.before.before.before.before.before.before.before.before.loop.invariant.0 _ c.before.before.before.before.before.before.before.before.before.before.before.before.before.before.before.before.loop-test.true c.before.before.before.before.before.before.before.before.before.before.before.literal.ensures c.before.before.byte-at.ensures.0 c.before.if1.true c.move-to.ensures))
+    (λ c. (going-last read_literal 44 said_terms (literal_in (modes_from (c.before.before.before.before.before.before.before.before.before.before.before.before.before.before.before.before.before.before.before.before.before.before.before.before.before.before.before.args.s.now) (c.before.before.before.before.before.before.before.before.before.before.before.before.before.before.before.before.before.before.before.before.before.before.before.before.before.before.before.args.lines.from))) (literal_fits true (modes_from (c.before.before.before.before.before.before.before.before.before.before.before.before.before.before.before.before.before.before.before.before.before.before.before.before.before.before.before.args.s.now) (c.before.before.before.before.before.before.before.before.before.before.before.before.before.before.before.before.before.before.before.before.before.before.before.before.before.before.before.args.lines.from))) (literal_fits false (modes_from (c.before.before.before.before.before.before.before.before.before.before.before.before.before.before.before.before.before.before.before.before.before.before.before.before.before.before.before.args.s.now) (c.before.before.before.before.before.before.before.before.before.before.before.before.before.before.before.before.before.before.before.before.before.before.before.before.before.before.before.args.lines.from))) (c.before.before.before.before.before.before.before.before.before.before.before.before.before.before.before.before.before.before.before.before.before.before.before.before.before.before.before.args.s.now) (rows (c.before.before.before.before.before.before.before.before.before.before.before.before.before.before.before.before.before.before.before.before.before.before.before.before.before.before.before.args.out.now) (c.before.before.before.before.before.before.before.before.before.before.before.before.before.before.before.before.before.before.before.before.before.before.before.before.before.before.before.args.consts.now) (c.before.before.before.before.before.before.before.before.before.before.before.before.before.before.before.before.before.before.before.before.before.before.before.before.before.before.before.args.links.now) (c.before.before.before.before.before.before.before.before.before.before.before.before.before.before.before.before.before.before.before.before.before.before.before.before.before.before.before.args.vars.now)) (c.before.before.before.before.before.before.before.before.before.before.before.before.before.before.before.before.before.before.before.before.before.before.before.before.before.before.before.args.w) c.before.before.before.before.before.before.before.before.before.before.before.before.before.before.before.before.before.loop.invariant.0 _ c.before.before.before.before.before.before.before.before.before.before.before.before.before.before.before.before.loop-test.true c.before.before.before.before.before.before.before.before.before.before.before.literal.ensures c.before.before.byte-at.ensures.0 c.before.if1.true c.move-to.ensures))
     (λ c κs. (c.before.before.before.before.before.before.before.before.before.before.literal.ensures.inside))
     (λ c κs. search rules)
     (λ c. search rules)
     (λ c. search rules)
-    (λ c. (going_on readLiteral 44 saidTerms (literalIn (modesFrom (c.before.before.before.before.before.before.before.before.before.before.before.before.before.before.before.before.before.before.before.before.before.before.before.before.before.before.before.before.args.s.now) (c.before.before.before.before.before.before.before.before.before.before.before.before.before.before.before.before.before.before.before.before.before.before.before.before.before.before.before.before.args.lines.from))) (literalFits true (modesFrom (c.before.before.before.before.before.before.before.before.before.before.before.before.before.before.before.before.before.before.before.before.before.before.before.before.before.before.before.before.args.s.now) (c.before.before.before.before.before.before.before.before.before.before.before.before.before.before.before.before.before.before.before.before.before.before.before.before.before.before.before.before.args.lines.from))) (literalFits false (modesFrom (c.before.before.before.before.before.before.before.before.before.before.before.before.before.before.before.before.before.before.before.before.before.before.before.before.before.before.before.before.args.s.now) (c.before.before.before.before.before.before.before.before.before.before.before.before.before.before.before.before.before.before.before.before.before.before.before.before.before.before.before.before.args.lines.from))) (c.before.before.before.before.before.before.before.before.before.before.before.before.before.before.before.before.before.before.before.before.before.before.before.before.before.before.before.before.args.s.now) (rows (c.before.before.before.before.before.before.before.before.before.before.before.before.before.before.before.before.before.before.before.before.before.before.before.before.before.before.before.before.args.out.now) (c.before.before.before.before.before.before.before.before.before.before.before.before.before.before.before.before.before.before.before.before.before.before.before.before.before.before.before.before.args.consts.now) (c.before.before.before.before.before.before.before.before.before.before.before.before.before.before.before.before.before.before.before.before.before.before.before.before.before.before.before.before.args.links.now) (c.before.before.before.before.before.before.before.before.before.before.before.before.before.before.before.before.before.before.before.before.before.before.before.before.before.before.before.before.args.vars.now)) (c.before.before.before.before.before.before.before.before.before.before.before.before.before.before.before.before.before.before.before.before.before.before.before.before.before.before.before.before.args.w) c.before.before.before.before.before.before.before.before.before.before.before.before.before.before.before.before.before.before.loop.invariant.0 _ c.before.before.before.before.before.before.before.before.before.before.before.before.before.before.before.before.before.loop-test.true c.before.before.before.before.before.before.before.before.before.before.before.before.literal.ensures c.before.before.before.byte-at.ensures.0 c.before.after-mark.result _ c.before.before.if1.false c.before.after-mark.ensures.0 c.before.after-mark.ensures.1 c.move-to2.ensures, (let h = c.before.before.before.before.before.before.before.before.before.before.before.before.before.before.before.before.before.before.loop.invariant.1 in omega arith), (links-same (takes-ready c.before.before.before.before.before.before.before.before.before.before.before.before.before.before.before.before.before.before.loop.invariant.0.taken) c.before.before.before.before.before.before.before.before.before.before.before.before.literal.ensures ∙ c.before.before.before.before.before.before.before.before.before.before.before.before.before.before.before.before.before.before.loop.invariant.2)))
+    (λ c. (going_on read_literal 44 said_terms (literal_in (modes_from (c.before.before.before.before.before.before.before.before.before.before.before.before.before.before.before.before.before.before.before.before.before.before.before.before.before.before.before.before.args.s.now) (c.before.before.before.before.before.before.before.before.before.before.before.before.before.before.before.before.before.before.before.before.before.before.before.before.before.before.before.before.args.lines.from))) (literal_fits true (modes_from (c.before.before.before.before.before.before.before.before.before.before.before.before.before.before.before.before.before.before.before.before.before.before.before.before.before.before.before.before.args.s.now) (c.before.before.before.before.before.before.before.before.before.before.before.before.before.before.before.before.before.before.before.before.before.before.before.before.before.before.before.before.args.lines.from))) (literal_fits false (modes_from (c.before.before.before.before.before.before.before.before.before.before.before.before.before.before.before.before.before.before.before.before.before.before.before.before.before.before.before.before.args.s.now) (c.before.before.before.before.before.before.before.before.before.before.before.before.before.before.before.before.before.before.before.before.before.before.before.before.before.before.before.before.args.lines.from))) (c.before.before.before.before.before.before.before.before.before.before.before.before.before.before.before.before.before.before.before.before.before.before.before.before.before.before.before.before.args.s.now) (rows (c.before.before.before.before.before.before.before.before.before.before.before.before.before.before.before.before.before.before.before.before.before.before.before.before.before.before.before.before.args.out.now) (c.before.before.before.before.before.before.before.before.before.before.before.before.before.before.before.before.before.before.before.before.before.before.before.before.before.before.before.before.args.consts.now) (c.before.before.before.before.before.before.before.before.before.before.before.before.before.before.before.before.before.before.before.before.before.before.before.before.before.before.before.before.args.links.now) (c.before.before.before.before.before.before.before.before.before.before.before.before.before.before.before.before.before.before.before.before.before.before.before.before.before.before.before.before.args.vars.now)) (c.before.before.before.before.before.before.before.before.before.before.before.before.before.before.before.before.before.before.before.before.before.before.before.before.before.before.before.before.args.w) c.before.before.before.before.before.before.before.before.before.before.before.before.before.before.before.before.before.before.loop.invariant.0 _ c.before.before.before.before.before.before.before.before.before.before.before.before.before.before.before.before.before.loop-test.true c.before.before.before.before.before.before.before.before.before.before.before.before.literal.ensures c.before.before.before.byte-at.ensures.0 c.before.after-mark.result _ c.before.before.if1.false c.before.after-mark.ensures.0 c.before.after-mark.ensures.1 c.move-to2.ensures, (let h = c.before.before.before.before.before.before.before.before.before.before.before.before.before.before.before.before.before.before.loop.invariant.1 in omega arith), (links-same (takes-ready c.before.before.before.before.before.before.before.before.before.before.before.before.before.before.before.before.before.before.loop.invariant.0.taken) c.before.before.before.before.before.before.before.before.before.before.before.before.literal.ensures ∙ c.before.before.before.before.before.before.before.before.before.before.before.before.before.before.before.before.before.before.loop.invariant.2)))
     (λ c κs. search rules)
     (λ c. (c.before.before.loop.invariant.0.taken.size))
     (λ c. (c.before.before.loop.invariant.0.taken.consts.size))
     (λ c. (c.before.before.loop.invariant.2))
     (λ c. (c.before.before.loop.invariant.0.taken.vars.size))
-    (λ c. (going_done readLiteral 44 saidTerms (literalIn (modesFrom (c.before.before.before.before.before.before.before.before.before.before.before.before.args.s.now) (c.before.before.before.before.before.before.before.before.before.before.before.before.args.lines.from))) (literalFits true (modesFrom (c.before.before.before.before.before.before.before.before.before.before.before.before.args.s.now) (c.before.before.before.before.before.before.before.before.before.before.before.before.args.lines.from))) (literalFits false (modesFrom (c.before.before.before.before.before.before.before.before.before.before.before.before.args.s.now) (c.before.before.before.before.before.before.before.before.before.before.before.before.args.lines.from))) (c.before.before.before.before.before.before.before.before.before.before.before.before.args.s.now) (rows (c.before.before.before.before.before.before.before.before.before.before.before.before.args.out.now) (c.before.before.before.before.before.before.before.before.before.before.before.before.args.consts.now) (c.before.before.before.before.before.before.before.before.before.before.before.before.args.links.now) (c.before.before.before.before.before.before.before.before.before.before.before.before.args.vars.now)) (c.before.before.before.before.before.before.before.before.before.before.before.before.args.w) c.before.before.loop.invariant.0 (omega arith) c.move-to3.ensures)))
+    (λ c. (going_done read_literal 44 said_terms (literal_in (modes_from (c.before.before.before.before.before.before.before.before.before.before.before.before.args.s.now) (c.before.before.before.before.before.before.before.before.before.before.before.before.args.lines.from))) (literal_fits true (modes_from (c.before.before.before.before.before.before.before.before.before.before.before.before.args.s.now) (c.before.before.before.before.before.before.before.before.before.before.before.before.args.lines.from))) (literal_fits false (modes_from (c.before.before.before.before.before.before.before.before.before.before.before.before.args.s.now) (c.before.before.before.before.before.before.before.before.before.before.before.before.args.lines.from))) (c.before.before.before.before.before.before.before.before.before.before.before.before.args.s.now) (rows (c.before.before.before.before.before.before.before.before.before.before.before.before.args.out.now) (c.before.before.before.before.before.before.before.before.before.before.before.before.args.consts.now) (c.before.before.before.before.before.before.before.before.before.before.before.before.args.links.now) (c.before.before.before.before.before.before.before.before.before.before.before.before.args.vars.now)) (c.before.before.before.before.before.before.before.before.before.before.before.before.args.w) c.before.before.loop.invariant.0 (omega arith) c.move-to3.ensures)))

@@ -1,6 +1,6 @@
-use Rattle.read_names.specs.Tables.{modesFrom}
+use Rattle.read_names.specs.Tables.{modes_from}
 use Rattle.take_goal.proofs.Ways.{puts-ready, take-stage}
-use Rattle.text_program.specs.Source.{readLiteral, row}
+use Rattle.text_program.specs.Source.{read_literal, row}
 use borrow.Author.Rules.{rules}
 use Rattle.take_goal.proofs.stage.Statement.{statement}
 use Rattle.take_goal.proofs.stage.Tie as tie
@@ -16,4 +16,4 @@ stage-spec =
     (λ c. search rules)
     (λ c. search rules)
     (λ c. search rules)
-    (λ c. (take-stage (modesFrom (c.before.before.before.before.before.before.before.before.before.before.before.before.before.before.before.before.before.before.before.before.before.before.before.before.before.before.before.before.before.args.s.now) (c.before.before.before.before.before.before.before.before.before.before.before.before.before.before.before.before.before.before.before.before.before.before.before.before.before.before.before.before.before.args.lines.from)) (row readLiteral 44) c.before.before.before.before.before.before.before.before.before.before.before.before.before.before.before.before.before.before.before.number.ensures c.before.before.before.before.before.before.before.before.before.before.before.before.literals.ensures c.before.before.patch.ensures)))
+    (λ c. (take-stage (modes_from (c.before.before.before.before.before.before.before.before.before.before.before.before.before.before.before.before.before.before.before.before.before.before.before.before.before.before.before.before.before.args.s.now) (c.before.before.before.before.before.before.before.before.before.before.before.before.before.before.before.before.before.before.before.before.before.before.before.before.before.before.before.before.before.args.lines.from)) (row read_literal 44) c.before.before.before.before.before.before.before.before.before.before.before.before.before.before.before.before.before.before.before.number.ensures c.before.before.before.before.before.before.before.before.before.before.before.before.literals.ensures c.before.before.patch.ensures)))

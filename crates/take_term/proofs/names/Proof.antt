@@ -1,6 +1,6 @@
 use native.Mathlib.Omega.{arith}
 use borrow.Author.Rules.{rules}
-use Rattle.text_program.specs.Source.{readTerm, row, rowFor}
+use Rattle.text_program.specs.Source.{read_term, row, row_for}
 use Rattle.take_term.specs.Takes.{rows}
 use Rattle.take_term.proofs.Ways.{NamesLeft, names-done, names-last, names-on, names-start}
 use Rattle.take_term.proofs.Laws.{takes-ready}
@@ -12,7 +12,7 @@ use Rattle.take_term.proofs.names.Statement.{statement}
 use Rattle.take_term.proofs.names.Tie as tie
 
 abbrev invariant-loop : tie.invariant-loop
-invariant-loop s out₀ consts₀ links₀ vars₀ r₀ n₀ left₀ out consts links vars r n left = NamesLeft s (rows out₀ consts₀ links₀ vars₀) r₀ (row readTerm 44 (drop r₀.end s)) (rows out consts links vars) r n (rowFor left readTerm 44 (drop r.end s)) × (n + left ≤ length s)
+invariant-loop s out₀ consts₀ links₀ vars₀ r₀ n₀ left₀ out consts links vars r n left = NamesLeft s (rows out₀ consts₀ links₀ vars₀) r₀ (row read_term 44 (drop r₀.end s)) (rows out consts links vars) r n (row_for left read_term 44 (drop r.end s)) × (n + left ≤ length s)
 
 abbrev decreases-loop : tie.decreases-loop
 decreases-loop s out₀ consts₀ links₀ vars₀ r₀ n₀ left₀ out consts links vars r n left = left

@@ -1,6 +1,6 @@
 use mathlib.Core.Path.{◌∙◌, ap, refl}
 use Rattle.parlog.specs.declared.Verdict.{Verdict}
-use Rattle.take_text.specs.Turned.{turnedBy}
+use Rattle.take_text.specs.Turned.{turned_by}
 use borrow.Author.Rules.{rules}
 use Rattle.take_text.proofs.turn.Statement.{statement}
 use Rattle.take_text.proofs.turn.Tie as tie
@@ -15,4 +15,4 @@ turn_spec =
     (λ c. search rules)
     (λ c. search rules)
     (λ c. search rules)
-    (λ c. record { taken = c.before.before.before.before.before.before.before.before.before.clause.result; takes = c.before.before.before.before.before.before.before.before.before.clause.ensures; next = c.turned.ensures ∙ ap (λ (d : Verdict). turnedBy d c.before.before.before.before.before.before.before.before.before.before.before.before.before.before.before.before.before.before.before.before.args.w c.before.before.before.before.before.before.before.before.before.clause.result) c.before.test.ensures.0; kept = rw (c.before.test.ensures.0) at c.before.test.ensures.1; semicolon = refl }))
+    (λ c. record { taken = c.before.before.before.before.before.before.before.before.before.clause.result; takes = c.before.before.before.before.before.before.before.before.before.clause.ensures; next = c.turned.ensures ∙ ap (λ (d : Verdict). turned_by d c.before.before.before.before.before.before.before.before.before.before.before.before.before.before.before.before.before.before.before.before.args.w c.before.before.before.before.before.before.before.before.before.clause.result) c.before.test.ensures.0; kept = rw (c.before.test.ensures.0) at c.before.test.ensures.1; semicolon = refl }))

@@ -1,10 +1,10 @@
-use Rattle.text_names.specs.Bytes.{isBlank}
+use Rattle.text_names.specs.Bytes.{is_blank}
 use borrow.Author.Rules.{rules}
 use Rattle.text_names.proofs.is_blank.Statement.{statement}
 use Rattle.text_names.proofs.is_blank.Tie as tie
 
 returns : tie.Need-returns
-unfolding isBlank
+unfolding is_blank
 returns c = cc
 
 pub is-blank-spec : {M : Type 1} → statement M

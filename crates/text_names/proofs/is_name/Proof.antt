@@ -1,11 +1,11 @@
 use Rattle.text_names.proofs.Walk.{name-other}
-use Rattle.text_names.specs.Bytes.{isName}
+use Rattle.text_names.specs.Bytes.{is_name}
 use borrow.Author.Rules.{rules}
 use Rattle.text_names.proofs.is_name.Statement.{statement}
 use Rattle.text_names.proofs.is_name.Tie as tie
 
 returns : tie.Need-returns
-unfolding isName
+unfolding is_name
 returns c = cc
 
 pub is-name-spec : {M : Type 1} → statement M

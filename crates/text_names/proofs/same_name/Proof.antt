@@ -1,5 +1,5 @@
 use Rattle.text_names.proofs.Walk.{same_stop, same-differ, same-go}
-use Rattle.text_names.specs.Names.{sameName}
+use Rattle.text_names.specs.Names.{same_name}
 use Rattle.text_names.specs.Bytes.{front}
 use native.Mathlib.Omega.{arith}
 use borrow.Author.Rules.{rules}
@@ -10,7 +10,7 @@ use Rattle.text_names.proofs.same_name.Statement.{statement}
 use Rattle.text_names.proofs.same_name.Tie as tie
 
 abbrev invariant-loop : tie.invariant-loop
-invariant-loop s a b i₀ j₀ i j = (i ≤ length s) × (j ≤ length s) × (sameName (front (drop i s)) (front (drop j s)) ≡ sameName (front (drop a s)) (front (drop b s)))
+invariant-loop s a b i₀ j₀ i j = (i ≤ length s) × (j ≤ length s) × (same_name (front (drop i s)) (front (drop j s)) ≡ same_name (front (drop a s)) (front (drop b s)))
 
 abbrev decreases-loop : tie.decreases-loop
 decreases-loop s a b i₀ j₀ i j = length s - i

@@ -1,5 +1,5 @@
 use native.Mathlib.Omega.{arith}
-use Rattle.text_words.specs.Numbers.{ParseFits, parseNumbers}
+use Rattle.text_words.specs.Numbers.{ParseFits, parse_numbers}
 use Rattle.text_words.proofs.Laws.{parse-told, parts-fit, refused-told}
 use Rattle.words.proofs.Laws.{case_at, word-at}
 use borrow.Author.Rules.{rules}
@@ -17,4 +17,4 @@ parse-word-spec =
     (λ c κs. search rules)
     (λ c κs. search rules)
     (λ c. parse-told c.before.before.before.a.given.1 c.before.told.ensures.0 c.word.ensures)
-    (λ c. word-at c.before.before.before.a2.given.1 parseNumbers (refused-told c.before.before.before.a2.given.0.0 c.before.told-refusal.ensures.0 c.refused.ensures)))
+    (λ c. word-at c.before.before.before.a2.given.1 parse_numbers (refused-told c.before.before.before.a2.given.0.0 c.before.told-refusal.ensures.0 c.refused.ensures)))

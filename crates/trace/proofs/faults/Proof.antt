@@ -1,11 +1,11 @@
 use Rattle.trace.proofs.Laws.{Clean, clean-none, faults-done, faults-found, faults-next}
-use Rattle.trace.specs.Trace.{traceSize}
+use Rattle.trace.specs.Trace.{trace_size}
 use Rattle.std.proofs.Common.{◌≡◌, ◌-◌, ◌*◌, ◌≤◌, length, arith, rules}
 use Rattle.trace.proofs.faults.Statement.{statement}
 use Rattle.trace.proofs.faults.Tie as tie
 
 abbrev invariant-loop : tie.invariant-loop
-invariant-loop s n at₀ k₀ at k = (at ≤ length s) × (at ≡ k * traceSize) × Clean s k
+invariant-loop s n at₀ k₀ at k = (at ≤ length s) × (at ≡ k * trace_size) × Clean s k
 
 abbrev decreases-loop : tie.decreases-loop
 decreases-loop s n at₀ k₀ at k = length s - at

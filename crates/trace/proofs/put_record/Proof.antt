@@ -1,11 +1,11 @@
 use Rattle.lay.proofs.Laws.{lays-then}
-use Rattle.trace.specs.Trace.{recordBytes}
+use Rattle.trace.specs.Trace.{record_bytes}
 use Rattle.std.proofs.Common.{rules}
 use Rattle.trace.proofs.put_record.Statement.{statement}
 use Rattle.trace.proofs.put_record.Tie as tie
 
 returns : tie.Need-returns
-unfolding recordBytes
+unfolding record_bytes
 returns c =
     let e = c.before.before in
     let d = e.before.before.before.before in

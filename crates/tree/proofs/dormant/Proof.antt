@@ -1,10 +1,10 @@
 use mathlib.Core.Path.{refl}
-use Rattle.parlog.specs.Delta.{withMode}
+use Rattle.parlog.specs.Delta.{with_mode}
 use Rattle.tree.proofs.dormant.Statement.{statement}
 use Rattle.tree.proofs.dormant.Tie as tie
 
 returns : tie.Need-returns
-unfolding withMode
+unfolding with_mode
 returns c = refl
 
 pub dormant-spec : {M : Type 1} → statement M

@@ -1,14 +1,14 @@
 use mathlib.Core.Path.{◌∙◌, ◌≡◌, sym}
 use borrow.Author.Rules.{rules}
 use native.Mathlib.Omega.{arith}
-use Rattle.parlog.specs.Tables.{procsOf}
-use Rattle.parlog.specs.Tree.{enclosing, tryAbove}
+use Rattle.parlog.specs.Tables.{procs_of}
+use Rattle.parlog.specs.Tree.{enclosing, try_above}
 use Rattle.tree.proofs.Family.{above-end, above-met, above_on, above_root, enclosing-starts}
 use Rattle.tree.proofs.enclosing.Statement.{statement}
 use Rattle.tree.proofs.enclosing.Tie as tie
 
 abbrev invariant-loop : tie.invariant-loop
-invariant-loop procs n p a₀ left₀ a left = enclosing (procsOf procs n) p ≡ tryAbove left (procsOf procs n) a
+invariant-loop procs n p a₀ left₀ a left = enclosing (procs_of procs n) p ≡ try_above left (procs_of procs n) a
 
 abbrev decreases-loop : tie.decreases-loop
 decreases-loop procs n p a₀ left₀ a left = left

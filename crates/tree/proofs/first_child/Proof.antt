@@ -1,14 +1,14 @@
 use Prim.Native.Nat.{◌-◌, ◌<◌, ◌≤◌}
 use borrow.Author.Rules.{rules}
 use native.Mathlib.Omega.{arith}
-use Rattle.parlog.specs.Tables.{procsOf}
+use Rattle.parlog.specs.Tables.{procs_of}
 use Rattle.tree.specs.Family.{Childless}
 use Rattle.tree.proofs.Family.{child-on, child-starts}
 use Rattle.tree.proofs.first_child.Statement.{statement}
 use Rattle.tree.proofs.first_child.Tie as tie
 
 abbrev invariant-loop : tie.invariant-loop
-invariant-loop procs n p q₀ q = (q ≤ n) × (p < q) × Childless (procsOf procs n) p q
+invariant-loop procs n p q₀ q = (q ≤ n) × (p < q) × Childless (procs_of procs n) p q
 
 abbrev decreases-loop : tie.decreases-loop
 decreases-loop procs n p q₀ q = n - q

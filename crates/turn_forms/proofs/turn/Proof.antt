@@ -69,8 +69,8 @@ abbrev Core : {M : Type 1} {𝓤 : Ura M} (𝓛 : Logic 𝓤) (at_mem : Memory �
 Core 𝓛 at_mem run = triple_of 𝓛 cr.signature (cr.spec 𝓛 at_mem run)
 
 -- the marker of what the core hands back
-abbrev markerOf : Turned → Marker
-markerOf t = record { last = t.last; steps = t.steps }
+abbrev marker_of : Turned → Marker
+marker_of t = record { last = t.last; steps = t.steps }
 
 module _ {M : Type 1} {𝓤 : Ura M} (𝓛 : Logic 𝓤) (at_mem : Memory → SProp 𝓤) (run : Routine → Fun 𝓤)
     (κᵢ κ₀ κ₁ κ₂ κ : Lft) (qᵢ q₀ q₁ q₂ q : Share) (bᵢ oᵢ : ℕ) (γᵢ : GName) (im : List ℕ) (b₀ o₀ : ℕ) (γ₀ : GName) (cs : List ℕ) (b₁ o₁ : ℕ) (γ₁ : GName) (ps : List ℕ) (b₂ o₂ : ℕ) (γ₂ : GName) (vs : List ℕ) (b o : ℕ) (γ : GName) (h : Marker) where
@@ -165,14 +165,14 @@ module _ {M : Type 1} {𝓤 : Ura M} (𝓛 : Logic 𝓤) (at_mem : Memory → SP
     is-answer = (LL.owed U.the_type U'.the_laws r _ is).1.1.0
 
     -- what closing the borrow asks
-    made : Is T.the_row (markerOf r) (mach (markerOf r) ∷ [])
-    made = LL.owes T.the_type T'.the_laws (markerOf r) ((refl, new-last), ((refl, new-steps), tt))
+    made : Is T.the_row (marker_of r) (mach (marker_of r) ∷ [])
+    made = LL.owes T.the_type T'.the_laws (marker_of r) ((refl, new-last), ((refl, new-steps), tt))
 
     exits : (xs ys zs : List ℕ) → Said r xs ys zs → length xs ≡ length cs → length ys ≡ length ps → length zs ≡ length vs
-        → ent 𝓤 (⋆ 𝓛 (‵ (fobs γ ((T.the_row).coded.code (markerOf r))) ∷ ‵ (fbor κ (Body (mem T.the_row) b o γ)) ∷ ‵ (flft κ q) ∷ ‵ (flft κ₂ q₂) ∷ ‵ (flft κ₁ q₁) ∷ ‵ (flft κ₀ q₀) ∷ ‵ (flft κᵢ qᵢ) ∷ ‵ (finally u8 γ₂ zs) ∷ ‵ (finally u8 γ₁ ys) ∷ ‵ (finally u8 γ₀ xs) ∷ ‵ Image ∷ [])) (Post answer)
+        → ent 𝓤 (⋆ 𝓛 (‵ (fobs γ ((T.the_row).coded.code (marker_of r))) ∷ ‵ (fbor κ (Body (mem T.the_row) b o γ)) ∷ ‵ (flft κ q) ∷ ‵ (flft κ₂ q₂) ∷ ‵ (flft κ₁ q₁) ∷ ‵ (flft κ₀ q₀) ∷ ‵ (flft κᵢ qᵢ) ∷ ‵ (finally u8 γ₂ zs) ∷ ‵ (finally u8 γ₁ ys) ∷ ‵ (finally u8 γ₀ xs) ∷ ‵ Image ∷ [])) (Post answer)
     exits xs ys zs e l₀ l₁ l₂ =
-        qed 𝓛 (‵ (fobs γ ((T.the_row).coded.code (markerOf r))) ∷ ‵ (fbor κ (Body (mem T.the_row) b o γ)) ∷ ‵ (flft κ q) ∷ ‵ (flft κ₂ q₂) ∷ ‵ (flft κ₁ q₁) ∷ ‵ (flft κ₀ q₀) ∷ ‵ (flft κᵢ qᵢ) ∷ ‵ (finally u8 γ₂ zs) ∷ ‵ (finally u8 γ₁ ys) ∷ ‵ (finally u8 γ₀ xs) ∷ ‵ Image ∷ []) ∵
-        suffices ! _ (ends_at 𝓛 turn.ended stayed (turn.clauses 𝓛 at_mem run) (((κᵢ, (κ₀, (κ₁, (κ₂, (κ, tt))))), (qᵢ, (q₀, (q₁, (q₂, (q, tt))))), tt, a, vals), tt) answer r.answer (tt, (xs, (ys, (zs, (markerOf r, tt))))) (tt, (l₀, (l₁, (l₂, (tt, tt)))))) $
+        qed 𝓛 (‵ (fobs γ ((T.the_row).coded.code (marker_of r))) ∷ ‵ (fbor κ (Body (mem T.the_row) b o γ)) ∷ ‵ (flft κ q) ∷ ‵ (flft κ₂ q₂) ∷ ‵ (flft κ₁ q₁) ∷ ‵ (flft κ₀ q₀) ∷ ‵ (flft κᵢ qᵢ) ∷ ‵ (finally u8 γ₂ zs) ∷ ‵ (finally u8 γ₁ ys) ∷ ‵ (finally u8 γ₀ xs) ∷ ‵ Image ∷ []) ∵
+        suffices ! _ (ends_at 𝓛 turn.ended stayed (turn.clauses 𝓛 at_mem run) (((κᵢ, (κ₀, (κ₁, (κ₂, (κ, tt))))), (qᵢ, (q₀, (q₁, (q₂, (q, tt))))), tt, a, vals), tt) answer r.answer (tt, (xs, (ys, (zs, (marker_of r, tt))))) (tt, (l₀, (l₁, (l₂, (tt, tt)))))) $
         says ! e $
         nothing ! $ move ! (3 ∷ 0 ∷ []) $ join ! $ move ! (3 ∷ 0 ∷ []) $ join ! $ move ! (3 ∷ 0 ∷ []) $ join ! $ move ! (3 ∷ 0 ∷ []) $ join ! $ move ! (3 ∷ 0 ∷ []) $ join ! $ frame ! $
         feq_i ! (List Val) (vptr b o ∷ []) (vptr b o ∷ []) refl $ fjoin3 ! $ nothing ! $ move ! (1 ∷ 0 ∷ []) $ fjoin ! $ move ! (1 ∷ 0 ∷ []) $ fjoin ! $ move ! (1 ∷ 0 ∷ []) $ fjoin ! $ move ! (1 ∷ 0 ∷ []) $ fjoin ! $ move ! (1 ∷ 0 ∷ []) $ fjoin ! $
@@ -217,7 +217,7 @@ module _ {M : Type 1} {𝓤 : Ura M} (𝓛 : Logic 𝓤) (at_mem : Memory → SP
         assigns ! (of_opd ! (load ! (from ! (fld ! refl (stop !))) (look_in ! 29 (sub ! 1 refl (whole !))))) (from ! (hop ! (look ! 31 refl) (fld ! refl (stop !)))) (store_in ! 6 (sub ! 1 refl (whole !)) (tt, record { fits = new-steps r w is })) $
         assigns ! (of_opd ! (load ! (from ! (fld ! refl (stop !))) (look_in ! 29 (sub ! 2 refl (whole !))))) (from ! (stop !)) (init ! 41 refl ((EL.lawful Ans.the_type Ans'.the_laws 𝓛 tt).typed r.answer _ (is-answer r w is)).0) $
         -- the borrow is closed at the new marker
-        drop ! $ move ! (6 ∷ []) $ drop ! $ owned ! T.the_row (Is T.the_row) ((LL.makes T.the_type T'.the_plain) 𝓛) (markerOf r) _ (made r w is) $ move ! (6 ∷ 0 ∷ 7 ∷ 8 ∷ 9 ∷ []) $ closes ! tt T.the_row (markerOf r) (mach (markerOf r) ∷ []) b o $
+        drop ! $ move ! (6 ∷ []) $ drop ! $ owned ! T.the_row (Is T.the_row) ((LL.makes T.the_type T'.the_plain) 𝓛) (marker_of r) _ (made r w is) $ move ! (6 ∷ 0 ∷ 7 ∷ 8 ∷ 9 ∷ []) $ closes ! tt T.the_row (marker_of r) (mach (marker_of r) ∷ []) b o $
         -- [obs; the borrow; [κ]; the tokens; vars' last list; …; procs' last list; counts' last list; true; image's; _14; …]
         returns ! (look ! 38 refl) $ forget ! 10 refl $ forget ! 12 refl $ forget ! 14 refl $ forget ! 16 refl $ forget ! 18 refl $ forget ! 20 refl $ forget ! 22 refl $ forget ! 24 refl $ forget ! 26 refl $ forget ! 28 refl $ forget ! 30 refl $ forget ! 32 refl $ forget ! 34 refl $ forget ! 36 refl $ forget ! 38 refl $
         move ! (38 ∷ 39 ∷ []) $ free1 ! $ move ! (36 ∷ 37 ∷ []) $ free1 ! $ move ! (34 ∷ 35 ∷ []) $ free1 ! $ move ! (32 ∷ 33 ∷ []) $ free1 ! $ move ! (30 ∷ 31 ∷ []) $ free1 ! $ move ! (28 ∷ 29 ∷ []) $ free1 ! $ move ! (26 ∷ 27 ∷ []) $ free1 ! $ move ! (24 ∷ 25 ∷ []) $ free1 ! $ move ! (22 ∷ 23 ∷ []) $ free1 ! $ move ! (20 ∷ 21 ∷ []) $ free1 ! $ move ! (18 ∷ 19 ∷ []) $ free1 ! $ move ! (16 ∷ 17 ∷ []) $ free1 ! $ move ! (14 ∷ 15 ∷ []) $ free1 ! $ move ! (12 ∷ 13 ∷ []) $ free1 ! $ move ! (10 ∷ 11 ∷ []) $ free1 ! $ free0 ! $

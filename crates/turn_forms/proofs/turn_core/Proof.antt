@@ -9,7 +9,7 @@ use Rattle.turn_forms.proofs.turn_core.Tie as tie
 returns : tie.Need-returns
 returns c =
     let a = c.before.before.before.before.before.before.args in
-    core-away small a.image.now a.counts.now a.procs.now a.vars.now (record { last = a.last; steps = a.steps }) (ne_eqb _ 4 c.before.if1.true) c.turned-away.ensures
+    core-away small a.image.now a.counts.now a.procs.now a.vars.now (record { last = a.last; steps = a.steps }) (ne_eqb _ 4 c.before.if1.true) c.turned_away.ensures
 
 -- the turn made
 returns-2 : tie.Need-returns-2

@@ -3,17 +3,17 @@ use Prim.Native.Nat.{◌-◌, ◌≤◌}
 use lib.ListN.{length}
 use borrow.Author.Rules.{rules}
 use native.Mathlib.Omega.{arith}
-use Rattle.parlog.specs.Tables.{procsOf}
-use Rattle.move_plan.specs.Plans.{stateIn}
+use Rattle.parlog.specs.Tables.{procs_of}
+use Rattle.move_plan.specs.Plans.{state_in}
 use Rattle.rows.proofs.Tables.{procs-length}
-use Rattle.turn_search.specs.Notes.{AllNoted, noteIn}
+use Rattle.turn_search.specs.Notes.{AllNoted, note_in}
 use Rattle.turn_search.proofs.Passing.{all_end, all_here, all-less}
 use Rattle.turn_search.proofs.Order.{sweep-end, sweep-next, sweep-start, Swept}
 use Rattle.turn_search.proofs.pass.Statement.{statement}
 use Rattle.turn_search.proofs.pass.Tie as tie
 
 abbrev invariant-loop : tie.invariant-loop
-invariant-loop procs n vars m last w silent₀ said₀ latest₀ lowest₀ behind₀ round₀ q₀ silent said latest lowest behind round q = (q ≤ n) × (length silent ≡ w) × (length said ≡ w) × (length latest ≡ w) × (length lowest ≡ w) × AllNoted (procsOf procs n) n q silent said latest lowest × Swept (stateIn procs n vars m) n last q behind round
+invariant-loop procs n vars m last w silent₀ said₀ latest₀ lowest₀ behind₀ round₀ q₀ silent said latest lowest behind round q = (q ≤ n) × (length silent ≡ w) × (length said ≡ w) × (length latest ≡ w) × (length lowest ≡ w) × AllNoted (procs_of procs n) n q silent said latest lowest × Swept (state_in procs n vars m) n last q behind round
 
 abbrev decreases-loop : tie.decreases-loop
 decreases-loop procs n vars m last w silent₀ said₀ latest₀ lowest₀ behind₀ round₀ q₀ silent said latest lowest behind round q = q
@@ -29,7 +29,7 @@ pass_spec =
     (λ c. omega arith)
     (λ c. omega arith)
     (λ c κs. let s = c.before.before.before in
-    (c.before.before.before.before.before.before.before.before.before.before.requires.0, c.before.before.before.before.before.before.before.before.before.before.requires.2, (noteIn s.loop.silent s.loop.said s.loop.latest s.loop.lowest (s.loop.q - 1), refl, all_here _ _ (procs-length _ _) c.before.before.before.before.before.before.before.before.before.before.requires.3 _ _ _ _ _ (omega arith) s.loop.invariant.0 s.loop.invariant.5)))
+    (c.before.before.before.before.before.before.before.before.before.before.requires.0, c.before.before.before.before.before.before.before.before.before.before.requires.2, (note_in s.loop.silent s.loop.said s.loop.latest s.loop.lowest (s.loop.q - 1), refl, all_here _ _ (procs-length _ _) c.before.before.before.before.before.before.before.before.before.before.requires.3 _ _ _ _ _ (omega arith) s.loop.invariant.0 s.loop.invariant.5)))
     (λ c κs. tt)
     (λ c κs. tt)
     (λ c κs. tt)

@@ -3,14 +3,14 @@ use Prim.Native.Nat.{◌-◌, ◌≤◌}
 use lib.ListN.{drop, length, take}
 use borrow.Author.Rules.{rules}
 use native.Mathlib.Omega.{arith}
-use Rattle.parlog.specs.Tables.{varsIn}
-use Rattle.parlog.specs.Unify.{someBound}
+use Rattle.parlog.specs.Tables.{vars_in}
+use Rattle.parlog.specs.Unify.{some_bound}
 use Rattle.unify.proofs.Laws.{some-done, some-hit, some-miss}
 use Rattle.unify.proofs.some_bound.Statement.{statement}
 use Rattle.unify.proofs.some_bound.Tie as tie
 
 abbrev invariant-loop : tie.invariant-loop
-invariant-loop vars n count notes k₀ k = (k ≤ count) × (count ≤ 4) × (length notes ≡ 4) × (someBound (varsIn vars n) (drop k (take count notes)) ≡ someBound (varsIn vars n) (take count notes))
+invariant-loop vars n count notes k₀ k = (k ≤ count) × (count ≤ 4) × (length notes ≡ 4) × (some_bound (vars_in vars n) (drop k (take count notes)) ≡ some_bound (vars_in vars n) (take count notes))
 
 abbrev decreases-loop : tie.decreases-loop
 decreases-loop vars n count notes k₀ k = count - k

@@ -4,15 +4,15 @@ use Prim.Native.Nat.{◌-◌, ◌≤◌}
 use lib.ListN.{drop, length, take}
 use borrow.Author.Rules.{rules}
 use native.Mathlib.Omega.{arith}
-use Rattle.parlog.specs.Tables.{varsIn}
-use Rattle.parlog.specs.Unify.{bound, unify, unifyFrom}
+use Rattle.parlog.specs.Tables.{vars_in}
+use Rattle.parlog.specs.Unify.{bound, unify, unify_from}
 use Rattle.unify.proofs.Laws.{bound-same, unify-done, unify-more}
-use Rattle.unify.specs.Pending.{boundIn, boundVars, outcome}
+use Rattle.unify.specs.Pending.{bound_in, bound_vars, outcome}
 use Rattle.unify.proofs.unify.Statement.{statement}
 use Rattle.unify.proofs.unify.Tie as tie
 
 abbrev invariant-loop : tie.invariant-loop
-invariant-loop vars n count pairs u₀ i₀ u i = (i ≤ count) × (u.count ≤ i) × (length u.binds ≡ 4) × (length pairs ≡ 4) × (unifyFrom (varsIn vars n) (outcome u) (drop i (take count pairs)) ≡ unifyFrom (varsIn vars n) (bound []) (take count pairs)) × (boundIn u ≡ boundVars (outcome u))
+invariant-loop vars n count pairs u₀ i₀ u i = (i ≤ count) × (u.count ≤ i) × (length u.binds ≡ 4) × (length pairs ≡ 4) × (unify_from (vars_in vars n) (outcome u) (drop i (take count pairs)) ≡ unify_from (vars_in vars n) (bound []) (take count pairs)) × (bound_in u ≡ bound_vars (outcome u))
 
 abbrev decreases-loop : tie.decreases-loop
 decreases-loop vars n count pairs u₀ i₀ u i = count - i

@@ -2,14 +2,14 @@ use mathlib.Core.Path.{◌≡◌}
 use Prim.Native.Nat.{◌≤◌, ◌-◌}
 use lib.ListN.{length}
 use borrow.Author.Rules.{rules}
-use Rattle.parlog.specs.Tables.{varsIn, written}
-use Rattle.values.specs.Values.{valuesBytes}
+use Rattle.parlog.specs.Tables.{vars_in, written}
+use Rattle.values.specs.Values.{values_bytes}
 use Rattle.values.proofs.Laws.{value-small, values-all, values-none, values-put, var-top}
 use Rattle.values.proofs.write.Statement.{statement}
 use Rattle.values.proofs.write.Tie as tie
 
 abbrev invariant-loop : tie.invariant-loop
-invariant-loop vars n goal values₀ v₀ values v = (v ≤ goal) × (length values ≡ length values₀) × (values ≡ written (valuesBytes (varsIn vars n) v) values₀)
+invariant-loop vars n goal values₀ v₀ values v = (v ≤ goal) × (length values ≡ length values₀) × (values ≡ written (values_bytes (vars_in vars n) v) values₀)
 
 abbrev decreases-loop : tie.decreases-loop
 decreases-loop vars n goal values₀ v₀ values v = goal - v
@@ -22,7 +22,7 @@ loop-again c =
     let a = s.before.before.before in (
       search rules,
       search rules,
-      values-put (varsIn a.args.vars.now a.args.n) a.args.values.now s.loop.v a.args.goal s.loop.invariant.2 k.before.loop-test.true a.requires.3 k.value_of_lem.ensures u.put-bound.ensures,
+      values-put (vars_in a.args.vars.now a.args.n) a.args.values.now s.loop.v a.args.goal s.loop.invariant.2 k.before.loop-test.true a.requires.3 k.value_of_lem.ensures u.put-bound.ensures,
     )
 
 pub write_spec : {M : Type 1} → statement M
@@ -40,4 +40,4 @@ write_spec =
     (λ c. search rules)
     loop-again
     (λ c. search rules)
-    (λ c. let s = c.before in let a = s.before.before.before in values-all (varsIn a.args.vars.now a.args.n) a.args.values.now s.loop.v a.args.goal s.loop.invariant.2 s.loop.invariant.0 c.loop-test.false))
+    (λ c. let s = c.before in let a = s.before.before.before in values-all (vars_in a.args.vars.now a.args.n) a.args.values.now s.loop.v a.args.goal s.loop.invariant.2 s.loop.invariant.0 c.loop-test.false))

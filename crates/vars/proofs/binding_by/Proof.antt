@@ -1,18 +1,18 @@
 use borrow.Author.Tests.{eq-eqb, ne_eqb}
-use Rattle.parlog.specs.Tables.{bindingBy}
+use Rattle.parlog.specs.Tables.{binding_by}
 use Rattle.vars.proofs.binding_by.Statement.{statement}
 use Rattle.vars.proofs.binding_by.Tie as tie
 
 returns : tie.Need-returns
-unfolding bindingBy
+unfolding binding_by
 returns c = simp (eq-eqb _ _ c.if1.true)
 
 returns-2 : tie.Need-returns-2
-unfolding bindingBy
+unfolding binding_by
 returns-2 c = simp (ne_eqb _ _ c.before.if1.false, eq-eqb _ _ c.if2.true)
 
 returns-3 : tie.Need-returns-3
-unfolding bindingBy
+unfolding binding_by
 returns-3 c = simp (ne_eqb _ _ c.before.if1.false, ne_eqb _ _ c.if2.false)
 
 pub binding-by-spec : {M : Type 1} → statement M

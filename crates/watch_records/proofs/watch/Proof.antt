@@ -50,8 +50,8 @@ use denote.Triple.Clauses.{ensured, lasts}
 use denote.Triple.Table.{entered, cited}
 use denote.Triple.Walked.{says, Stays, stay_none_slice, walk_of, AllGo, Goes-none_slice, Walks, ends_at, walked, walk_Meets}
 use denote.Exit.{yes}
-use Rattle.parlog.specs.Codes.{isMode, suspended}
-use Rattle.parlog.specs.Run.{watchOf}
+use Rattle.parlog.specs.Codes.{is_mode, suspended}
+use Rattle.parlog.specs.Run.{watch_of}
 use Rattle.parlog.specs.Tables.{at, idle}
 use Rattle.parlog.specs.declared.Process.{Process}
 use Rattle.parlog.specs.declared.Found.{Found}
@@ -97,8 +97,8 @@ module _ {M : Type 1} {𝓤 : Ura M} (𝓛 : Logic 𝓤) (at_mem : Memory → SP
   abbrev Test : Contract 𝓤
   Test = triple_of 𝓛 test.signature (test.spec 𝓛 at_mem run)
 
-  tested : (p : Process) (r : Bool) → ent 𝓤 (ensured 𝓛 test.ended (test.clauses 𝓛 at_mem run) tt (p, tt) tt r) (fact 𝓤 (r ≡ isMode suspended p.mode))
-  tested p r = ex_e 𝓤 _ (λ ws. snd∗ 𝓤 (sem 𝓛 (lasts test.ended tt (p, tt) ws)) (fact 𝓤 (r ≡ isMode suspended p.mode)))
+  tested : (p : Process) (r : Bool) → ent 𝓤 (ensured 𝓛 test.ended (test.clauses 𝓛 at_mem run) tt (p, tt) tt r) (fact 𝓤 (r ≡ is_mode suspended p.mode))
+  tested p r = ex_e 𝓤 _ (λ ws. snd∗ 𝓤 (sem 𝓛 (lasts test.ended tt (p, tt) ws)) (fact 𝓤 (r ≡ is_mode suspended p.mode)))
 
 module _ {M : Type 1} {𝓤 : Ura M} (𝓛 : Logic 𝓤) (at_mem : Memory → SProp 𝓤) (run : Routine → Fun 𝓤) (κ : Lft) (q : Share) (b o : ℕ) (γ : GName) (ys : List Process) where
   open 𝓛 use {H}
@@ -131,8 +131,8 @@ module _ {M : Type 1} {𝓤 : Ura M} (𝓛 : Logic 𝓤) (at_mem : Memory → SP
   abbrev Slice : Fml
   Slice = shr_slice_at T.the_row x (slice_val (b, o) n ∷ [])
 
-  exits : (r : Found) → r ≡ watchOf ys → Is F.the_row r (found-val r ∷ []) → ent 𝓤 (⋆ 𝓛 (‵ (flft κ q) ∷ ‵ Shared ∷ ‵ Fixed ∷ ‵ Slice ∷ [])) (Post (found-val r))
-  unfolding watchOf
+  exits : (r : Found) → r ≡ watch_of ys → Is F.the_row r (found-val r ∷ []) → ent 𝓤 (⋆ 𝓛 (‵ (flft κ q) ∷ ‵ Shared ∷ ‵ Fixed ∷ ‵ Slice ∷ [])) (Post (found-val r))
+  unfolding watch_of
   exits r e is =
       qed 𝓛 (‵ (flft κ q) ∷ ‵ Shared ∷ ‵ Fixed ∷ ‵ Slice ∷ []) ∵
       suffices ! _ (ends_at 𝓛 watch.ended stayed (watch.clauses 𝓛 at_mem run) (((κ, tt), (q, tt), tt, a, vals), tt) (found-val r) r (tt, tt) (tt, tt)) $ says ! e $
@@ -186,7 +186,7 @@ module _ {M : Type 1} {𝓤 : Ura M} (𝓛 : Logic 𝓤) (at_mem : Memory → SP
     abbrev Out : List (Item 𝓤)
     Out = ‵ (flft κ q) ∷ ‵ (froom (ty_int w64) l₂ 0) ∷ ‵ (froom (ty_int w64) l₃ 0) ∷ ‵ (froom ty_bool l₄ 0) ∷ ‵ (froom ty_bool l₅ 0) ∷ ‵ (froom ty_ptr l₆ 0) ∷ ‵ (froom T'.mir l₇ 0) ∷ ‵ (froom F'.mir l₀ 0) ∷ ‵ (froom slice l₁ 0) ∷ Frame
 
-    frees_all : (r : Found) → r ≡ watchOf ys → Is F.the_row r (found-val r ∷ []) → Sq 𝓛 Out (frees E (prop (Post (found-val r))))
+    frees_all : (r : Found) → r ≡ watch_of ys → Is F.the_row r (found-val r ∷ []) → Sq 𝓛 Out (frees E (prop (Post (found-val r))))
     frees_all r e is =
         move ! (7 ∷ 12 ∷ []) $ free1 ! $ move ! (7 ∷ 11 ∷ []) $ free1 ! $ move ! (1 ∷ 10 ∷ []) $ free1 ! $ move ! (1 ∷ 9 ∷ []) $ free1 ! $ move ! (1 ∷ 8 ∷ []) $ free1 ! $ move ! (1 ∷ 7 ∷ []) $ free1 ! $ move ! (1 ∷ 6 ∷ []) $ free1 ! $ move ! (1 ∷ 5 ∷ []) $ free1 ! $ free0 ! $
         by ! (exits r e is)
@@ -247,7 +247,7 @@ module _ {M : Type 1} {𝓤 : Ura M} (𝓛 : Logic 𝓤) (at_mem : Memory → SP
           owned ! T.the_row (Is T.the_row) (LL.makes T.the_type T'.the_plain 𝓛) p _ g $ use1 𝓛 (raw ((Test 𝓛 at_mem run).pre (to-test p))) (goes-test p) $
           calls_at ! (fm_of 𝓤 H 𝓛.laws 𝓣) (Test 𝓛 at_mem run) known (to-test p) (and_then ! (load ! (from ! (stop !)) (look ! 9 refl)) (no_more !)) (λ w.
           use1 𝓛 (later (some (λ (r : Bool). (‵ ftrue ⊛ ‵ (bool.own_val r (w ∷ []))) ⊛ raw (ensured 𝓛 test.ended (test.clauses 𝓛 at_mem run) tt (p, tt) tt r)))) (id⊢ 𝓤 _) $ await ! tt $ pick ! (λ r.
-          split ! $ move ! (1 ∷ []) $ use1 𝓛 (raw (fact 𝓤 (r ≡ isMode suspended p.mode))) (tested 𝓛 at_mem run p r) $ heard ! (r ≡ isMode suspended p.mode) (λ e. split ! $ let_go ! $
+          split ! $ move ! (1 ∷ []) $ use1 𝓛 (raw (fact 𝓤 (r ≡ is_mode suspended p.mode))) (tested 𝓛 at_mem run p r) $ heard ! (r ≡ is_mode suspended p.mode) (λ e. split ! $ let_go ! $
           peeks ! bool (Is bool) (shows 𝓛 bool) r (w ∷ []) (λ is.
           land ! (from ! (stop !)) (init ! 7 refl ((bool_Lawful 𝓛).typed r _ is).0) $ rewrite ! 7 (λ (u : Val). ‵ (fat full_share ty_bool l₅ 0 u)) (ap only is) refl $
           let_go ! $ elem_back ! T.the_row q' ys i idle (val p ∷ []) b o below $
@@ -302,4 +302,4 @@ watch-spec 𝓤 𝓛 𝓜 𝓡 =
     entered 𝓤 𝓛.H (triple_of 𝓛 watch.signature (watch.spec 𝓛 𝓜.mem 𝓡.run))
     (tables 𝓤 𝓛.H 𝓜 𝓡 code.env).C (tables 𝓤 𝓛.H 𝓜 𝓡 code.env).Λ #watch-records·watch code.function (code.unfolded 𝓤 𝓛.H 𝓜 𝓡)
     (watch-meets 𝓛 𝓜.mem 𝓡.run (tables_of 𝓤 𝓛.H 𝓜 (tables 𝓤 𝓛.H 𝓜 𝓡 code.env))
-    (cited 𝓤 𝓛.H (Test 𝓛 𝓜.mem 𝓡.run) 𝓜 𝓡 code.env #watch-rows·is-suspended test-def.routine code.calls-watch-rows::is-suspended (test-thm.met 𝓤 𝓛 𝓜 𝓡)))
+    (cited 𝓤 𝓛.H (Test 𝓛 𝓜.mem 𝓡.run) 𝓜 𝓡 code.env #watch-rows·is-suspended test-def.routine code.calls-watch-rows::is_suspended (test-thm.met 𝓤 𝓛 𝓜 𝓡)))

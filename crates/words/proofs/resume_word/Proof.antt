@@ -1,4 +1,4 @@
-use Rattle.words.specs.Nights.{resumeNumbers}
+use Rattle.words.specs.Nights.{resume_numbers}
 use Rattle.words.proofs.Nights.{resume-told}
 use Rattle.words.proofs.Laws.{word-at}
 use borrow.Author.Rules.{rules}
@@ -14,5 +14,5 @@ resume-word-spec =
     (λ c. search rules)
     (λ c κs. search rules)
     (λ c κs. search rules)
-    (λ c. word-at c.before.enum_told.given.1 resumeNumbers c.word.ensures)
-    (λ c. word-at c.before.before.before.a.given.1 resumeNumbers (resume-told c.before.before.before.a.given.0.0 c.before.told-refusal.ensures.0 c.refused.ensures)))
+    (λ c. word-at c.before.enum_told.given.1 resume_numbers c.word.ensures)
+    (λ c. word-at c.before.before.before.a.given.1 resume_numbers (resume-told c.before.before.before.a.given.0.0 c.before.told-refusal.ensures.0 c.refused.ensures)))

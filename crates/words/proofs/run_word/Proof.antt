@@ -1,5 +1,5 @@
 use native.Mathlib.Omega.{arith}
-use Rattle.parlog.specs.Numbers.{runNumbers}
+use Rattle.parlog.specs.Numbers.{run_numbers}
 use Rattle.words.specs.Fits.{RunFits}
 use Rattle.words.proofs.Laws.{case_at, run-ended, word-at}
 use borrow.Author.Rules.{rules}
@@ -17,4 +17,4 @@ run-word-spec =
     (λ c. search rules)
     (λ c κs. case_at c.before.a2.given.1 RunFits c.before.before.before.requires)
     (λ c. run-ended c.before.before.before.a.given.1 c.before.end-number.ensures c.word.ensures)
-    (λ c. word-at c.before.before.a2.given.1 runNumbers c.refused.ensures))
+    (λ c. word-at c.before.before.a2.given.1 run_numbers c.refused.ensures))

@@ -1,4 +1,4 @@
-use Rattle.parlog.specs.Numbers.{stepNumbers}
+use Rattle.parlog.specs.Numbers.{step_numbers}
 use Rattle.words.specs.Fits.{StepFits}
 use Rattle.words.proofs.Laws.{case_at, word-at}
 use borrow.Author.Rules.{rules}
@@ -13,5 +13,5 @@ step-word-spec =
     (λ c κs. case_at c.before.a.given.1 StepFits c.before.before.before.requires)
     (λ c. search rules)
     (λ c κs. case_at c.before.a2.given.1 StepFits c.before.before.before.requires)
-    (λ c. word-at c.before.before.a.given.1 stepNumbers c.move-word.ensures)
-    (λ c. word-at c.before.before.a2.given.1 stepNumbers c.refused.ensures))
+    (λ c. word-at c.before.before.a.given.1 step_numbers c.move-word.ensures)
+    (λ c. word-at c.before.before.a2.given.1 step_numbers c.refused.ensures))

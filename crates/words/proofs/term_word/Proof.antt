@@ -1,4 +1,4 @@
-use Rattle.parlog.specs.Numbers.{termNumbers}
+use Rattle.parlog.specs.Numbers.{term_numbers}
 use Rattle.words.proofs.Laws.{word-at}
 use borrow.Author.Rules.{rules}
 use Rattle.words.proofs.term_word.Statement.{statement}
@@ -14,5 +14,5 @@ term-word-spec =
     (λ c. search rules)
     (λ c. search rules)
     (λ c κs. search rules)
-    (λ c. word-at c.before.before.t.given.1 termNumbers c.word.ensures)
-    (λ c. word-at c.before.before.t2.given.1 termNumbers c.word2.ensures))
+    (λ c. word-at c.before.before.t.given.1 term_numbers c.word.ensures)
+    (λ c. word-at c.before.before.t2.given.1 term_numbers c.word2.ensures))

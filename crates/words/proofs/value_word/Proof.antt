@@ -1,4 +1,4 @@
-use Rattle.parlog.specs.Numbers.{valueNumbers}
+use Rattle.parlog.specs.Numbers.{value_numbers}
 use Rattle.words.specs.Fits.{ValueFits}
 use Rattle.words.proofs.Laws.{case_at, word-at}
 use borrow.Author.Rules.{rules}
@@ -13,5 +13,5 @@ value-word-spec =
     (λ c κs. tt)
     (λ c. search rules)
     (λ c κs. case_at c.before.a2.given.1 ValueFits c.before.before.before.requires)
-    (λ c. word-at c.before.before.a.given.1 valueNumbers c.term-word.ensures)
-    (λ c. word-at c.before.before.a2.given.1 valueNumbers c.refused.ensures))
+    (λ c. word-at c.before.before.a.given.1 value_numbers c.term-word.ensures)
+    (λ c. word-at c.before.before.a2.given.1 value_numbers c.refused.ensures))

@@ -1,5 +1,5 @@
 use native.Mathlib.Omega.{arith}
-use Rattle.values.specs.Values.{valuesNumbers}
+use Rattle.values.specs.Values.{values_numbers}
 use Rattle.words.specs.Fits.{ValuesFits}
 use Rattle.words.proofs.Laws.{case_at, word-at}
 use borrow.Author.Rules.{rules}
@@ -14,5 +14,5 @@ values-word-spec =
     (λ c κs. let h = case_at c.before.a.given.1 ValuesFits c.before.before.before.requires in (omega arith, omega arith, omega arith, h))
     (λ c. search rules)
     (λ c κs. case_at c.before.a2.given.1 ValuesFits c.before.before.before.requires)
-    (λ c. word-at c.before.before.a.given.1 valuesNumbers c.word.ensures)
-    (λ c. word-at c.before.before.a2.given.1 valuesNumbers c.refused.ensures))
+    (λ c. word-at c.before.before.a.given.1 values_numbers c.word.ensures)
+    (λ c. word-at c.before.before.a2.given.1 values_numbers c.refused.ensures))

@@ -2,17 +2,17 @@ use native.Mathlib.Omega.{arith}
 use borrow.Author.Rules.{rules}
 use Prim.Native.Nat.{◌*◌, ◌+◌, ◌≤◌}
 use Rattle.write_clause.proofs.Claused.{ClausesLeft, clauses-stop, clauses-turn}
-use Rattle.text_program.specs.Printing.{clauseNamed, clausesText}
+use Rattle.text_program.specs.Printing.{clause_named, clauses_text}
 use Rattle.text_program.specs.Parsing.{all_of}
 use Rattle.parlog.specs.Scan.{list_of}
-use Rattle.parlog.specs.Program.{clauseOf}
-use Rattle.parlog.specs.Image.{recordEnd}
+use Rattle.parlog.specs.Program.{clause_of}
+use Rattle.parlog.specs.Image.{record_end}
 use Rattle.lay_text.proofs.Laws.{left-start}
 use Rattle.write_clause.proofs.clauses.Statement.{statement}
 use Rattle.write_clause.proofs.clauses.Tie as tie
 
 abbrev invariant-loop : tie.invariant-loop
-invariant-loop out₀ s names table e r from n to₀ at₀ left₀ out to at left = ClausesLeft r names s left at out₀ to₀ (clausesText r names (list_of (clauseOf s) (recordEnd s) n from)) (all_of (clauseNamed r names) (list_of (clauseOf s) (recordEnd s) n from)) out to × (left ≤ n) × (at + 65535 * left ≤ from + 65535 * n)
+invariant-loop out₀ s names table e r from n to₀ at₀ left₀ out to at left = ClausesLeft r names s left at out₀ to₀ (clauses_text r names (list_of (clause_of s) (record_end s) n from)) (all_of (clause_named r names) (list_of (clause_of s) (record_end s) n from)) out to × (left ≤ n) × (at + 65535 * left ≤ from + 65535 * n)
 
 abbrev decreases-loop : tie.decreases-loop
 decreases-loop out₀ s names table e r from n to₀ at₀ left₀ out to at left = left

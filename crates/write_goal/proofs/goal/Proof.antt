@@ -1,17 +1,17 @@
 use native.Mathlib.Omega.{arith}
 use borrow.Author.Rules.{rules}
 use Prim.Native.Nat.{◌*◌, ◌+◌, ◌-◌, ◌≤◌}
-use Rattle.text_program.specs.Printing.{andMark, rowText}
+use Rattle.text_program.specs.Printing.{and_mark, row_text}
 use Rattle.text_program.specs.Parsing.{all_of}
 use Rattle.parlog.specs.Scan.{list_of}
-use Rattle.parlog.specs.Program.{stageOf}
-use Rattle.parlog.specs.Image.{stageEnd}
-use Rattle.write_goal.proofs.Rowed.{RowAt, goal-told, row-start, row-stop, row-turn, stageNamed, stageText}
+use Rattle.parlog.specs.Program.{stage_of}
+use Rattle.parlog.specs.Image.{stage_end}
+use Rattle.write_goal.proofs.Rowed.{RowAt, goal-told, row-start, row-stop, row-turn, stage_named, stage_text}
 use Rattle.write_goal.proofs.goal.Statement.{statement}
 use Rattle.write_goal.proofs.goal.Tie as tie
 
 abbrev invariant-loop : tie.invariant-loop
-invariant-loop out₀ s names table e r from n to₀ at₀ k₀ t11 out to at k = RowAt (stageText r names) (stageNamed r names) andMark (stageOf s) (stageEnd s) n k at out₀ to₀ (rowText (stageText r names) andMark (list_of (stageOf s) (stageEnd s) n (from + 1))) (all_of (stageNamed r names) (list_of (stageOf s) (stageEnd s) n (from + 1))) out to × (at ≤ from + 1 + 130561 * k) × (k ≤ n)
+invariant-loop out₀ s names table e r from n to₀ at₀ k₀ t11 out to at k = RowAt (stage_text r names) (stage_named r names) and_mark (stage_of s) (stage_end s) n k at out₀ to₀ (row_text (stage_text r names) and_mark (list_of (stage_of s) (stage_end s) n (from + 1))) (all_of (stage_named r names) (list_of (stage_of s) (stage_end s) n (from + 1))) out to × (at ≤ from + 1 + 130561 * k) × (k ≤ n)
 
 abbrev decreases-loop : tie.decreases-loop
 decreases-loop out₀ s names table e r from n to₀ at₀ k₀ t11 out to at k = n - k

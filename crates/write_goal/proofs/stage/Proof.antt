@@ -1,17 +1,17 @@
 use native.Mathlib.Omega.{arith}
 use borrow.Author.Rules.{rules}
 use Prim.Native.Nat.{◌*◌, ◌+◌, ◌-◌, ◌≤◌}
-use Rattle.text_program.specs.Printing.{commaMark, literalNamed, literalText, rowText}
+use Rattle.text_program.specs.Printing.{comma_mark, literal_named, literal_text, row_text}
 use Rattle.text_program.specs.Parsing.{all_of}
 use Rattle.parlog.specs.Scan.{list_of}
-use Rattle.parlog.specs.Program.{literalOf}
-use Rattle.parlog.specs.Image.{literalEnd}
+use Rattle.parlog.specs.Program.{literal_of}
+use Rattle.parlog.specs.Image.{literal_end}
 use Rattle.write_goal.proofs.Rowed.{RowAt, row-start, row-stop, row-turn, stage-told}
 use Rattle.write_goal.proofs.stage.Statement.{statement}
 use Rattle.write_goal.proofs.stage.Tie as tie
 
 abbrev invariant-loop : tie.invariant-loop
-invariant-loop out₀ s names table e r from n to₀ at₀ k₀ t11 out to at k = RowAt (literalText r names) (literalNamed r names) commaMark (literalOf s) (literalEnd s) n k at out₀ to₀ (rowText (literalText r names) commaMark (list_of (literalOf s) (literalEnd s) n (from + 1))) (all_of (literalNamed r names) (list_of (literalOf s) (literalEnd s) n (from + 1))) out to × (at ≤ from + 1 + 512 * k) × (k ≤ n)
+invariant-loop out₀ s names table e r from n to₀ at₀ k₀ t11 out to at k = RowAt (literal_text r names) (literal_named r names) comma_mark (literal_of s) (literal_end s) n k at out₀ to₀ (row_text (literal_text r names) comma_mark (list_of (literal_of s) (literal_end s) n (from + 1))) (all_of (literal_named r names) (list_of (literal_of s) (literal_end s) n (from + 1))) out to × (at ≤ from + 1 + 512 * k) × (k ≤ n)
 
 abbrev decreases-loop : tie.decreases-loop
 decreases-loop out₀ s names table e r from n to₀ at₀ k₀ t11 out to at k = n - k

@@ -1,16 +1,16 @@
 use native.Mathlib.Omega.{arith}
 use borrow.Author.Rules.{rules}
 use Prim.Native.Nat.{◌*◌, ◌-◌, ◌≤◌}
-use Rattle.text_program.specs.Printing.{modeLinesText, relationsNamed}
+use Rattle.text_program.specs.Printing.{mode_lines_text, relations_named}
 use Rattle.parlog.specs.Scan.{list_of}
-use Rattle.parlog.specs.Program.{modesOf}
-use Rattle.parlog.specs.Image.{recordEnd}
+use Rattle.parlog.specs.Program.{modes_of}
+use Rattle.parlog.specs.Image.{record_end}
 use Rattle.write_text.proofs.Lined.{LinesLeft, lines_start, lines-stop, lines-turn}
 use Rattle.write_text.proofs.mode_lines.Statement.{statement}
 use Rattle.write_text.proofs.mode_lines.Tie as tie
 
 abbrev invariant-loop : tie.invariant-loop
-invariant-loop out₀ s names table e r to₀ at₀ k₀ out to at k = LinesLeft r names s k at out₀ to₀ (modeLinesText r names 0 (list_of (modesOf s) (recordEnd s) r 0)) (relationsNamed r names 0 (list_of (modesOf s) (recordEnd s) r 0)) out to × (at ≤ 65535 * k) × (k ≤ r)
+invariant-loop out₀ s names table e r to₀ at₀ k₀ out to at k = LinesLeft r names s k at out₀ to₀ (mode_lines_text r names 0 (list_of (modes_of s) (record_end s) r 0)) (relations_named r names 0 (list_of (modes_of s) (record_end s) r 0)) out to × (at ≤ 65535 * k) × (k ≤ r)
 
 abbrev decreases-loop : tie.decreases-loop
 decreases-loop out₀ s names table e r to₀ at₀ k₀ out to at k = r - k

@@ -3,17 +3,17 @@ use borrow.Author.Rules.{rules}
 use Prim.Native.Nat.{◌+◌, ◌-◌, ◌≤◌}
 use mathlib.Core.Path.{◌≡◌}
 use mathlib.Core.List.{[], ◌∷◌}
-use Rattle.text_program.specs.Printing.{modeText, rowText}
+use Rattle.text_program.specs.Printing.{mode_text, row_text}
 use Rattle.text_program.specs.Parsing.{all_of}
 use Rattle.parlog.specs.Scan.{list_of}
-use Rattle.parlog.specs.Image.{byte_at, modeEnd}
-use Rattle.write_text.specs.Modes.{anyMode}
+use Rattle.parlog.specs.Image.{byte_at, mode_end}
+use Rattle.write_text.specs.Modes.{any_mode}
 use Rattle.write_goal.proofs.Rowed.{RowAt, row-start, row-stop, row-turn}
 use Rattle.write_text.proofs.modes.Statement.{statement}
 use Rattle.write_text.proofs.modes.Tie as tie
 
 abbrev invariant-loop : tie.invariant-loop
-invariant-loop out₀ s from n to₀ at₀ k₀ t9 out to at k = RowAt modeText anyMode (44 ∷ []) (byte_at s) modeEnd n k at out₀ to₀ (rowText modeText (44 ∷ []) (list_of (byte_at s) modeEnd n from)) (all_of anyMode (list_of (byte_at s) modeEnd n from)) out to × (at ≡ from + k) × (k ≤ n)
+invariant-loop out₀ s from n to₀ at₀ k₀ t9 out to at k = RowAt mode_text any_mode (44 ∷ []) (byte_at s) mode_end n k at out₀ to₀ (row_text mode_text (44 ∷ []) (list_of (byte_at s) mode_end n from)) (all_of any_mode (list_of (byte_at s) mode_end n from)) out to × (at ≡ from + k) × (k ≤ n)
 
 abbrev decreases-loop : tie.decreases-loop
 decreases-loop out₀ s from n to₀ at₀ k₀ t9 out to at k = n - k
