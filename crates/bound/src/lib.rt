@@ -1,4 +1,6 @@
 // The step and the supply, which tell the variables bound: the plain ones with one row more.
+#![tactic(auto)]
+
 ghost use Rattle.std.specs.Prelude.{◌≡◌, ◌<◌};
 ghost use Rattle.children.specs.Telling.{Tells};
 ghost use Rattle.entry.specs.Entered.{Inside};

@@ -1,4 +1,6 @@
 // The step by number and the turn, which tell the variables bound: the plain calls with one row more.
+#![tactic(auto)]
+
 ghost use Rattle.bound.specs.Calls.{RowSays, step_bound_call, turn_bound_call, turn_bound_in};
 ghost use Rattle.entry.specs.Entered.{Inside};
 ghost use Rattle.parlog.specs.Limits.{small};

@@ -1,4 +1,6 @@
 // The variables bound, told in a lent row.
+#![tactic(auto)]
+
 ghost use Rattle.std.specs.Prelude.{◌≡◌, [], ◌∷◌, ◌≤◌, length, take};
 ghost use Rattle.lay.specs.Lay.{laid};
 ghost use Rattle.unify.specs.Pending.{vars_bound};

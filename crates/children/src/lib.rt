@@ -1,4 +1,6 @@
 // What the children of a process report, heard one by one from the last row down.
+#![tactic(auto)]
+
 ghost use Rattle.std.specs.Prelude.{◌≡◌, cond, false, ◌*◌, ◌≤◌, suc, ℕ, length};
 ghost use Rattle.parlog.specs.Tables.{at, procs_of, row_size};
 ghost use Rattle.parlog.specs.Tree.{is_child};

@@ -1,4 +1,6 @@
 // What an input-match and an equate come to: they fail, suspend, or bind. Nothing is written; the answer tells what is to be bound.
+#![tactic(auto)]
+
 ghost use Rattle.std.specs.Prelude.{◌≡◌, [], ◌∷◌, ℕ, ◌+◌, ◌*◌, ◌≤◌, ◌<◌, length, get_or, take};
 ghost use Rattle.parlog.specs.declared.Term.TheVariants.{Const};
 ghost use Rattle.parlog.specs.Program.{out_count};

@@ -1,4 +1,6 @@
 // Whether each call of a text has a mode line, for any number of these: a table of their names, class by class where it is too short for all, and in the order of names where it is too short for a class.
+#![tactic(auto)]
+
 ghost use Rattle.std.specs.Prelude.{◌≡◌, ◌+◌, ◌≤◌, length};
 ghost use Rattle.declared_calls.specs.Declares.{all_named, Answers, class_declared, Cleared, declared_for, Declares, Names};
 ghost use Rattle.name_index.specs.Index.{Indexed};

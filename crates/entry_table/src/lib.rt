@@ -1,4 +1,6 @@
 // Where the entries of a names row begin, noted in a lent table: each entry, or each second, fourth or eighth of a long row.
+#![tactic(auto)]
+
 ghost use Rattle.std.specs.Prelude.{◌&&◌, cond, ◌≡◌, ◌*◌, ◌<◌, ◌≤◌, ℕ, eqb, drop, get_or, length};
 ghost use Rattle.entry_table.specs.Entered.{Entered, table_size};
 ghost use Rattle.text_names.specs.Bytes.{is_small};

@@ -1,4 +1,6 @@
 // The head of a run's tables: the counts of processes and variables, then the turn marker.
+#![tactic(auto)]
+
 ghost use Rattle.std.specs.Prelude.{◌≡◌, ◌+◌, ◌*◌, ◌/◌, ◌%◌, ◌≤◌, ◌<◌, length};
 ghost use Rattle.parlog.specs.Tables.{head_bytes, head_size, marker_last, marker_steps, proc_count, var_count};
 

@@ -1,4 +1,6 @@
 // The filling of the index, record by record, as the load passes them.
+#![tactic(auto)]
+
 ghost use Rattle.std.specs.Prelude.{◌≡◌, cond, ◌+◌, ◌≤◌, ◌<◌, ℕ, eqb, get_or, length};
 ghost use Rattle.parlog.specs.Records.{byte_at};
 ghost use Rattle.program_index.specs.Indexed.{blocks_from, index_size};

@@ -1,4 +1,6 @@
 // The tests of one record of a text in their order, 6, 4 and 5, and the block that a clause is of.
+#![tactic(auto)]
+
 ghost use Rattle.std.specs.Prelude.{◌≡◌, ◌≤◌};
 ghost use Rattle.judge_text.specs.Tests.{tested};
 ghost use Rattle.parlog.specs.Load.{block_with};

@@ -1,4 +1,6 @@
 // Bytes written one behind the other into a lent row, as far as there is room: the writers never fail and tell the place behind what they wrote.
+#![tactic(auto)]
+
 ghost use Rattle.std.specs.Prelude.{◌≡◌, [], ◌∷◌, ◌%◌, ◌≤◌};
 ghost use Rattle.lay.specs.Lay.{four, Lays, two};
 

@@ -1,4 +1,6 @@
 // The low bytes of numbers, laid into a row as far as there is room.
+#![tactic(auto)]
+
 ghost use Rattle.std.specs.Prelude.{true, [], ◌∷◌, ◌≡◌, ◌%◌};
 ghost use Rattle.lay_literal.specs.Lows.{lows};
 ghost use Rattle.lay_text.specs.Laying.{Writes};

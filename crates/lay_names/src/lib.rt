@@ -1,4 +1,6 @@
 // Names of a text as entries of a names row: each name and a byte 10.
+#![tactic(auto)]
+
 ghost use Rattle.std.specs.Prelude.{true, [], ◌++◌, ◌∷◌, ◌≡◌, ◌≤◌, drop, length};
 ghost use Rattle.lay_text.specs.Laying.{Writes};
 ghost use Rattle.read_names.specs.Tables.{mode_names, modes_from, names_at};

@@ -1,4 +1,6 @@
 // Text laid into a lent row as far as there is room: bytes, words, and names of a names row.
+#![tactic(auto)]
+
 ghost use Rattle.std.specs.Prelude.{true, [], ◌∷◌, ◌≡◌, ◌+◌, ◌<◌, ◌≤◌, drop, length, take};
 ghost use Rattle.entry_table.specs.Entered.{Entered};
 ghost use Rattle.lay.specs.Lay.{laid};

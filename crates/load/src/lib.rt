@@ -1,4 +1,6 @@
 // The image loader: the tests of a record in their order, and the records in file order.
+#![tactic(auto)]
+
 ghost use Rattle.std.specs.Prelude.{◌≡◌, false, ◌+◌, ◌<◌, ◌≤◌, ℕ, get_or, length};
 ghost use Rattle.parlog.specs.Records.{kind_at, record_end};
 ghost use Rattle.parlog.specs.Load.{kind_fault, too_many, block_with, block_full, progressed, records, nothing_read, refusal, load_of};

@@ -1,4 +1,6 @@
 // Refusal 4, BODY: what a record holds, field by field, in the order of the definitions.
+#![tactic(auto)]
+
 ghost use Rattle.std.specs.Prelude.{◌≡◌, cond, ◌+◌, ◌*◌, ◌≤◌};
 ghost use Rattle.parlog.specs.Image.{body_at, byte_at, literals_end, stage_end, goal_end};
 ghost use Rattle.parlog.specs.Body.{modes_range, literals_range, stage_range, goal_range, relation_body, clause_body, ask_body, body_right};

@@ -1,4 +1,6 @@
 // Refusal 5, NAME: what a record names, and where a clause stands, in the order of the definitions.
+#![tactic(auto)]
+
 ghost use Rattle.std.specs.Prelude.{◌≡◌, cond, ◌+◌, ◌*◌, ◌≤◌, length, eqb};
 ghost use Rattle.parlog.specs.Image.{byte_at, equality, number_of, literal_end, literals_end, stages_end, goal_end, body_at};
 ghost use Rattle.parlog.specs.Names.{term_named, terms_named, relation_named, literal_named, literals_named, stages_named, goal_named, follows, clause_placed, clause_inside, names_right};

@@ -1,4 +1,6 @@
 // The calls over lent bytes: a start, a supply, and the value of a goal variable.
+#![tactic(auto)]
+
 ghost use Rattle.std.specs.Prelude.{◌≡◌, cond, ◌*◌, ◌≤◌, ◌<◌, leb, ltb, length};
 ghost use Rattle.parlog.specs.Calls.{value_answer, value_call};
 ghost use Rattle.parlog.specs.Codes.{starting, the_goal};

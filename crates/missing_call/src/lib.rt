@@ -1,4 +1,6 @@
 // The calls of a text whose relations a table does not have: the least of their names that is of a class and above a bound.
+#![tactic(auto)]
+
 ghost use Rattle.std.specs.Prelude.{[], ◌∷◌, ◌≡◌, ◌≤◌, drop, length, take};
 ghost use Rattle.missing_call.specs.Called.{calls_from, clause_calls, goal_calls, said_calls};
 ghost use Rattle.missing_call.specs.Least.{before, in_class, missing};

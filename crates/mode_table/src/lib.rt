@@ -1,4 +1,6 @@
 // The mode lines of a text in tables, and a relation found there by its name.
+#![tactic(auto)]
+
 ghost use Rattle.std.specs.Prelude.{◌≡◌, ◌≤◌, drop, length};
 ghost use Rattle.mode_table.specs.Moded.{Moded};
 ghost use Rattle.name_index.specs.Index.{chain_of};

@@ -1,4 +1,6 @@
 // What a move will do, decided before anything is written, and whether there is room for it.
+#![tactic(auto)]
+
 ghost use Rattle.std.specs.Prelude.{◌≡◌, [], ◌∷◌, ◌*◌, ◌≤◌, ◌<◌, get_or, take};
 ghost use Rattle.parlog.specs.Codes.{kind_code, mode_code, result_code};
 ghost use Rattle.parlog.specs.Delta.{at_block, at_stage, block_spot, guard_spot, literal_spot, making, only, report, reporting_with, try_spot, with_clause, with_mode, with_notes, with_spot, woken};

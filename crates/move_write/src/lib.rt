@@ -1,4 +1,6 @@
 // Carries a plan out: the one writer of the tables in a move.
+#![tactic(auto)]
+
 ghost use Rattle.std.specs.Prelude.{◌++◌, ◌+◌, ◌*◌, ◌≤◌, ◌<◌, length, take};
 ghost use Rattle.parlog.specs.Delta.{apply};
 ghost use Rattle.parlog.specs.Tables.{cell_size, procs_of, row_size, vars_in};

@@ -1,4 +1,6 @@
 // The rule that applies to a process, by its tag and mode: it reads the tables and answers a plan.
+#![tactic(auto)]
+
 ghost use Rattle.program_index.specs.Indexed.{Indexed};
 ghost use Rattle.std.specs.Prelude.{◌≡◌, ◌≢◌, List, ◌*◌, ◌≤◌, ◌<◌, length};
 ghost use Rattle.children.specs.Telling.{Tells};

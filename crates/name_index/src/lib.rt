@@ -1,4 +1,6 @@
 // Names of a text by their numbers in a table of places, found in chains by a sum of their bytes.
+#![tactic(auto)]
+
 ghost use Rattle.std.specs.Prelude.{◌≡◌, ◌%◌, ◌*◌, ◌+◌, ◌<◌, ◌≤◌, drop, length, take};
 ghost use Rattle.name_index.specs.Index.{AddsOne, chain_of, Indexed, Spells};
 ghost use Rattle.read_names.specs.Tables.{names_at};

@@ -1,4 +1,6 @@
 // The call that reads a clause text: its image and its names in two lent rows, or a refusal that changes nothing.
+#![tactic(auto)]
+
 ghost use Rattle.std.specs.Prelude.{◌++◌, ◌≡◌, ◌<◌, ◌≤◌, length, take};
 ghost use Rattle.mode_table.specs.Moded.{Moded};
 ghost use Rattle.name_index.specs.Index.{Indexed};

@@ -1,4 +1,6 @@
 // Reads of an image by places, total: a byte past the end is 0, and a place is where the fields lead.
+#![tactic(auto)]
+
 ghost use Rattle.std.specs.Prelude.{◌≡◌, ◌+◌, ◌*◌, ◌≤◌, ◌<◌, length};
 ghost use Rattle.parlog.specs.Image.{byte_at, word_at, term_of, term_at, number_of, literals_end, stage_end, stages_end, goal_end};
 

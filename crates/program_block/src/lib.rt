@@ -1,4 +1,6 @@
 // The blocks of a relation's clauses in an image: their number by the index, the rest in one pass over the relation's clauses.
+#![tactic(auto)]
+
 ghost use Rattle.std.specs.Prelude.{◌≡◌, ◌≤◌, length, get_or};
 ghost use Rattle.parlog.specs.Program.{program_of, block_count, block_of};
 ghost use Rattle.program_block.specs.Parts.{opens_by};

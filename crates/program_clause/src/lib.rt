@@ -1,4 +1,6 @@
 // The records of an image, read where they stand: modes of relations, fields of clauses. Total, with the definitions' defaults past the end.
+#![tactic(auto)]
+
 ghost use Rattle.program_index.specs.Indexed.{Indexed};
 ghost use Rattle.std.specs.Prelude.{◌≡◌, [], ◌+◌, ◌≤◌, ◌&&◌, cond, eqb, length, get_or};
 ghost use Rattle.parlog.specs.declared.Term.TheVariants.{Const};

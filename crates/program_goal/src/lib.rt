@@ -1,4 +1,6 @@
 // The goals of an image, their stages and literals, read where they stand, and the tags that they call for.
+#![tactic(auto)]
+
 ghost use Rattle.program_index.specs.Indexed.{Indexed};
 ghost use Rattle.std.specs.Prelude.{◌≡◌, cond, [], ◌+◌, ◌*◌, ◌≤◌, ◌<◌, eqb, ltb, length, get_or};
 ghost use Rattle.parlog.specs.Codes.{kind_of, tag_code};

@@ -1,4 +1,6 @@
 // The index of an image's program: a row of words on the caller's stack, filled once a call and lent to every read of the program.
+#![tactic(auto)]
+
 ghost use Rattle.std.specs.Prelude.{◌≡◌, ◌+◌, ◌≤◌, ◌<◌};
 ghost use Rattle.parlog.specs.Image.{body_at, record_at};
 ghost use Rattle.parlog.specs.Program.{block_count, program_of, vars_of};

@@ -1,4 +1,6 @@
 // Clauses where they stand in a text: the places of their head's terms, guard and body.
+#![tactic(auto)]
+
 ghost use Rattle.std.specs.Prelude.{◌≡◌, ◌≤◌, drop, length};
 ghost use Rattle.read_clause.specs.Parts.{ClauseIn, PartsIn};
 ghost use Rattle.text_program.specs.Source.{behind_arrow, read_clause, read_halves};

@@ -1,4 +1,6 @@
 // Terms, literals and goals where they stand in a text: the place behind them, how many there are, and whether an image may have so many.
+#![tactic(auto)]
+
 ghost use Rattle.std.specs.Prelude.{true, ◌≡◌, ◌-◌, ◌≤◌, drop, length};
 ghost use Rattle.read_goal.specs.Spans.{goal_right, literal_right, Spans, stage_right, stages_right};
 ghost use Rattle.text_names.specs.Bytes.{past};

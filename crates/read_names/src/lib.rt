@@ -1,4 +1,6 @@
 // Names of a text by their numbers: relations by mode line, variables by a table of the places where they first stand.
+#![tactic(auto)]
+
 ghost use Rattle.std.specs.Prelude.{true, ◌≡◌, ◌≤◌, leb, drop, length, take};
 ghost use Rattle.read_goal.specs.Spans.{Spans};
 ghost use Rattle.read_names.specs.Tables.{Finds, modes_from, names_at};

@@ -1,4 +1,6 @@
 // Records one after the other, whatever they hold: what each begins with, and whether it is cut.
+#![tactic(auto)]
+
 ghost use Rattle.std.specs.Prelude.{◌≡◌, ◌+◌, ◌≤◌};
 ghost use Rattle.parlog.specs.Records.{record_end, kind_at, cut};
 

@@ -1,4 +1,6 @@
 // A replay: the records of a trace played on lent tables, one after the other, as long as they agree.
+#![tactic(auto)]
+
 ghost use Rattle.std.specs.Prelude.{◌≡◌, ◌*◌, ◌+◌, ◌≤◌, eqb, length};
 ghost use Rattle.entry.specs.Entered.{Inside};
 ghost use Rattle.parlog.specs.Limits.{small};

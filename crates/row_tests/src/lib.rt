@@ -1,4 +1,6 @@
 // The table rules of one row, on its numbers alone.
+#![tactic(auto)]
+
 ghost use Rattle.std.specs.Prelude.{◌≡◌, ◌&&◌, ◌||◌, not, eqb, leb, ltb, take};
 ghost use Rattle.parlog.specs.Codes.{dormant, is_mode, is_result, none, reporting, suspended, tag_of};
 ghost use Rattle.parlog.specs.Scan.{implies};

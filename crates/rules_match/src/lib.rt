@@ -1,4 +1,6 @@
 // Input-match, equate and wake: each reads the tables and answers a plan. Nothing is written.
+#![tactic(auto)]
+
 ghost use Rattle.program_index.specs.Indexed.{Indexed};
 ghost use Rattle.std.specs.Prelude.{◌≡◌, cond, ◌*◌, ◌≤◌, eqb, get_or, length};
 ghost use Rattle.parlog.specs.declared.Term.TheVariants.{Const, Var};

@@ -1,4 +1,6 @@
 // The rules of or-par, seq-search and or-search: each reads the tables and answers a plan.
+#![tactic(auto)]
+
 ghost use Rattle.program_index.specs.Indexed.{Indexed};
 ghost use Rattle.std.specs.Prelude.{◌≡◌, [], ◌∷◌, ◌++◌, List, ◌+◌, ◌*◌, ◌≤◌, ◌<◌, suc, ltb, get_or, length};
 ghost use Rattle.children.specs.Telling.{Tells};

@@ -1,4 +1,6 @@
 // A turn, and a run of turns, over lent bytes.
+#![tactic(auto)]
+
 ghost use Rattle.std.specs.Prelude.{◌≡◌, ◌≤◌};
 ghost use Rattle.entry.specs.Entered.{Inside};
 ghost use Rattle.parlog.specs.Codes.{result_of};

@@ -1,4 +1,6 @@
 // The run that records: the plain run with one row more, in which each move leaves its record.
+#![tactic(auto)]
+
 ghost use Rattle.std.specs.Prelude.{◌≡◌, ◌<◌, ◌≤◌};
 ghost use Rattle.bound.specs.Calls.{RowSays};
 ghost use Rattle.children.specs.Telling.{Tells};

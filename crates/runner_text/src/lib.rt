@@ -1,4 +1,6 @@
 // The runner's text in a lent buffer, written from its back to its front: each piece is put in front of what stands there.
+#![tactic(auto)]
+
 ghost use Rattle.std.specs.Prelude.{◌≡◌, ◌∷◌, ◌++◌, ◌+◌, ◌≤◌, ◌<◌, drop, length};
 ghost use Rattle.parlog.specs.Text.{decimal, end_word, refused_text, term_text};
 ghost use Rattle.runner_text.specs.Fronting.{Fronted, line_text, ran_text};

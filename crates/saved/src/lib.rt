@@ -1,4 +1,6 @@
 // A run as a file in the house form: its records written one behind the other, tested, and read back into tables.
+#![tactic(auto)]
+
 ghost use Rattle.std.specs.Prelude.{◌≡◌, cond, false, not, ◌+◌, ◌*◌, ◌≤◌, ◌<◌, eqb, length};
 ghost use Rattle.parlog.specs.Load.{refusal};
 ghost use Rattle.parlog.specs.Records.{cut, kind_at, word_at};

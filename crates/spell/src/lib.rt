@@ -1,4 +1,6 @@
 // Clause text, byte by byte: whether it is one, and where it leaves the clause texts.
+#![tactic(auto)]
+
 mod tables;
 
 ghost use Rattle.std.specs.Prelude.{◌≡◌, ◌+◌, ◌≤◌};

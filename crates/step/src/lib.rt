@@ -1,4 +1,6 @@
 // The step by number: the move of one process, over lent bytes.
+#![tactic(auto)]
+
 ghost use Rattle.std.specs.Prelude.{◌≡◌, ◌*◌, ◌<◌, ◌≤◌, length};
 ghost use Rattle.children.specs.Telling.{Tells};
 ghost use Rattle.entry.specs.Entered.{Inside};

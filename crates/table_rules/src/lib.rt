@@ -1,4 +1,6 @@
 // The table rules over lent bytes: what is not refusal 8.
+#![tactic(auto)]
+
 ghost use Rattle.program_index.specs.Indexed.{Indexed};
 ghost use Rattle.std.specs.Prelude.{◌≡◌, ◌&&◌, ◌+◌, ◌*◌, ◌≤◌, ◌<◌, length};
 ghost use Rattle.parlog.specs.Codes.{tag_of};

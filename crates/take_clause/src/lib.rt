@@ -1,4 +1,6 @@
 // A clause and the goal of a text taken in one pass: constants into a table, the record into a row, and what its tests find.
+#![tactic(auto)]
+
 ghost use Rattle.std.specs.Prelude.{true, ◌≡◌, ◌≤◌, drop, length};
 ghost use Rattle.lay_literal.specs.Lows.{lows};
 ghost use Rattle.lay_text.specs.Laying.{Writes};

@@ -1,4 +1,6 @@
 // Literals, stages and goals of a text taken in one pass: names into tables, bytes into a row, with the test of each call by the way.
+#![tactic(auto)]
+
 ghost use Rattle.std.specs.Prelude.{false, true, [], ◌∷◌, ◌≡◌, ◌≤◌, drop, length};
 ghost use Rattle.lay.specs.Lay.{laid};
 ghost use Rattle.lay_literal.specs.Lows.{lows};

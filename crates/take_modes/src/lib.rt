@@ -1,4 +1,6 @@
 // The mode lines of a text taken in one pass: names and arities into tables, records into a row, each line tested.
+#![tactic(auto)]
+
 ghost use Rattle.std.specs.Prelude.{false, true, ◌≡◌, ◌<◌, ◌≤◌, leb, drop, length, take};
 ghost use Rattle.judge_text.specs.Tests.{tested};
 ghost use Rattle.lay.specs.Lay.{laid};

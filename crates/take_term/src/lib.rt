@@ -1,4 +1,6 @@
 // Terms of a text taken in one pass: their names into tables, their bytes into a row.
+#![tactic(auto)]
+
 ghost use Rattle.std.specs.Prelude.{[], ◌∷◌, ◌≡◌, ◌≤◌, drop, length, take};
 ghost use Rattle.read_names.specs.Tables.{Adds, names_at};
 ghost use Rattle.take_term.specs.Takes.{moved, Ready, rows, TakesTerm, TakesTerms};

@@ -1,4 +1,6 @@
 // The clauses of a text taken in one pass, each tested, up to the first that is refused.
+#![tactic(auto)]
+
 ghost use Rattle.std.specs.Prelude.{◌≡◌, ◌≤◌, length};
 ghost use Rattle.judge_text.specs.Tests.{Counted, kept};
 ghost use Rattle.mode_table.specs.Moded.{Moded};

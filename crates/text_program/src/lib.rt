@@ -1,4 +1,6 @@
 // What a clause text means, and the text of an image, in specs/. There is nothing to run here but the answers of the two calls.
+#![tactic(auto)]
+
 use parlog::Refusal;
 
 // Text 21: the answer of a parse: the lengths of the image and of the names, or a refusal.

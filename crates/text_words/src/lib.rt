@@ -1,4 +1,6 @@
 // The answers of print and parse as the one word that C is given.
+#![tactic(auto)]
+
 ghost use Rattle.std.specs.Prelude.{◌≡◌, ◌≤◌};
 ghost use Rattle.parlog.specs.Numbers.{word};
 ghost use Rattle.text_words.specs.Numbers.{ParseFits, parse_numbers, print_numbers};

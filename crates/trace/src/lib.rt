@@ -1,4 +1,6 @@
 // Traces: records of steps and supplies with their stamps, and the tests of a whole trace.
+#![tactic(auto)]
+
 ghost use Rattle.std.specs.Prelude.{◌≡◌, ◌+◌, ◌*◌, ◌<◌, ◌≤◌, length};
 ghost use Rattle.lay.specs.Lay.{Lays};
 ghost use Rattle.parlog.specs.Records.{cut, kind_at, word_at};

@@ -1,4 +1,6 @@
 // Step and supply that record: the plain calls with one row more, in which the move leaves its record.
+#![tactic(auto)]
+
 ghost use Rattle.std.specs.Prelude.{◌≡◌};
 ghost use Rattle.bound.specs.Calls.{RowSays};
 ghost use Rattle.parlog.specs.Calls.{step_call};

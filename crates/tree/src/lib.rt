@@ -1,4 +1,6 @@
 // The tree of parents: the nearest try-clause above a process, and putting all below it to sleep.
+#![tactic(auto)]
+
 ghost use Rattle.std.specs.Prelude.{◌≡◌, ◌+◌, ◌*◌, ◌≤◌, ◌<◌, length, set};
 ghost use Rattle.parlog.specs.Codes.{dormant};
 ghost use Rattle.parlog.specs.Delta.{with_mode};

@@ -1,4 +1,6 @@
 // A turn with the marker beside the counts: handed in and back by value, and lent as one record.
+#![tactic(auto)]
+
 ghost use Rattle.std.specs.Prelude.{◌≡◌, ◌++◌, length, take};
 ghost use Rattle.parlog.specs.Limits.{small};
 ghost use Rattle.parlog.specs.Load.{load_of};

@@ -1,4 +1,6 @@
 // Whose turn it is: one pass from the last row down, in which every process is asked whether it can move, and heard by its parent.
+#![tactic(auto)]
+
 ghost use Rattle.std.specs.Prelude.{◌≡◌, cond, ◌*◌, ◌≤◌, ◌<◌, suc, ℕ, eqb, ltb, length, set};
 ghost use Rattle.children.specs.Notes.{good_note, hear};
 ghost use Rattle.children.specs.Telling.{Tells};

@@ -1,4 +1,6 @@
 // Values and unifying over the lent variable table. Nothing is written: what a unifier binds is pending, in a struct by value.
+#![tactic(auto)]
+
 ghost use Rattle.std.specs.Prelude.{◌≡◌, true, false, [], ◌+◌, ◌*◌, ◌≤◌, ◌<◌, length, take};
 ghost use Rattle.parlog.specs.Tables.{binding_of, cell_size, vars_in};
 ghost use Rattle.parlog.specs.Unify.{bound, is_bound, joined, meet, meet_vars, some_bound, unify, unify_one, value, value_of};

@@ -1,4 +1,6 @@
 // The variable table: a lent row of bytes, one cell of them a variable, read and written a binding at a time.
+#![tactic(auto)]
+
 ghost use Rattle.std.specs.Prelude.{◌≡◌, ◌++◌, ◌+◌, ◌*◌, ◌/◌, ◌%◌, ◌≤◌, ◌<◌, length, replicate, set};
 ghost use Rattle.parlog.specs.Tables.{binding_at, binding_by, binding_bytes, binding_of, cell_size, number_code, sort_code, vars_in};
 ghost use Rattle.parlog.specs.declared.Binding.TheVariants.{Bound, Free};

@@ -1,4 +1,6 @@
 // The watch call of operators: a lent row of process records, scanned by one thin function over a covered test on one record.
+#![tactic(auto)]
+
 ghost use Rattle.std.specs.Prelude.{◌≡◌};
 ghost use Rattle.parlog.specs.Run.{watch_of};
 

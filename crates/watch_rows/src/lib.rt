@@ -1,4 +1,6 @@
 // The watch over process rows: the test on one record, and the scan of a lent row of bytes.
+#![tactic(auto)]
+
 ghost use Rattle.std.specs.Prelude.{◌≡◌, ◌/◌, length};
 ghost use Rattle.parlog.specs.Codes.{is_mode, suspended};
 ghost use Rattle.parlog.specs.Run.{watch_of};

@@ -1,4 +1,6 @@
 // Each answer of a call as the one word that C is given.
+#![tactic(auto)]
+
 ghost use Rattle.std.specs.Prelude.{◌≡◌, ◌≤◌};
 ghost use Rattle.parlog.specs.Numbers.{end_number, refused_as, rule_number, run_numbers, start_numbers, step_numbers, supply_numbers, term_numbers, value_numbers, variable, watch_numbers, word};
 ghost use Rattle.parlog.specs.declared.Stepped.TheVariants.{Moved};

@@ -1,4 +1,6 @@
 // The text of clauses, where they stand in an image.
+#![tactic(auto)]
+
 ghost use Rattle.std.specs.Prelude.{◌&&◌, true, ◌≡◌, ◌+◌, ◌≤◌};
 ghost use Rattle.entry_table.specs.Entered.{Entered};
 ghost use Rattle.lay_text.specs.Laying.{Writes};
