@@ -32,7 +32,7 @@ const EARLIER: u8 = SILENT + GOOD + BAD;
 // ---- what is told
 
 // What the latest child has reported, and its number.
-#[derive(Drop)]
+#[derive(Clone, Copy)]
 pub enum News {
     Silent,
     Good(usize),
@@ -40,7 +40,7 @@ pub enum News {
 }
 
 // What all of them have: one failure, all success, all failure, the lowest that succeeded, the latest.
-#[derive(Drop)]
+#[derive(Clone, Copy)]
 pub struct Told {
     pub failed: bool,
     pub succeeded: bool,
@@ -50,7 +50,7 @@ pub struct Told {
 }
 
 // What is noted of those heard so far: what they said, the latest of them, the lowest that succeeded.
-#[derive(Drop)]
+#[derive(Clone, Copy)]
 pub struct Note {
     pub said: u8,
     pub latest: u16,

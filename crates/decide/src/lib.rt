@@ -13,7 +13,7 @@ use parlog::{Change, Pair, Term};
 use unify::Unified;
 
 // Fails, suspends, or binds.
-#[derive(Drop)]
+#[derive(Clone, Copy)]
 pub enum Deed {
     Fails,
     Suspends,
@@ -21,7 +21,7 @@ pub enum Deed {
 }
 
 // What was decided: the bindings to be made in their order, and the variables to be noted with zeros behind them.
-#[derive(Drop)]
+#[derive(Clone, Copy)]
 pub struct Decision {
     pub deed: Deed,
     pub count: usize,
@@ -31,14 +31,14 @@ pub struct Decision {
 }
 
 // Variables noted so far, with zeros behind them.
-#[derive(Drop)]
+#[derive(Clone, Copy)]
 pub struct Noted {
     pub count: u8,
     pub notes: [u16; 4],
 }
 
 // Which variables are not to be bound: those below the bar, and the values of the input arguments among the first.
-#[derive(Drop)]
+#[derive(Clone, Copy)]
 pub struct Held {
     pub bar: usize,
     pub arity: usize,

@@ -11,7 +11,7 @@ use missing_call::Asked;
 const ALL: usize = missing_call::CLASSES;
 
 // Where the mode lines begin, the class of the names in the table, how many there are, and where the lines begin whose names may not be there.
-#[derive(Drop)]
+#[derive(Clone, Copy)]
 pub struct Named {
     pub from: usize,
     pub class: usize,

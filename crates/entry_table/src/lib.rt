@@ -19,7 +19,7 @@ const HALF: usize = 2561;
 const FARTHEST: usize = 8;
 
 // How many entries lie from one noted place to the next, and how many places are noted.
-#[derive(Drop)]
+#[derive(Clone, Copy)]
 pub struct Noted {
     pub every: usize,
     pub count: usize,

@@ -13,7 +13,7 @@ use entry_table::Noted;
 const MOST: usize = 18446744073709551615;
 
 // How far a text has come: the place, and whether the names row had all its names.
-#[derive(Drop)]
+#[derive(Clone, Copy)]
 pub struct To {
     pub at: usize,
     pub named: bool,

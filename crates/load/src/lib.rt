@@ -95,7 +95,7 @@ fn progressed(s: &[u8], g: Progress, at: usize, kind: usize) -> Progress
 }
 
 // The verdict of a record, and of a clause that goes where its body begins.
-#[derive(Drop)]
+#[derive(Clone, Copy)]
 struct Tested {
     verdict: Verdict,
     body: usize,

@@ -26,7 +26,7 @@ pub const CLASSES: usize = 16;
 const CHAINS_EACH: usize = 32;
 
 // The class of the names that are looked for, or all; how many names the table has; and the name that they stand above, if there is one.
-#[derive(Drop)]
+#[derive(Clone, Copy)]
 pub struct Asked {
     pub class: usize,
     pub count: usize,
@@ -35,7 +35,7 @@ pub struct Asked {
 }
 
 // How far the text was walked over, and the least name of a call so far, if there is one.
-#[derive(Drop)]
+#[derive(Clone, Copy)]
 pub struct Seen {
     pub end: usize,
     pub some: bool,

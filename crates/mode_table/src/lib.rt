@@ -10,7 +10,7 @@ ghost use Rattle.text_names.specs.Bytes.{front};
 use read_names::Entry;
 
 // Where the mode lines begin, and how many there are.
-#[derive(Drop)]
+#[derive(Clone, Copy)]
 pub struct Lines {
     pub from: usize,
     pub count: usize,

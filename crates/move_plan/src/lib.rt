@@ -16,14 +16,14 @@ pub const NEW_MOST: usize = 12;
 pub const NEW_SIZE: usize = NEW_MOST * codes::ROW_SIZE;
 
 // The bindings that wait, in order.
-#[derive(Drop)]
+#[derive(Clone, Copy)]
 pub struct Changes {
     pub count: usize,
     pub list: [Change; codes::MOST_ARITY],
 }
 
 // The new processes wait as rows.
-#[derive(Drop)]
+#[derive(Clone, Copy)]
 pub struct Plan {
     pub acts: bool,
     pub mv: Move,

@@ -14,14 +14,14 @@ pub const CHAINS: usize = 512;
 const FACTOR: usize = 31;
 
 // Where a name ends, and its chain.
-#[derive(Drop)]
+#[derive(Clone, Copy)]
 pub struct Word {
     pub end: usize,
     pub chain: usize,
 }
 
 // How many names there are now, and the number of the one that was added.
-#[derive(Drop)]
+#[derive(Clone, Copy)]
 pub struct Added {
     pub count: usize,
     pub number: usize,

@@ -44,7 +44,7 @@ fn to_of(s: &[u8], rels: usize, clauses: usize, ix: &[u16; program_index::SIZE],
 }
 
 // The blocks of a relation: how many, and of one block the number of its clauses and a clause.
-#[derive(Drop)]
+#[derive(Clone, Copy)]
 pub struct Blocks {
     pub count: usize,
     pub size: usize,

@@ -14,7 +14,7 @@ use parlog::{Term, codes};
 // ---- relations
 
 // A row of modes: how many, and where.
-#[derive(Drop)]
+#[derive(Clone, Copy)]
 pub struct Row {
     pub n: usize,
     pub at: usize,
@@ -101,7 +101,7 @@ pub fn found(test: bool, count: usize, j: usize, k: usize, old: usize) -> usize
 }
 
 // The outputs in a row of modes: how many, and the number of one.
-#[derive(Drop)]
+#[derive(Clone, Copy)]
 pub struct Outs {
     pub count: usize,
     pub number: usize,

@@ -12,7 +12,7 @@ use parlog::{Spot, Term, codes};
 use program_clause::Outs;
 
 // A literal: its relation, its arity, and the four arguments that it may have.
-#[derive(Drop)]
+#[derive(Clone, Copy)]
 pub struct Lit {
     pub rel: usize,
     pub arity: usize,
@@ -95,7 +95,7 @@ fn equation(t: Term, v: usize) -> Lit
 // ---- where a goal stands
 
 // The stages of a goal: how many, and where; for a committed body also its clause, whose output equations come first.
-#[derive(Drop)]
+#[derive(Clone, Copy)]
 pub struct Home {
     pub stages: usize,
     pub at: usize,
@@ -302,7 +302,7 @@ fn stage_size_at(
 }
 
 // A stage's size and the relation of one of its literals, that of equality past the end.
-#[derive(Drop)]
+#[derive(Clone, Copy)]
 pub struct Call {
     pub size: usize,
     pub rel: usize,

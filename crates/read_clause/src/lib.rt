@@ -21,7 +21,7 @@ const A_GOAL: usize = 1;
 const MAYBE: usize = 2;
 
 // Guard and body: how each is read and where, whether they are right; and the place behind them.
-#[derive(Drop)]
+#[derive(Clone, Copy)]
 pub struct Parts {
     pub guarded: usize,
     pub guard: usize,
@@ -32,7 +32,7 @@ pub struct Parts {
 }
 
 // A clause: where its terms begin, how many there are, its guard and body, whether terms and goals are no more than they may be, whether it ends in `;`, and where the next line begins.
-#[derive(Drop)]
+#[derive(Clone, Copy)]
 pub struct ClauseAt {
     pub terms: usize,
     pub arity: usize,

@@ -34,7 +34,7 @@ const MOST_STAGES: usize = 8;
 const EQUAL_TERMS: usize = 2;
 
 // Where something ends, how many items it has, and whether it is right.
-#[derive(Drop)]
+#[derive(Clone, Copy)]
 pub struct Span {
     pub end: usize,
     pub count: usize,

@@ -11,7 +11,7 @@ ghost use Rattle.text_program.specs.Source.{is_mode_line, lines, mode_word, read
 use read_goal::Span;
 
 // A relation: its number, how many modes its line has, and whether there is one.
-#[derive(Drop)]
+#[derive(Clone, Copy)]
 pub struct Entry {
     pub number: usize,
     pub arity: usize,

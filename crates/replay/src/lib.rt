@@ -18,7 +18,7 @@ use step::Planning;
 use trace::Tested;
 
 // The answer of a replay: how many records were played.
-#[derive(Drop)]
+#[derive(Clone, Copy)]
 pub enum Replayed {
     Replays(usize),
     Unreplayed(Refusal),

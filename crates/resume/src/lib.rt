@@ -18,14 +18,14 @@ use saved::Reading;
 pub const FOREIGN: u8 = 15;
 
 // The answer of a save: how many bytes the saved run has.
-#[derive(Drop)]
+#[derive(Clone, Copy)]
 pub enum Saved {
     Stored(usize),
     Unsaved(Refusal),
 }
 
 // The answer of a resume.
-#[derive(Drop)]
+#[derive(Clone, Copy)]
 pub enum Resumed {
     Restored,
     Unresumed(Refusal),

@@ -15,7 +15,7 @@ use parlog::{End, Found, Loaded, Ran, Stepped, codes};
 use turn_search::Turn;
 
 // What a run finds before a step: whose turn it is with what its children report, and the end where it is nobody's.
-#[derive(Drop)]
+#[derive(Clone, Copy)]
 pub struct View {
     pub who: Found,
     pub told: Told,

@@ -48,7 +48,7 @@ const IMAGE_LENGTH: usize = codes::RECORD_BODY + codes::HEAD_SIZE;
 const RULE_AT: usize = IMAGE_LENGTH + 2;
 
 // What is known of a saved run between two records: the kind of the one before, 0 where there is none, and how many processes and variables were read.
-#[derive(Drop)]
+#[derive(Clone, Copy)]
 pub struct Seen {
     pub kind: usize,
     pub procs: usize,
@@ -56,7 +56,7 @@ pub struct Seen {
 }
 
 // The answer to a saved run's records: how many processes and variables there are, or the first refusal.
-#[derive(Drop)]
+#[derive(Clone, Copy)]
 pub enum Reading {
     Whole(usize, usize),
     Broken(Refusal),

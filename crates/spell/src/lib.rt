@@ -9,7 +9,7 @@ ghost use Rattle.spell.specs.Stuck.{spelling_of};
 ghost use Rattle.spell.specs.Table.{row_after, steps};
 
 // A clause text, or the place of the first byte that no clause text could continue with.
-#[derive(Drop)]
+#[derive(Clone, Copy)]
 pub enum Spelt {
     Right,
     Stuck(usize),

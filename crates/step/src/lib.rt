@@ -30,7 +30,7 @@ fn count(steps: u32) -> u32
 }
 
 // What a step was decided to be: what refuses it, 0 where nothing does, and its plan.
-#[derive(Drop)]
+#[derive(Clone, Copy)]
 pub struct Planning {
     pub number: u8,
     pub plan: Plan,

@@ -39,7 +39,7 @@ const CLAUSE_FRONT: usize = 8;
 const ASK_FRONT: usize = 5;
 
 // What was taken: the place behind it in the text and in the image, how many constants there are; a clause's relation and whether it ends in `;`; whether it has no more than it may have, whether each call has the arity of its mode line, and whether each has a mode line.
-#[derive(Drop)]
+#[derive(Clone, Copy)]
 pub struct Taken {
     pub end: usize,
     pub at: usize,

@@ -25,7 +25,7 @@ const OUTPUT: usize = 94;
 const MODES_AT: usize = 5;
 
 // The mode lines in the tables and the place behind them in the text; the number of the first refusal, or 0, and the place of its record, or the place behind all; and what is known there.
-#[derive(Drop)]
+#[derive(Clone, Copy)]
 pub struct Modes {
     pub lines: Lines,
     pub rest: usize,
@@ -35,7 +35,7 @@ pub struct Modes {
 }
 
 // A mode line: the place of its name, the name's chain, the place behind the line, and how many modes it has.
-#[derive(Drop)]
+#[derive(Clone, Copy)]
 pub struct Line {
     pub name: usize,
     pub chain: usize,

@@ -13,7 +13,7 @@ use name_index::Added;
 use parlog::codes;
 
 // How far a text has been taken: the place in it, how many items were read last, the place in the image, how many constants and variables there are; whether each call has the arity of its mode line, and whether each has a mode line.
-#[derive(Drop)]
+#[derive(Clone, Copy)]
 pub struct Reading {
     pub end: usize,
     pub count: usize,

@@ -14,7 +14,7 @@ use parlog::{Progress, Verdict, codes};
 use take_clause::Taken;
 
 // How far the clauses were taken: the place in the text and how many may still follow, the number of the first refusal, or 0, and the place of its record, or the place behind all; how many constants there are, what is known there, and whether each call so far has a mode line.
-#[derive(Drop)]
+#[derive(Clone, Copy)]
 pub struct Clauses {
     pub end: usize,
     pub left: usize,
@@ -26,7 +26,7 @@ pub struct Clauses {
 }
 
 // How far they were taken behind one more, and whether it ends in `;`.
-#[derive(Drop)]
+#[derive(Clone, Copy)]
 struct Behind {
     next: Clauses,
     semicolon: bool,

@@ -4,14 +4,14 @@
 use parlog::Refusal;
 
 // Text 21: the answer of a parse: the lengths of the image and of the names, or a refusal.
-#[derive(Drop)]
+#[derive(Clone, Copy)]
 pub enum Parsed {
     Read(usize, usize),
     Unread(Refusal),
 }
 
 // Text 28: the answer of a print: the length of the text, or a refusal.
-#[derive(Drop)]
+#[derive(Clone, Copy)]
 pub enum Printed {
     Wrote(usize),
     Unwritten(Refusal),

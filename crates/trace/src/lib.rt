@@ -29,7 +29,7 @@ const GAP: u8 = 19;
 pub const DISAGREES: u8 = 20;
 
 // What the tests of a trace come to: how many records it has, or what is wrong.
-#[derive(Drop)]
+#[derive(Clone, Copy)]
 pub enum Tested {
     Records(usize),
     Faulty(Refusal),

@@ -11,7 +11,7 @@ ghost use Rattle.turn_forms.specs.Turned.{marker_bytes, TurnedSays, turned_from}
 use parlog::{Loaded, Marker, Refusal, Stepped, codes};
 
 // What a turn hands back: the marker and the answer.
-#[derive(Drop)]
+#[derive(Clone, Copy)]
 pub struct Turned {
     pub last: u16,
     pub steps: u32,

@@ -19,7 +19,7 @@ use children::{Note, Told};
 use parlog::{Found, codes};
 
 // Whose turn it is, and what its children report.
-#[derive(Drop)]
+#[derive(Clone, Copy)]
 pub struct Turn {
     pub who: Found,
     pub told: Told,

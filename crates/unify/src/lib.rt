@@ -9,7 +9,7 @@ ghost use Rattle.unify.specs.Pending.{Below, bound_in, bound_vars, latest, newer
 use parlog::{Binding, Change, Met, Pair, Term, codes};
 
 // A unifier so far: whether no two constants clashed, and the bindings in the order made.
-#[derive(Drop)]
+#[derive(Clone, Copy)]
 pub struct Unified {
     pub ok: bool,
     pub count: usize,

@@ -12,7 +12,7 @@ ghost use Rattle.values.specs.Values.{GatherSays, ValuesSays, values_bytes};
 use parlog::{Loaded, Refusal, Term, codes};
 
 // The answer of a look at all goal variables: how many they are.
-#[derive(Drop)]
+#[derive(Clone, Copy)]
 pub enum Gathered {
     Values(usize),
     Ungathered(Refusal),

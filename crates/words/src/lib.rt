@@ -32,7 +32,7 @@ const SEEN: usize = 1;
 const MOST_NUMBER: usize = 4294967295;
 
 // The rule of a move, the sort of what it touched, and the number of that.
-#[derive(Drop)]
+#[derive(Clone, Copy)]
 struct Told(u8, u8, usize);
 
 // The numbers of an answer as one word.
