@@ -1,4 +1,4 @@
-// What a C program calls: numbers and byte rows alone. Each answer is one word.
+// What a C program calls: numbers and byte rows alone. Each answer is one word. Crate capi_c exports these functions.
 #![tactic(auto)]
 
 ghost use Rattle.capi.specs.Tells.{LoadTells, ParseTells, PrintTells, ReplayTells, ResumeTells, RunTells, RunTracedTells, SaveTells, StartTells, StepBoundTells, StepTells, StepTracedTells, SupplyBoundTells, SupplyTells, SupplyTracedTells, TurnBoundTells, TurnTells, ValuesTells, ValueTells, WatchTells};
@@ -8,8 +8,7 @@ ghost use Rattle.parlog.specs.Tables.{lent};
 use parlog::Loaded;
 
 // Tests an image: its relation and clause counts, or the first refusal.
-#[unsafe(no_mangle)]
-pub extern "C" fn rissobarm_load(image: &[u8]) -> u64
+pub fn rissobarm_load(image: &[u8]) -> u64
     ensures { LoadTells image.now result }
 {
     let l = load::load(image);
@@ -21,8 +20,7 @@ pub extern "C" fn rissobarm_load(image: &[u8]) -> u64
 }
 
 // Writes the tables of a run that has not moved yet.
-#[unsafe(no_mangle)]
-pub extern "C" fn rissobarm_start(
+pub fn rissobarm_start(
     image: &[u8],
     head: &mut [u8],
     procs: &mut [u8],
@@ -35,8 +33,7 @@ pub extern "C" fn rissobarm_start(
 }
 
 // Makes the step of one process.
-#[unsafe(no_mangle)]
-pub extern "C" fn rissobarm_step(
+pub fn rissobarm_step(
     image: &[u8],
     head: &mut [u8],
     procs: &mut [u8],
@@ -50,8 +47,7 @@ pub extern "C" fn rissobarm_step(
 }
 
 // Makes the step of the first process that can move after the one stepped last.
-#[unsafe(no_mangle)]
-pub extern "C" fn rissobarm_turn(
+pub fn rissobarm_turn(
     image: &[u8],
     head: &mut [u8],
     procs: &mut [u8],
@@ -64,8 +60,7 @@ pub extern "C" fn rissobarm_turn(
 }
 
 // Makes turns until the goal has ended, nothing can move, the limit is used up or a step has no room.
-#[unsafe(no_mangle)]
-pub extern "C" fn rissobarm_run(
+pub fn rissobarm_run(
     image: &[u8],
     head: &mut [u8],
     procs: &mut [u8],
@@ -79,8 +74,7 @@ pub extern "C" fn rissobarm_run(
 }
 
 // Binds the value of a goal variable to a constant.
-#[unsafe(no_mangle)]
-pub extern "C" fn rissobarm_supply(
+pub fn rissobarm_supply(
     image: &[u8],
     head: &[u8],
     procs: &[u8],
@@ -95,8 +89,7 @@ pub extern "C" fn rissobarm_supply(
 }
 
 // The value of a goal variable.
-#[unsafe(no_mangle)]
-pub extern "C" fn rissobarm_value(
+pub fn rissobarm_value(
     image: &[u8],
     head: &[u8],
     procs: &[u8],
@@ -110,8 +103,7 @@ pub extern "C" fn rissobarm_value(
 }
 
 // The values of all goal variables, a variable row each.
-#[unsafe(no_mangle)]
-pub extern "C" fn rissobarm_values(
+pub fn rissobarm_values(
     image: &[u8],
     head: &[u8],
     procs: &[u8],
@@ -125,8 +117,7 @@ pub extern "C" fn rissobarm_values(
 }
 
 // The lowest number of a suspended process, in any row of processes.
-#[unsafe(no_mangle)]
-pub extern "C" fn rissobarm_watch(procs: &[u8]) -> u64
+pub fn rissobarm_watch(procs: &[u8]) -> u64
     ensures { WatchTells procs.now result }
 {
     let a = watch_rows::watch_rows(procs);
@@ -136,8 +127,7 @@ pub extern "C" fn rissobarm_watch(procs: &[u8]) -> u64
 // ---- the variables bound, told in a row more
 
 // Makes the step of one process, and tells the variables that it bound.
-#[unsafe(no_mangle)]
-pub extern "C" fn rissobarm_step_bound(
+pub fn rissobarm_step_bound(
     image: &[u8],
     head: &mut [u8],
     procs: &mut [u8],
@@ -152,8 +142,7 @@ pub extern "C" fn rissobarm_step_bound(
 }
 
 // Makes the turn, and tells the variables that it bound.
-#[unsafe(no_mangle)]
-pub extern "C" fn rissobarm_turn_bound(
+pub fn rissobarm_turn_bound(
     image: &[u8],
     head: &mut [u8],
     procs: &mut [u8],
@@ -167,8 +156,7 @@ pub extern "C" fn rissobarm_turn_bound(
 }
 
 // Makes the supply, and tells the variable that takes the binding.
-#[unsafe(no_mangle)]
-pub extern "C" fn rissobarm_supply_bound(
+pub fn rissobarm_supply_bound(
     image: &[u8],
     head: &[u8],
     procs: &[u8],
@@ -186,8 +174,7 @@ pub extern "C" fn rissobarm_supply_bound(
 // ---- the moves recorded, in a row more
 
 // Makes the step of one process, and records it.
-#[unsafe(no_mangle)]
-pub extern "C" fn rissobarm_step_traced(
+pub fn rissobarm_step_traced(
     image: &[u8],
     head: &mut [u8],
     procs: &mut [u8],
@@ -203,8 +190,7 @@ pub extern "C" fn rissobarm_step_traced(
 }
 
 // Makes the supply, and records it.
-#[unsafe(no_mangle)]
-pub extern "C" fn rissobarm_supply_traced(
+pub fn rissobarm_supply_traced(
     image: &[u8],
     head: &[u8],
     procs: &[u8],
@@ -221,8 +207,7 @@ pub extern "C" fn rissobarm_supply_traced(
 }
 
 // Makes turns, and records each.
-#[unsafe(no_mangle)]
-pub extern "C" fn rissobarm_run_traced(
+pub fn rissobarm_run_traced(
     image: &[u8],
     head: &mut [u8],
     procs: &mut [u8],
@@ -240,8 +225,7 @@ pub extern "C" fn rissobarm_run_traced(
 // ---- a run saved, and gone on with
 
 // Writes a run to the front of a row, as a saved run.
-#[unsafe(no_mangle)]
-pub extern "C" fn rissobarm_save(
+pub fn rissobarm_save(
     image: &[u8],
     head: &[u8],
     procs: &[u8],
@@ -255,8 +239,7 @@ pub extern "C" fn rissobarm_save(
 }
 
 // Reads a saved run back into tables.
-#[unsafe(no_mangle)]
-pub extern "C" fn rissobarm_resume(
+pub fn rissobarm_resume(
     image: &[u8],
     head: &mut [u8],
     procs: &mut [u8],
@@ -272,8 +255,7 @@ pub extern "C" fn rissobarm_resume(
 // ---- a trace played again
 
 // Plays the records of a trace, as long as they agree.
-#[unsafe(no_mangle)]
-pub extern "C" fn rissobarm_replay(
+pub fn rissobarm_replay(
     image: &[u8],
     head: &mut [u8],
     procs: &mut [u8],
@@ -289,8 +271,7 @@ pub extern "C" fn rissobarm_replay(
 // ---- clause text
 
 // Writes the text of an image to the front of a row, with the names of a list.
-#[unsafe(no_mangle)]
-pub extern "C" fn rissobarm_print(image: &[u8], names: &[u8], text: &mut [u8]) -> u64
+pub fn rissobarm_print(image: &[u8], names: &[u8], text: &mut [u8]) -> u64
     ensures { PrintTells image.now names.now text.old result text.new }
 {
     let a = print::print(image, names, text);
@@ -298,8 +279,7 @@ pub extern "C" fn rissobarm_print(image: &[u8], names: &[u8], text: &mut [u8]) -
 }
 
 // Makes an image and its list of names out of a text, each at the front of its row.
-#[unsafe(no_mangle)]
-pub extern "C" fn rissobarm_parse(image: &mut [u8], names: &mut [u8], text: &[u8]) -> u64
+pub fn rissobarm_parse(image: &mut [u8], names: &mut [u8], text: &[u8]) -> u64
     ensures { ParseTells image.old names.old text.now result image.new names.new }
 {
     let a = parse::parse(image, names, text);

@@ -9,8 +9,12 @@ ghost use Rattle.parlog.specs.Text.{runner_text, var_lines};
 ghost use Rattle.parlog.specs.declared.Loaded.TheVariants.{Accepted};
 ghost use Rattle.runner_text.specs.Fronting.{Fronted};
 
-use libc::{STDIN_FILENO, STDOUT_FILENO};
 use parlog::{Loaded, Ran, Term, codes};
+
+// The numbers of standard input and standard output.
+const STDIN: i32 = 0;
+
+const STDOUT: i32 = 1;
 
 // The limit of the runner's one run.
 const LIMIT: u16 = 60000;
@@ -75,8 +79,8 @@ fn answer(image: &[u8], out: &mut [u8]) -> usize
 // An image longer than the buffer is too long as far as it is read.
 fn main() {
     let mut bytes = io::large_buffer();
-    let n = io::read_full(STDIN_FILENO, &mut bytes);
+    let n = io::read_full(STDIN, &mut bytes);
     let mut out = [0u8; 16384];
     let p = answer(&bytes[..n], &mut out);
-    io::write_all(STDOUT_FILENO, &out[p..]);
+    io::write_all(STDOUT, &out[p..]);
 }

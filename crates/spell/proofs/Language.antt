@@ -187,6 +187,7 @@ went_on (on o) = o
 
 pub afters-off : (b : ℕ) (xs : List Form) {s : List ℕ} → Off xs (b ∷ s) [] → Off (afters b xs) s []
 unfolding afters
+afters-off b [] {s = s} x' = elim x' [ ]
 afters-off b (x ∷ xs) (here p) = off-left (afters b xs) (went_on (went p))
 afters-off b (x ∷ xs) (there p) = off-right (after b x) (afters-off b xs p)
 
@@ -195,6 +196,7 @@ went-ends (still e) = e
 
 pub any-ends : (xs : List Form) {t : List ℕ} → Off xs [] t → any_ends xs ≡ true
 unfolding any_ends
+any-ends [] {t = t} x' = elim x' [ ]
 any-ends (x ∷ xs) (here p) = left_or (any_ends xs) (went-ends (went p))
 any-ends (x ∷ xs) (there p) = right_or (ends x) (any-ends xs p)
 

@@ -1,0 +1,8 @@
+use mathlib.Core.Path.{refl}
+use borrow.Author.Rules.{rules}
+use Rattle.move_plan.specs.Plans.{applied_of}
+use Rattle.move_plan.proofs.none.Goals as goal
+
+pub returns : goal.returns
+unfolding applied_of
+returns c = (refl, search rules, c.no_changes-changes.ensures)

@@ -1,0 +1,8 @@
+use Rattle.move_plan.proofs.Made.{touch-mover, touch-next}
+use Rattle.move_plan.proofs.touched.Goals as goal
+
+pub returns-then-k-eq0 : goal.returns-then-k-eq0
+returns-then-k-eq0 c = touch-mover _ _ _ c.if-k-eq0.true
+
+pub returns : goal.returns
+returns c = touch-next _ _ _ c.if-k-eq0.false

@@ -1,0 +1,10 @@
+use Rattle.rows.proofs.Tables.{table-append}
+use Rattle.rows.specs.Rows.{put_process}
+use native.Mathlib.Omega.{arith}
+use Rattle.rows.proofs.append.Goals as goal
+
+pub returns : goal.returns
+unfolding put_process
+returns c =
+    let e = c.encode-row.ensures in
+    rw (c.put_row.ensures, e.0) (table-append c.args.procs.now c.args.n c.args.x (omega arith) e.1)

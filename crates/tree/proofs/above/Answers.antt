@@ -1,0 +1,10 @@
+use mathlib.Core.Path.{◌∙◌, ap, sym}
+use Rattle.parlog.specs.Tables.{process_at}
+use Rattle.parlog.specs.declared.Process.{Process}
+use Rattle.rows.proofs.Tables.{procs-at}
+use Rattle.tree.proofs.above.Goals as goal
+
+pub returns : goal.returns
+unfolding process_at
+returns c =
+    c.wide_u16.ensures ∙ c.get_u16.ensures ∙ sym (ap (λ (x : Process). x.parent) (procs-at c.args.procs.now _ _ c.requires.1))
