@@ -1,5 +1,5 @@
 -- Names that are added by first appearance are different, and have their numbers in order of first appearance.
-use mathlib.Core.Path.{◌∙◌, ◌≡◌, ap, refl, sym}
+use mathlib.Core.Path.{◌∙◌, ◌≡◌, ap, refl, subst, sym}
 use mathlib.Core.Bool.{Bool, cond, false, true}
 use mathlib.Core.List.{[], ◌++◌, ◌∷◌, List, map}
 use Prim.Native.Nat.{◌<◌, suc, ℕ}
@@ -49,8 +49,10 @@ pub appear-adds : (xs ys : List Name) → Appear (length ys) (length (adds ys xs
 unfolding adds
 appear-adds [] ys = no_more
 appear-adds (x ∷ xs) ys =
-    split (known ys x) (λ e. rw (add-old ys x e) (step-old ys x xs e (appear-adds xs ys)))
-    (λ e. rw (add-fresh ys x e) (step-fresh ys x xs e (appear-adds xs (ys ++ (x ∷ [])))))
+    let go = λ (zs : List Name) (q : add ys x ≡ zs) (a : Appear (length ys) (length (adds zs xs)) (map (look (adds zs xs)) (x ∷ xs))).
+    subst (λ (ws : List Name). Appear (length ys) (length ws) (map (look ws) (x ∷ xs))) (sym (ap (λ (ws : List Name). adds ws xs) q)) a in
+    split (known ys x) (λ e. go ys (add-old ys x e) (step-old ys x xs e (appear-adds xs ys)))
+    (λ e. go (ys ++ (x ∷ [])) (add-fresh ys x e) (step-fresh ys x xs e (appear-adds xs (ys ++ (x ∷ [])))))
 
 -- ---- different names
 

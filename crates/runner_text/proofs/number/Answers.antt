@@ -1,5 +1,5 @@
 use native.Mathlib.Omega.{arith}
-use Rattle.runner_text.proofs.Laws.{number-done, number-last, number-start}
+use Rattle.runner_text.proofs.Laws.{number-done, number-last, number-on, number-start}
 use Rattle.runner_text.proofs.number.Goals as goal
 
 pub loop-k-init : goal.loop-k-init
@@ -9,7 +9,7 @@ pub returns-then-left-lt10 : goal.returns-then-left-lt10
 returns-then-left-lt10 c = number-last _ _ _ _ _ _ _ c.loop-k.invariant _ _ _ c.loop-k-test.true c.if-left-lt10.true c.digit.ensures c.put.ensures
 
 pub loop-k-preserved : goal.loop-k-preserved
-loop-k-preserved c = c.loop-k.invariant.size
+loop-k-preserved c = number-on _ _ _ _ _ _ _ c.loop-k.invariant _ _ _ c.loop-k-test.true c.if-left-lt10.false c.digit-in-loop-k.ensures c.put-at.ensures
 
 pub returns : goal.returns
 returns c = number-done _ _ _ _ _ _ _ c.loop-k.invariant (omega arith)

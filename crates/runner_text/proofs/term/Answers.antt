@@ -2,7 +2,7 @@ use Rattle.runner_text.proofs.Lines.{term-const, term-var}
 use Rattle.runner_text.proofs.term.Goals as goal
 
 pub returns-in-Const : goal.returns-in-Const
-returns-in-Const c = term-const _ c.put-q.ensures c.number.ensures c.t-1.given.1
+returns-in-Const c = term-const _ c.put-q.ensures c.number.ensures c.in-Const.is
 
 pub returns-in-Var : goal.returns-in-Var
-returns-in-Var c = term-var _ c.put-q.ensures c.number-n.ensures c.t-in-Var-1.given.1 c.put.ensures
+returns-in-Var c = term-var _ c.put-q.ensures c.number-n.ensures c.in-Var.is c.put.ensures

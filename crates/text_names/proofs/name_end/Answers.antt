@@ -2,13 +2,15 @@ use Rattle.text_names.proofs.Walk.{back-stop, back-go, back_none}
 use native.Mathlib.Omega.{arith}
 use mathlib.Core.Path.{sym, ◌∙◌}
 use Prim.Native.Nat.{◌-◌}
+use mathlib.Core.Path.{ap}
+use mathlib.Core.Bool.{not}
 use Rattle.text_names.proofs.name_end.Goals as goal
 
 pub returns-then-not-is_name : goal.returns-then-not-is_name
-returns-then-not-is_name c = let p = c.loop-i in (back-stop _ _ c.is_name.result c.loop-i-test.true (cc) c.if-not-is_name.true ∙ p.invariant.1, omega arith)
+returns-then-not-is_name c = let p = c.loop-i in (back-stop _ _ c.is_name.result c.loop-i-test.true (cc) (ap not c.if-not-is_name.true) ∙ p.invariant.1, omega arith)
 
 pub loop-i-preserved : goal.loop-i-preserved
-loop-i-preserved c = let p = c.loop-i in (omega arith, sym (back-go _ _ c.is_name.result c.loop-i-test.true (cc) c.if-not-is_name.false) ∙ p.invariant.1)
+loop-i-preserved c = let p = c.loop-i in (omega arith, sym (back-go _ _ c.is_name.result c.loop-i-test.true (cc) (ap not c.if-not-is_name.false)) ∙ p.invariant.1)
 
 pub returns : goal.returns
 returns c = let p = c.loop-i in (back_none _ p.i (omega arith) ∙ p.invariant.1, omega arith)

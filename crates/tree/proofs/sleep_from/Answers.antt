@@ -17,7 +17,7 @@ sleep_one-requires c = let i = c.loop-q.invariant in let lt = c.loop-q-test.true
 
 pub loop-q-preserved : goal.loop-q-preserved
 loop-q-preserved c = let i = c.loop-q.invariant in let done = c.sleep_one.ensures in
-    (omega arith, omega arith, pass-next _ _ _ _ _ c.loop-q-test.true i.2 done.0, search rules, marks_then _ _ _ _ _ c.loop-q-test.true i.2 _ done.1)
+    (omega arith, omega arith, pass-next _ _ _ _ _ c.loop-q-test.true i.2 done.table, search rules, marks_then _ _ _ _ _ c.loop-q-test.true i.2 _ done.marks)
 
 pub returns : goal.returns
 returns c = pass-end _ _ _ _ _ c.loop-q.invariant.2 (omega arith)

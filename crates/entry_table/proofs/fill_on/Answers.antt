@@ -1,0 +1,9 @@
+use Rattle.entry_table.proofs.Places.{next-entered, next_last}
+use native.Mathlib.Omega.{arith}
+use mathlib.Core.Path.{◌∙◌}
+use Prim.Native.Nat.{◌-◌}
+use lib.ListN.{length-set}
+use Rattle.entry_table.proofs.fill_on.Goals as goal
+
+pub loop-at-preserved : goal.loop-at-preserved
+loop-at-preserved c = let p = c.loop-at in let h = p.invariant.0.fits in let n = c.if-count-eq-PLACES.false in (next-entered _ _ _ p.count _ _ p.invariant.0 (omega arith) p.invariant.1 c.walk-at.ensures.0 c.walk-at.ensures.1, next_last p.table p.count c.walk-at.result (omega arith), c.walk-at.ensures.1, length-set p.table p.count c.walk-at.result ∙ p.invariant.3)

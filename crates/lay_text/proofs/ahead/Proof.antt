@@ -1,9 +1,0 @@
-use native.Mathlib.Omega.{arith}
-use mathlib.Core.Path.{sym}
-use Rattle.lay_text.proofs.Laws.{capped-in, capped-out}
-use borrow.Author.Rules.{rules}
-use Rattle.lay_text.proofs.ahead.Statement.{statement}
-use Rattle.lay_text.proofs.ahead.Tie as tie
-
-pub ahead-spec : {M : Type 1} → statement M
-ahead-spec = tie.close (tie.spec (λ c. search rules) (λ c. search rules) (λ c. sym (capped-in _ (omega arith))) (λ c. sym (capped-out _ (omega arith))))

@@ -1,0 +1,16 @@
+use Prim.Native.Nat.{◌-◌}
+use native.Mathlib.Omega.{arith}
+use borrow.Author.Rules.{rules}
+use Rattle.saved.specs.Form.{process_record}
+use Rattle.saved.proofs.Bytes.{process-record-length}
+use Rattle.saved.proofs.Written.{stack-none, stack-step}
+use Rattle.saved.proofs.put_processes.Goals as goal
+
+pub loop-i-init : goal.loop-i-init
+loop-i-init c = (search rules, search rules, search rules, stack-none (process_record c.args.procs.now) c.args.out.now c.args.at)
+
+pub loop-i-preserved : goal.loop-i-preserved
+unfolding process_record
+loop-i-preserved c = let i = c.loop-i.invariant in
+    let b = stack-step (process_record c.args.procs.now) c.args.out.now c.args.at c.loop-i.i 28 (process-record-length c.args.procs.now c.loop-i.i) i.2 i.3 c.put_record-next.ensures in
+    (search rules, omega (arith, b.0), b.1, b.2)

@@ -1,0 +1,19 @@
+use Prim.Native.Nat.{◌-◌}
+use native.Mathlib.Omega.{arith}
+use borrow.Author.Rules.{rules}
+use lib.ListN.{length}
+use Rattle.saved.specs.Restored.{process_in, rows_in}
+use Rattle.saved.proofs.Written.{process-in-length, rows-laid, table-begin, table_done}
+use Rattle.saved.proofs.take_processes.Goals as goal
+
+pub loop-i-init : goal.loop-i-init
+loop-i-init c = (search rules, search rules, search rules, search rules, table-begin (process_in c.args.s.now) c.args.procs.now _ _ (search rules) (search rules) c.wipe.ensures)
+
+pub loop-i-preserved : goal.loop-i-preserved
+loop-i-preserved c = let i = c.loop-i.invariant in
+    (search rules, search rules, search rules, search rules, rows-laid (process_in c.args.s.now) 24 (process-in-length c.args.s.now) _ c.loop-i.i i.4 c.put_bytes.ensures.row)
+
+pub returns : goal.returns
+unfolding rows_in
+returns c = let i = c.loop-i.invariant in
+    table_done (process_in c.args.s.now) 24 (process-in-length c.args.s.now) _ (length c.args.procs.now) c.loop-i.i c.args.n (search rules) i.4 i.0 c.loop-i-test.false (omega arith)

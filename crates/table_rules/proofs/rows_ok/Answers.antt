@@ -1,0 +1,13 @@
+use native.Mathlib.Omega.{arith}
+use mathlib.Core.Path.{◌∙◌, sym}
+use Rattle.table_rules.proofs.Whole.{down-none, down_step, down-stop}
+use Rattle.table_rules.proofs.rows_ok.Goals as goal
+
+pub returns-then-not-ok : goal.returns-then-not-ok
+returns-then-not-ok c = sym (c.loop-q.invariant.1 ∙ down-stop _ c.loop-q.q (omega arith) c.row_ok-ok.ensures (c.if-not-ok.true))
+
+pub loop-q-preserved : goal.loop-q-preserved
+loop-q-preserved c = (omega arith, c.loop-q.invariant.1 ∙ down_step _ c.loop-q.q (omega arith) c.row_ok-ok.ensures (c.if-not-ok.false))
+
+pub returns : goal.returns
+returns c = sym (c.loop-q.invariant.1 ∙ down-none _ c.loop-q.q (omega arith))
