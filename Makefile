@@ -79,7 +79,7 @@ index-demo: ## from nothing to the index job at work: a sample collection, edits
 index-soak: ## the index job's tests at full size: 20,000 records, 500 kills, planted faults, PostgreSQL, the page in a browser
 	@tests/index/soak
 
-first-steps: ## README.md's first steps on a copy of what git has, with nothing handed over: all that the tool stands on is proved anew
+first-steps: ## README.md's first steps on a copy of what git has, with nothing handed over: what this machine has not proved is proved
 	@tests/first-steps nothing
 
 bench: ## measures the archive beside plain and quick C, RUNS times (5); on x86-64 alone
@@ -92,5 +92,5 @@ faults: ## plants faults in a stand-in for the archive: the driver, or the compa
 	@tools/install
 	@tests/faults
 
-clean: ## removes build/ and target/, and with them all that was proved
-	rm -rf build target
+clean: ## removes build/ and the crates' out/, and with them what checks have kept; what `rt ci` has proved is kept beside the kit
+	rm -rf build crates/*/out
