@@ -62,7 +62,7 @@ index-install: index ## installs the index job, its manual, completion, unit of 
 	install -d '$(into)/bin' '$(into)/share/man/man1' '$(into)/share/bash-completion/completions' '$(into)/share/doc/rissobarm/index'
 	install -d '$(into)/lib/systemd/system'
 	install -m 755 build/rissobarm-index '$(into)/bin/rissobarm-index'
-	install -m 644 man/rissobarm-index.1 '$(into)/share/man/man1/rissobarm-index.1'
+	install -m 644 index/man/rissobarm-index.1 '$(into)/share/man/man1/rissobarm-index.1'
 	install -m 644 index/completion/rissobarm-index.bash '$(into)/share/bash-completion/completions/rissobarm-index'
 	install -m 644 build/rissobarm-index.service '$(into)/lib/systemd/system/rissobarm-index.service'
 	install -m 644 docs/INDEX.md '$(into)/share/doc/rissobarm/INDEX.md'
