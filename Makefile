@@ -62,7 +62,7 @@ index-install: index ## installs the index job, its manual, completion, unit of 
 	install -d '$(into)/bin' '$(into)/share/man/man1' '$(into)/share/bash-completion/completions' '$(into)/share/doc/rissobarm/index'
 	install -d '$(into)/lib/systemd/system'
 	install -m 755 build/rissobarm-index '$(into)/bin/rissobarm-index'
-	install -m 644 man/rissobarm-index.1 '$(into)/share/man/man1/rissobarm-index.1'
+	install -m 644 index/man/rissobarm-index.1 '$(into)/share/man/man1/rissobarm-index.1'
 	install -m 644 index/completion/rissobarm-index.bash '$(into)/share/bash-completion/completions/rissobarm-index'
 	install -m 644 build/rissobarm-index.service '$(into)/lib/systemd/system/rissobarm-index.service'
 	install -m 644 docs/INDEX.md '$(into)/share/doc/rissobarm/INDEX.md'
@@ -79,7 +79,7 @@ index-demo: ## from nothing to the index job at work: a sample collection, edits
 index-soak: ## the index job's tests at full size: 20,000 records, 500 kills, planted faults, PostgreSQL, the page in a browser
 	@tests/index/soak
 
-first-steps: ## README.md's first steps on a copy of what git has, with nothing handed over: all that the tool stands on is proved anew
+first-steps: ## README.md's first steps on a copy of what git has, with nothing handed over: what this machine has not proved is proved
 	@tests/first-steps nothing
 
 bench: ## measures the archive beside plain and quick C, RUNS times (5); on x86-64 alone
@@ -92,5 +92,5 @@ faults: ## plants faults in a stand-in for the archive: the driver, or the compa
 	@tools/install
 	@tests/faults
 
-clean: ## removes build/ and target/, and with them all that was proved
-	rm -rf build target
+clean: ## removes build/ and the crates' out/, and with them what checks have kept; what `rt ci` has proved is kept beside the kit
+	rm -rf build crates/*/out

@@ -65,7 +65,7 @@ def name_of(line):
 
 
 def comments(path):
-    """Each block of comment lines with its place and the names declared right behind it."""
+    """Each block of comment lines with its place and the names declared right behind it; attributes may stand between."""
     block, at = [], 0
     with open(path, encoding='utf-8') as lines:
         for number, line in enumerate(lines, 1):
@@ -73,7 +73,7 @@ def comments(path):
             if mark:
                 at = at if block else number
                 block.append(mark.group(1))
-            elif block:
+            elif block and not line.startswith('#['):
                 yield f'{os.path.relpath(path, ROOT)}:{at}', ' '.join(block), name_of(line)
                 block = []
 

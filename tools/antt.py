@@ -234,8 +234,8 @@ def piece(text):
 
 def is_used(brought, free):
     """Whether a name stands among these: an operator by its own name, or by the parts between its argument places."""
-    parts = [part for part in brought.split('_') if part]
-    return brought in free or ('_' in brought and bool(parts) and all(part in free for part in parts))
+    parts = [part for part in brought.split('◌') if part]
+    return brought in free or ('◌' in brought and bool(parts) and all(part in free for part in parts))
 
 
 class Line(str):

@@ -15,7 +15,7 @@ def read(*names):
 
 def main():
     told = subprocess.run([*sys.argv[1:], 'help'], capture_output=True, text=True, check=True).stdout
-    manual, completion = read('man', 'rissobarm-index.1').replace('\\-', '-').replace('\\fB', '').replace('\\fP', ''), read('index', 'completion', 'rissobarm-index.bash')
+    manual, completion = read('index', 'man', 'rissobarm-index.1').replace('\\-', '-').replace('\\fB', '').replace('\\fP', ''), read('index', 'completion', 'rissobarm-index.bash')
     commands = re.findall(r'(?m)^  rissobarm-index (\w+)', told)
     options = sorted(set(re.findall(r'--[a-z]+', told)))
     statuses = re.findall(r'(?m)^ +(\d+)  ', told)
@@ -23,7 +23,7 @@ def main():
     wrong += ['the completion lacks %s' % word for word in commands + options if word not in completion]
     wrong += ['the manual lacks %s' % word for word in options if word not in manual]
     wrong += ['the manual lacks the status %s' % number for number in statuses if '\n.B %s\n' % number not in manual]
-    lint = subprocess.run(['mandoc', '-T', 'lint', '-W', 'warning', os.path.join(ROOT, 'man', 'rissobarm-index.1')], capture_output=True, text=True)
+    lint = subprocess.run(['mandoc', '-T', 'lint', '-W', 'warning', os.path.join(ROOT, 'index', 'man', 'rissobarm-index.1')], capture_output=True, text=True)
     wrong += lint.stdout.splitlines()
     if wrong:
         raise SystemExit('manual: ' + '; '.join(wrong))
