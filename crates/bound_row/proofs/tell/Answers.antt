@@ -1,7 +1,6 @@
 use Rattle.bound_row.proofs.Rows.{lays-length}
 use mathlib.Core.Path.{◌∙◌}
 use borrow.Author.Rules.{rules}
-use Prim.Native.Nat.{◌-◌}
 use native.Mathlib.Omega.{arith}
 use Rattle.bound_row.proofs.Rows.{tell-done, tell-more, tell-start}
 use Rattle.bound_row.proofs.tell.Goals as goal

@@ -1,7 +1,6 @@
 use Rattle.entry_table.proofs.Places.{entry-go, entry-none, entry-stop}
 use native.Mathlib.Omega.{arith}
 use mathlib.Core.Path.{sym, ◌∙◌}
-use Prim.Native.Nat.{◌-◌}
 use Rattle.entry_table.proofs.entry_end.Goals as goal
 
 pub returns-then-byte_in-eq-LINE_END : goal.returns-then-byte_in-eq-LINE_END

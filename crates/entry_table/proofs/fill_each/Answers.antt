@@ -1,6 +1,6 @@
 use Rattle.entry_table.proofs.Places.{among-start, among-turn}
 use native.Mathlib.Omega.{arith}
-use mathlib.Core.Path.{◌∙◌, refl, sym}
+use mathlib.Core.Path.{◌∙◌, refl}
 use Prim.Native.Nat.{◌+◌}
 use lib.ListN.{length-set}
 use Rattle.entry_table.proofs.fill_each.Goals as goal

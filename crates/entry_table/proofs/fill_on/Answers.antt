@@ -1,7 +1,6 @@
 use Rattle.entry_table.proofs.Places.{next-entered, next_last}
 use native.Mathlib.Omega.{arith}
 use mathlib.Core.Path.{◌∙◌}
-use Prim.Native.Nat.{◌-◌}
 use lib.ListN.{length-set}
 use Rattle.entry_table.proofs.fill_on.Goals as goal
 

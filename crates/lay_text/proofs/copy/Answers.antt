@@ -1,5 +1,5 @@
 use native.Mathlib.Omega.{arith}
-use Prim.Native.Nat.{◌+◌, ◌-◌}
+use Prim.Native.Nat.{◌+◌}
 use mathlib.Core.Path.{◌∙◌, ap, refl}
 use lib.ListN.{drop, length, take}
 use Rattle.lay.proofs.Laws.{laid-length}

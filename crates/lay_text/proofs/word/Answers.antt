@@ -1,7 +1,5 @@
 use native.Mathlib.Omega.{arith}
-use Prim.Native.Nat.{◌-◌}
 use mathlib.Core.Path.{refl}
-use mathlib.Core.Bool.{true}
 use Rattle.lay_text.proofs.Laws.{word-step, word_end}
 use Rattle.lay_text.proofs.word.Goals as goal
 

@@ -1,4 +1,3 @@
-use Prim.Native.Nat.{◌-◌}
 use native.Mathlib.Omega.{arith}
 use Rattle.move_write.proofs.Writers.{all-next, all_start}
 use Rattle.move_write.proofs.append_all.Goals as goal

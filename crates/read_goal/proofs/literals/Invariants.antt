@@ -4,7 +4,6 @@ use Rattle.read_goal.proofs.Spanned.{SpanLeft}
 use Rattle.read_goal.specs.Spans.{literal_right}
 use Rattle.text_program.specs.Source.{read_literal, row, row_for}
 use Rattle.text_program.specs.Parsing.{all_of}
-use Prim.Native.Nat.{◌-◌}
 use Rattle.read_goal.proofs.literals.Given as goal
 
 abbrev pub invariant-loop-left : goal.invariant-loop-left

@@ -1,9 +1,7 @@
-use mathlib.Core.Bool.{true}
 use mathlib.Core.Path.{refl}
 use Rattle.read_goal.proofs.Turn.{row_last, row_more, row-none}
 use Rattle.read_goal.proofs.Spanned.{span-on, span_last, span-done, term-rest}
 use Rattle.text_program.specs.Source.{read_term}
-use Prim.Native.Nat.{◌-◌}
 use native.Mathlib.Omega.{arith}
 use Rattle.read_goal.proofs.names.Goals as goal
 

@@ -2,7 +2,6 @@ use mathlib.Core.Bool.{true}
 use lib.ListN.{drop}
 use Rattle.read_goal.proofs.Spanned.{SpanLeft}
 use Rattle.text_program.specs.Source.{read_term, row, row_for}
-use Prim.Native.Nat.{◌-◌}
 use Rattle.read_goal.proofs.names.Given as goal
 
 abbrev pub invariant-loop-left : goal.invariant-loop-left

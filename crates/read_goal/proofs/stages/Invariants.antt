@@ -1,6 +1,5 @@
 use mathlib.Core.Bool.{◌&&◌}
 use lib.ListN.{drop}
-use Prim.Native.Nat.{◌-◌}
 use Rattle.read_goal.proofs.Spanned.{SpanLeft}
 use Rattle.read_goal.specs.Spans.{stages_right}
 use Rattle.text_program.specs.Source.{read_literal, row, row_for}

@@ -1,4 +1,3 @@
-use Prim.Native.Nat.{◌-◌}
 use lib.ListN.{drop}
 use Rattle.read_names.proofs.Tabled.{find-here, find-on, find_none}
 use Rattle.text_names.specs.Bytes.{front}

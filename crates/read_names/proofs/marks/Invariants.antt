@@ -1,6 +1,5 @@
 use mathlib.Core.Bool.{true}
 use lib.ListN.{drop}
-use Prim.Native.Nat.{◌-◌}
 use Rattle.read_goal.proofs.Spanned.{SpanLeft}
 use Rattle.text_program.specs.Source.{read_mode, row, row_for}
 use Rattle.read_names.proofs.marks.Given as goal

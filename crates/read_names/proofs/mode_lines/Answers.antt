@@ -1,4 +1,3 @@
-use mathlib.Core.Bool.{true}
 use mathlib.Core.Path.{refl}
 use Rattle.read_goal.proofs.Spanned.{span-start, span-on, span-done}
 use Rattle.read_names.proofs.Lined.{lines-fuel, line-more, line-last, line-none}

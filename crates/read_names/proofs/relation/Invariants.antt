@@ -3,7 +3,6 @@ use Rattle.read_names.specs.Tables.{modes_from}
 use Rattle.read_names.proofs.Lined.{FindLeft}
 use Rattle.text_names.specs.Bytes.{front}
 use Rattle.text_program.specs.Source.{is_mode_line, read_mode_line, lines_for}
-use Prim.Native.Nat.{◌-◌}
 use Rattle.read_names.proofs.relation.Given as goal
 
 abbrev pub invariant-loop-left : goal.invariant-loop-left

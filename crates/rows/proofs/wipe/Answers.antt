@@ -2,7 +2,6 @@ use Rattle.rows.proofs.Laws.{wiped-done, wiped-one}
 use borrow.Author.Rules.{rules}
 use native.Mathlib.Omega.{arith}
 use mathlib.Core.Path.{◌∙◌}
-use Prim.Native.Nat.{◌-◌}
 use Rattle.rows.proofs.wipe.Goals as goal
 
 pub loop-k-preserved : goal.loop-k-preserved

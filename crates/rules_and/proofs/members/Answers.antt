@@ -1,5 +1,4 @@
 use mathlib.Core.Path.{refl}
-use Prim.Native.Nat.{◌-◌}
 use native.Mathlib.Omega.{arith}
 use Rattle.rules_and.proofs.Children.{fill-next, fill_start}
 use Rattle.rules_and.proofs.members.Goals as goal

@@ -1,5 +1,4 @@
 use mathlib.Core.Path.{◌∙◌, refl}
-use Prim.Native.Nat.{◌-◌}
 use native.Mathlib.Omega.{arith}
 use Rattle.parlog.specs.Program.{block_of, program_of}
 use Rattle.rules_or.proofs.Tried.{tries-end, tries-next, tries-start, vars-end, vars-next}

@@ -1,4 +1,3 @@
-use Prim.Native.Nat.{◌-◌}
 use borrow.Author.Rules.{rules}
 use Rattle.saved.proofs.Written.{bytes-none, bytes-step}
 use Rattle.saved.proofs.put_bytes.Goals as goal

@@ -1,7 +1,7 @@
 use Rattle.spell.specs.Rows.{kind_count, last_state}
 use Rattle.spell.proofs.Sim.{row-run-stuck}
 use borrow.Author.Tests.{eq-eqb, ne_eqb}
-use Prim.Native.Nat.{◌*◌, ◌-◌}
+use Prim.Native.Nat.{◌*◌}
 use mathlib.Core.Path.{sym, ◌∙◌}
 use native.Mathlib.Omega.{arith}
 use Rattle.spell.proofs.Sim.{run-go, run-stop, run_end}

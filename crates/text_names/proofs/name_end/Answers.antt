@@ -1,7 +1,6 @@
 use Rattle.text_names.proofs.Walk.{back-stop, back-go, back_none}
 use native.Mathlib.Omega.{arith}
 use mathlib.Core.Path.{sym, ◌∙◌}
-use Prim.Native.Nat.{◌-◌}
 use mathlib.Core.Path.{ap}
 use mathlib.Core.Bool.{not}
 use Rattle.text_names.proofs.name_end.Goals as goal

@@ -1,7 +1,6 @@
 use Rattle.text_names.proofs.Walk.{same_stop, same-differ, same-go}
 use native.Mathlib.Omega.{arith}
 use mathlib.Core.Path.{sym, ◌∙◌}
-use Prim.Native.Nat.{◌-◌}
 use mathlib.Core.Path.{ap}
 use mathlib.Core.Bool.{not}
 use Rattle.text_names.proofs.same_name.Goals as goal

@@ -1,5 +1,5 @@
 use Rattle.trace.proofs.Laws.{clean-none, faults-done, faults-found, faults-next}
-use Rattle.std.proofs.Common.{◌-◌, arith, rules}
+use Rattle.std.proofs.Common.{arith, rules}
 use Rattle.trace.proofs.faults.Goals as goal
 
 pub loop-at-init : goal.loop-at-init

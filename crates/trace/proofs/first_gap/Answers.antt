@@ -1,5 +1,5 @@
 use Rattle.trace.proofs.Laws.{gap-found, gap-next, gap-none, steady-one}
-use Rattle.std.proofs.Common.{◌-◌, rules}
+use Rattle.std.proofs.Common.{rules}
 use Rattle.trace.proofs.first_gap.Goals as goal
 
 pub loop-k-init : goal.loop-k-init

@@ -1,0 +1,5 @@
+use Rattle.machine.proofs.Beginning.{process-new}
+use Rattle.machine.proofs.goal_process.Goals as goal
+
+pub returns : goal.returns
+returns c = process-new _ c.tag_of_goal-tag.ensures.0
