@@ -12,4 +12,4 @@ returns c = rw (
   c.byte_at-m.ensures.0,
   c.byte_at-a.ensures.0,
   c.byte_at-r.ensures.0,
-  )
+)

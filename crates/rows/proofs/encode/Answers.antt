@@ -6,4 +6,4 @@ pub returns : goal.returns
 returns c = (
   bytes_of _ c.low.ensures c.high.ensures c.low-2.ensures c.high-2.ensures c.low-3.ensures c.high-3.ensures c.low-4.ensures c.high-4.ensures c.low-5.ensures c.high-5.ensures c.low-6.ensures c.high-6.ensures c.low-7.ensures c.high-7.ensures,
   search rules,
-  )
+)

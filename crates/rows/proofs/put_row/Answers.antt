@@ -17,7 +17,7 @@ loop-k-preserved c = (
   search rules,
   rw (c.loop-k.invariant.4, add-one c.loop-k.k)
       (paste-suc c.args.procs.now (c.args.i * row_size) c.args.row c.loop-k.k 0 (search rules) (search rules)),
-  )
+)
 
 pub returns : goal.returns
 unfolding put_row

@@ -13,7 +13,7 @@ loop-i-preserved c = (
   search rules,
   unify-more _ _ _ _ (omega arith) _ _ c.loop-i-test.true c.unify_one-u.ensures.0 ∙ c.loop-i.invariant.4,
   c.unify_one-u.ensures.3,
-  )
+)
 
 pub returns : goal.returns
 unfolding unify
