@@ -117,9 +117,9 @@ module _ (lim : Limits) (s : List ℕ) (r c : ℕ) (l : Lent) (p : ℕ) (h : p <
   unfolding tables_in
   there = lt-ltb p (length (procs_of l.procs (proc_count l.head))) (omega (arith, procs-length l.procs (proc_count l.head), h))
 
-  step_by : step_in lim s r c l p ≡ step_by (with_room lim (tables_in l).state (applied_of pl)) (tables_in l) p
+  step-by : step_in lim s r c l p ≡ step_by (with_room lim (tables_in l).state (applied_of pl)) (tables_in l) p
   unfolding step_tables move
-  step_by = rw (there, rule_is)
+  step-by = rw (there, rule_is)
 
   room-is : fits_in lim.procs lim.vars n m pl ≡ fits lim (tables_in l).state (delta_of pl)
   unfolding tables_in
@@ -130,7 +130,7 @@ module _ (lim : Limits) (s : List ℕ) (r c : ℕ) (l : Lent) (p : ℕ) (h : p <
 
   -- 10: no rule applies
   pub step-still : pl.acts ≡ false → step_in lim s r c l p ≡ unmade 10
-  step-still e = step_by ∙ rw (applied-none pl e) (unfold step_by in refl)
+  step-still e = step-by ∙ rw (applied-none pl e) (unfold step_by in refl)
 
   -- the rule that does
   pub rule-made : pl.acts ≡ true → rule_of (program_of s r c) (tables_in l).state p ≡ by_rule pl.mv (delta_of pl)
@@ -139,10 +139,10 @@ module _ (lim : Limits) (s : List ℕ) (r c : ℕ) (l : Lent) (p : ℕ) (h : p <
   module _ (e : pl.acts ≡ true) {b : Bool} (eb : b ≡ fits_in lim.procs lim.vars n m pl) where
     -- 11: there is no room for what it makes
     pub step-full : b ≡ false → step_in lim s r c l p ≡ unmade 11
-    step-full q = step_by ∙ rw (applied-some pl e, sym room-is ∙ sym eb ∙ q) (unfold step_by in refl)
+    step-full q = step-by ∙ rw (applied-some pl e, sym room-is ∙ sym eb ∙ q) (unfold step_by in refl)
 
     pub step-made : b ≡ true → step_in lim s r c l p ≡ made pl.mv (stepped (tables_in l) p (delta_of pl))
-    step-made q = step_by ∙ rw (applied-some pl e, sym room-is ∙ sym eb ∙ q) (unfold step_by in refl)
+    step-made q = step-by ∙ rw (applied-some pl e, sym room-is ∙ sym eb ∙ q) (unfold step_by in refl)
 
 -- one step more
 pub count-more : (k : ℕ) → k < 4294967295 → k + 1 ≡ counted k

@@ -1,7 +1,0 @@
-use Rattle.missing_call.proofs.Ways.{body-none, body-some}
-use borrow.Author.Rules.{rules}
-use Rattle.missing_call.proofs.body.Statement.{statement}
-use Rattle.missing_call.proofs.body.Tie as tie
-
-pub body-spec : {M : Type 1} → statement M
-body-spec = tie.close (tie.spec (λ c κs. search rules) (λ c κs. search rules) (λ c. body-none c.before.before.before.before.before.before.requires _ c.before.before.byte-at.ensures.0 _ c.before.or.ensures c.if1.true) (λ c κs. search rules) (λ c. body-some c.before.before.before.before.before.before.before.requires _ c.before.before.before.byte-at.ensures.0 _ c.before.before.or.ensures c.goal.result c.before.if1.false c.goal.ensures))

@@ -1,0 +1,25 @@
+use borrow.Author.Tests.{not-false, not-true}
+use native.Mathlib.Omega.{arith}
+use Rattle.parlog.specs.Limits.{small}
+use Rattle.parlog.proofs.Limits.{small-usable}
+use Rattle.step.proofs.Deciding.{fits-asks, rule-asks, small-few, small-rows}
+use Rattle.step.proofs.Stepping.{planned-full, planned-made, planned-still}
+use Rattle.step.proofs.planned.Goals as goal
+
+pub rule_of-plan-requires : goal.rule_of-plan-requires
+rule_of-plan-requires c = let q = rule-asks _ _ _ _ _ c.requires.0 small-usable small-few _ c.requires.1 c.proc_count-n.ensures.0 c.proc_count-n.ensures.1 c.var_count-m.ensures.0 c.requires.2 in (q.0, q.1, q.2, q.3, q.4, q.5, q.6, q.7, q.8, c.requires.3)
+
+pub returns-then-not-plan : goal.returns-then-not-plan
+returns-then-not-plan c = planned-still _ _ _ _ _ c.requires.0 _ c.requires.1 c.proc_count-n.ensures.0 c.var_count-m.ensures.0 _ c.rule_of-plan.ensures.0 (not-true _ c.if-not-plan.true)
+
+pub fits-requires : goal.fits-requires
+unfolding small
+fits-requires c = let w = fits-asks _ _ _ _ _ c.requires.0 c.proc_count-n.ensures.0 c.var_count-m.ensures.0 in (omega (arith, w.0), omega (arith, w.1))
+
+pub returns-then-not-fits : goal.returns-then-not-fits
+unfolding small
+returns-then-not-fits c = planned-full _ _ _ _ _ c.requires.0 _ c.requires.1 c.proc_count-n.ensures.0 c.var_count-m.ensures.0 _ c.rule_of-plan.ensures.0 (not-false _ c.if-not-plan.false) c.fits.ensures (c.if-not-fits.true)
+
+pub returns : goal.returns
+unfolding small
+returns c = planned-made _ _ _ _ _ c.requires.0 _ c.requires.1 c.proc_count-n.ensures.0 c.var_count-m.ensures.0 _ c.rule_of-plan.ensures.0 (not-false _ c.if-not-plan.false) c.fits.ensures (c.if-not-fits.false) small-rows c.rule_of-plan.ensures.1 c.rule_of-plan.ensures.2 c.rule_of-plan.ensures.3

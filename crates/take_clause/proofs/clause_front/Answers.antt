@@ -1,0 +1,5 @@
+use Rattle.take_clause.proofs.Recorded.{lay-clause-front}
+use Rattle.take_clause.proofs.clause_front.Goals as goal
+
+pub returns : goal.returns
+returns c = lay-clause-front c.args.size c.args.number c.args.arity _ c.args.opens c.args.vars c.mark_of.ensures c.front_of-a.ensures c.number-b.ensures c.number-c.ensures c.number-d.ensures c.number.ensures

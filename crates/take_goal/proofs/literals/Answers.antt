@@ -1,0 +1,27 @@
+use mathlib.Core.Path.{◌∙◌, refl}
+use mathlib.Core.Bool.{false, true}
+use Prim.Native.Nat.{◌-◌}
+use lib.ListN.{length}
+use Rattle.lay_literal.specs.Lows.{literal_fits}
+use Rattle.text_program.specs.Numbered.{said_terms}
+use Rattle.text_program.specs.Source.{read_literal}
+use Rattle.read_names.specs.Tables.{modes_from}
+use Rattle.take_goal.proofs.Going.{going_done, going-last, going_on, going_start}
+use Rattle.take_goal.proofs.Ways.{links-same}
+use Rattle.take_goal.specs.Turns.{literal_in}
+use Rattle.take_term.proofs.Laws.{takes-ready}
+use Rattle.take_term.specs.Takes.{rows}
+use native.Mathlib.Omega.{arith}
+use Rattle.take_goal.proofs.literals.Goals as goal
+
+pub loop-left-init : goal.loop-left-init
+loop-left-init c = (going_start read_literal 44 said_terms (literal_in (modes_from (c.args.s.now) (c.args.lines.from))) (literal_fits true (modes_from (c.args.s.now) (c.args.lines.from))) (literal_fits false (modes_from (c.args.s.now) (c.args.lines.from))) (c.args.s.now) (rows (c.args.out.now) (c.args.consts.now) (c.args.links.now) (c.args.vars.now)) (c.args.w) (length (c.args.s.now) - (c.args.w.end)) refl c.requires.0 (omega arith) (omega arith), (omega arith), refl)
+
+pub returns-then-byte_at-ne-COMMA : goal.returns-then-byte_at-ne-COMMA
+returns-then-byte_at-ne-COMMA c = (going-last read_literal 44 said_terms (literal_in (modes_from (c.args.s.now) (c.args.lines.from))) (literal_fits true (modes_from (c.args.s.now) (c.args.lines.from))) (literal_fits false (modes_from (c.args.s.now) (c.args.lines.from))) (c.args.s.now) (rows (c.args.out.now) (c.args.consts.now) (c.args.links.now) (c.args.vars.now)) (c.args.w) c.loop-left.invariant.0 _ c.loop-left-test.true c.literal-x.ensures c.byte_at.ensures.0 c.if-byte_at-ne-COMMA.true c.move_to.ensures)
+
+pub loop-left-preserved : goal.loop-left-preserved
+loop-left-preserved c = (going_on read_literal 44 said_terms (literal_in (modes_from (c.args.s.now) (c.args.lines.from))) (literal_fits true (modes_from (c.args.s.now) (c.args.lines.from))) (literal_fits false (modes_from (c.args.s.now) (c.args.lines.from))) (c.args.s.now) (rows (c.args.out.now) (c.args.consts.now) (c.args.links.now) (c.args.vars.now)) (c.args.w) c.loop-left.invariant.0 _ c.loop-left-test.true c.literal-x.ensures c.byte_at.ensures.0 c.after_mark.result _ c.if-byte_at-ne-COMMA.false c.after_mark.ensures.0 c.after_mark.ensures.1 c.move_to-x.ensures, (let h = c.loop-left.invariant.1 in omega arith), (links-same (takes-ready c.loop-left.invariant.0.taken) c.literal-x.ensures ∙ c.loop-left.invariant.2))
+
+pub returns : goal.returns
+returns c = (going_done read_literal 44 said_terms (literal_in (modes_from (c.args.s.now) (c.args.lines.from))) (literal_fits true (modes_from (c.args.s.now) (c.args.lines.from))) (literal_fits false (modes_from (c.args.s.now) (c.args.lines.from))) (c.args.s.now) (rows (c.args.out.now) (c.args.consts.now) (c.args.links.now) (c.args.vars.now)) (c.args.w) c.loop-left.invariant.0 (omega arith) c.move_to-2.ensures)

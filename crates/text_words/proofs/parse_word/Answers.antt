@@ -1,0 +1,14 @@
+use native.Mathlib.Omega.{arith}
+use Rattle.text_words.specs.Numbers.{ParseFits, parse_numbers}
+use Rattle.text_words.proofs.Laws.{parse-told, parts-fit, refused-told}
+use Rattle.words.proofs.Laws.{case_at, word-at}
+use Rattle.text_words.proofs.parse_word.Goals as goal
+
+pub word-requires : goal.word-requires
+word-requires c = let h = parts-fit _ (case_at c.in-Read.is ParseFits c.requires) in (omega arith, h.0, h.1, c.told.ensures.1)
+
+pub returns-in-Read : goal.returns-in-Read
+returns-in-Read c = parse-told c.in-Read.is c.told.ensures.0 c.word.ensures
+
+pub returns-in-Unread : goal.returns-in-Unread
+returns-in-Unread c = word-at c.in-Unread.is parse_numbers (refused-told c.in-Unread.r c.told_refusal.ensures.0 c.refused.ensures)
