@@ -1,0 +1,33 @@
+use borrow.Author.Rules.{rules}
+use Rattle.replay.proofs.Laws.{plays-not, step-agreed, step-nobody, step-not, step-plays, step-told}
+use Rattle.parlog.proofs.Limits.{small-usable}
+use Rattle.step.proofs.Deciding.{told_of}
+use Rattle.step.proofs.Stepping.{stepped-moved}
+use mathlib.Core.Path.{sym}
+use native.Mathlib.Omega.{arith}
+use Rattle.replay.proofs.play_step.Goals as goal
+
+pub returns-then-n-p : goal.returns-then-n-p
+returns-then-n-p c = plays-not _ _ _ _ _ c.requires.0 (λ b. search rules) (λ b. search rules) (λ b. search rules) (step-nobody _ _ _ _ _ c.requires.0 _ _ c.proc_count-n.ensures.0 c.if-n-p.true)
+
+pub ask-told-requires : goal.ask-told-requires
+ask-told-requires c = let en = c.proc_count-n.ensures in (omega (arith, c.requires.0.rows, en.0), en.1)
+
+pub planned-d-requires : goal.planned-d-requires
+planned-d-requires c = let en = c.proc_count-n.ensures.0 in (c.requires.0, omega (arith, en, c.if-n-p.false), told_of _ _ (sym en) c.ask-told.ensures, c.requires.1)
+
+pub agreed-requires : goal.agreed-requires
+agreed-requires c = step-told _ _ _ _ _ c.requires.0 _ 0 c.planned-d.ensures small-usable
+
+pub returns-then-not-agreed : goal.returns-then-not-agreed
+returns-then-not-agreed c = plays-not _ _ _ _ _ c.requires.0 (λ b. search rules) (λ b. search rules) (λ b. search rules) (step-not _ _ _ _ _ c.requires.0 _ _ c.planned-d.ensures c.agreed.ensures (c.if-not-agreed.true))
+
+pub carry_out-requires : goal.carry_out-requires
+carry_out-requires c = c.planned-d.ensures.carries (step-agreed _ _ _ _ _ c.requires.0 _ _ c.planned-d.ensures c.agreed.ensures (c.if-not-agreed.false)).0
+
+pub returns : goal.returns
+returns c =
+    let i = c.requires.0 in
+    let agrees = c.if-not-agreed.false in
+    let z = step-agreed _ _ _ _ _ i _ _ c.planned-d.ensures c.agreed.ensures agrees in
+    step-plays _ _ _ _ _ i _ _ c.planned-d.ensures c.agreed.ensures agrees (stepped-moved _ _ _ _ _ i _ c.planned-d.ensures z.0 c.carry_out.ensures)

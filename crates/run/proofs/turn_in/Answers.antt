@@ -1,0 +1,14 @@
+use Rattle.run.proofs.Turning.{turn_below, turn-none, turn-some, turning}
+use Rattle.run.proofs.turn_in.Goals as goal
+
+pub whose-t-requires : goal.whose-t-requires
+whose-t-requires c = turning _ _ _ _ _ c.requires.0
+
+pub returns-in_default : goal.returns-in_default
+returns-in_default c = turn-none _ _ _ _ _ c.whose-t.ensures.who c.in_default.is c.refusal.ensures
+
+pub stepped-requires : goal.stepped-requires
+stepped-requires c = (c.requires.0, turn_below _ c.whose-t.ensures.who c.in-At.is, (λ w. c.whose-t.ensures.told _ c.in-At.is), c.requires.1)
+
+pub returns : goal.returns
+returns c = turn-some _ _ _ _ _ c.whose-t.ensures.who c.in-At.is c.stepped.ensures
