@@ -20,12 +20,7 @@ pub fn rissobarm_load(image: &[u8]) -> u64
 }
 
 // Writes the tables of a run that has not moved yet.
-pub fn rissobarm_start(
-    image: &[u8],
-    head: &mut [u8],
-    procs: &mut [u8],
-    vars: &mut [u8],
-) -> u64
+pub fn rissobarm_start(image: &[u8], head: &mut [u8], procs: &mut [u8], vars: &mut [u8]) -> u64
     ensures { StartTells small image.now (lent head.old procs.old vars.old) result head.new procs.new vars.new }
 {
     let a = machine::start(image, head, procs, vars);
@@ -47,12 +42,7 @@ pub fn rissobarm_step(
 }
 
 // Makes the step of the first process that can move after the one stepped last.
-pub fn rissobarm_turn(
-    image: &[u8],
-    head: &mut [u8],
-    procs: &mut [u8],
-    vars: &mut [u8],
-) -> u64
+pub fn rissobarm_turn(image: &[u8], head: &mut [u8], procs: &mut [u8], vars: &mut [u8]) -> u64
     ensures { TurnTells small image.now (lent head.old procs.old vars.old) result head.new procs.new vars.new }
 {
     let a = run::turn(image, head, procs, vars);
@@ -89,13 +79,7 @@ pub fn rissobarm_supply(
 }
 
 // The value of a goal variable.
-pub fn rissobarm_value(
-    image: &[u8],
-    head: &[u8],
-    procs: &[u8],
-    vars: &[u8],
-    variable: u32,
-) -> u64
+pub fn rissobarm_value(image: &[u8], head: &[u8], procs: &[u8], vars: &[u8], variable: u32) -> u64
     ensures { ValueTells small image.now (lent head.now procs.now vars.now) variable result }
 {
     let a = machine::value(image, head, procs, vars, variable);
@@ -103,13 +87,7 @@ pub fn rissobarm_value(
 }
 
 // The values of all goal variables, a variable row each.
-pub fn rissobarm_values(
-    image: &[u8],
-    head: &[u8],
-    procs: &[u8],
-    vars: &[u8],
-    row: &mut [u8],
-) -> u64
+pub fn rissobarm_values(image: &[u8], head: &[u8], procs: &[u8], vars: &[u8], row: &mut [u8]) -> u64
     ensures { ValuesTells small image.now (lent head.now procs.now vars.now) row.old result row.new }
 {
     let a = values::values(image, head, procs, vars, row);
@@ -225,13 +203,7 @@ pub fn rissobarm_run_traced(
 // ---- a run saved, and gone on with
 
 // Writes a run to the front of a row, as a saved run.
-pub fn rissobarm_save(
-    image: &[u8],
-    head: &[u8],
-    procs: &[u8],
-    vars: &[u8],
-    saved: &mut [u8],
-) -> u64
+pub fn rissobarm_save(image: &[u8], head: &[u8], procs: &[u8], vars: &[u8], saved: &mut [u8]) -> u64
     ensures { SaveTells small image.now (lent head.now procs.now vars.now) saved.old result saved.new }
 {
     let a = resume::save(image, head, procs, vars, saved);

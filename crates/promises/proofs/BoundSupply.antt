@@ -50,6 +50,7 @@ lower vs fall (unbound {v} e) x q = let z : v ≡ x = cc in omega arith
 lower vs fall {u = u} (onward {v} {t} e d) x q = by t e (λ j f. lower vs fall d j f) d
   where
     by : (y : Term) → binding_of vs v ≡ Bound y → ((j : ℕ) → y ≡ Var j → u ≤ j) → Leads vs y (Var u) → u ≤ x
+    by (Rattle.parlog.specs.declared.Term.TheVariants.Const _) b rec g = elim g [ ]
     by (Var j) b rec g = let z : v ≡ x = cc in let h = rec j refl in let f = fall v j b in omega arith
 
 -- one variable is bound
