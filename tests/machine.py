@@ -1,38 +1,34 @@
 #!/usr/bin/env python3
-"""Holds docs/MACHINE.md to the definitions. It reads nothing outside the repository.
+"""Holds docs/MACHINE.md to the definitions, and to the number of sentences of document 01. It reads nothing outside the repository.
 
-Each numbered paragraph names the definitions of the crates that define the machine (DEFINING) that cite it in their comments, all of them and no others: in the table after its section, a row or more
-for each. Every number that a comment of any crate cites is there. Each section has as many paragraphs as document 01 has sentences there (COUNTS), the table rules being one of those and what was ordered
-later (LATER) none. No sentence has more than WORDS words.
-`--write` writes the tables."""
+Each numbered sentence names the definitions of the crates that define the machine (DEFINING) that cite it in their comments, all of them and
+no others; every number that a comment of any crate cites is there; each section has as many sentences as the document (COUNTS), the table rules being one of those and
+what was ordered later (LATER) none.
+`--write` writes the names into the page."""
 import glob
 import os
 import re
 import sys
+import textwrap
 
 ROOT = os.path.dirname(os.path.dirname(os.path.abspath(__file__)))
 PAGE = os.path.join(ROOT, 'docs', 'MACHINE.md')
-SENTENCE = re.compile(r'(?ms)^- \*\*(\w+) (\d+[a-z]?)\*\* (.*?)\s*?(?=\n\n|\n- |\Z)')
-ROW = re.compile(r'(?m)^\| (\w+) (\d+[a-z]?) \| (.*) \|$')
-TABLE = re.compile(r'(?m)^\| Paragraph \| Definitions \|\n\|---\|---\|\n(?:\|.*\n)*\n?')
-COUNTS = {'Image': 11, 'Refusals': 23, 'Tables': 5, 'Tags': 41, 'Turns': 12}  # sentences of document 01
-LATER = {('Tags', '42')}  # paragraphs of these sections that were ordered after the document
+COUNTS = {'Image': 11, 'Refusals': 23, 'Tables': 5, 'Tags': 41, 'Turns': 12}  # sentences of document 01, section by section
+SENTENCE = re.compile(r'(?ms)^- \*\*(\w+) (\d+[a-z]?)\*\* (.*?\.)((?:\s+`[^`]+`,?)*)\s*?(?=\n\n|\n- |\Z)')
+LATER = {('Tags', '42')}  # sentences of these sections that were ordered after the document
 DEFINING = ['parlog', 'values', 'unify', 'bound_row', 'bound', 'saved', 'resume', 'spell', 'text_names', 'text_program', 'words', 'text_words', 'trace', 'replay', 'traced', 'run_traced']
 KEYWORDS = ['pub', 'abbrev', 'unfoldable']
-WORDS = 40
-CELL = 280  # letters of names in a row
+WIDTH = 160
 
 
 class Page:
-    """The numbered paragraphs, in order: section -> number -> (text, names)."""
+    """The numbered sentences, in order: section -> number -> (text, names)."""
 
     def __init__(self, text):
         self.text = text
         self.sections = {}
-        for section, number, words in SENTENCE.findall(text):
-            self.sections.setdefault(section, {})[number] = (words, [])
-        for section, number, names in ROW.findall(text):
-            self.sections.get(section, {}).get(number, ('', []))[1].extend(re.findall(r'`([^`]+)`', names))
+        for section, number, words, names in SENTENCE.findall(text):
+            self.sections.setdefault(section, {})[number] = (words, re.findall(r'`([^`]+)`', names))
         keys = '|'.join(self.sections)
         self.citation = re.compile(r'\b(%s) (\d+[a-z]?(?:(?:, | to )\d+[a-z]?)*)' % keys)
 
@@ -114,7 +110,7 @@ def unknown(page):
 
 
 def unheld(page):
-    """The paragraphs that name no definition, or others than those that cite them, and their long sentences."""
+    """The sentences that name no definition, or others than those that cite them."""
     found = citers(page)
     for section, numbers in page.sections.items():
         for number, (words, names) in numbers.items():
@@ -122,7 +118,8 @@ def unheld(page):
             cited = dict(found.get((section, number), []))
             if not names:
                 yield f'{key} names no definition'
-            yield from (f'{key} has a sentence of {len(one.split())} words' for one in re.split(r'(?<=\.)\s+(?=[A-Z])', words) if len(one.split()) > WORDS)
+            if re.search(r'\.\s', words):
+                yield f'{key} is more than one sentence'
             yield from (f'{key} names {name}, which does not cite it' for name in names if name not in cited)
             yield from (f'{key} does not name {name}, which cites it ({place})' for name, place in cited.items() if name not in names)
 
@@ -142,40 +139,25 @@ def misnumbered(page):
 
 
 def uncounted(page):
-    """The sections that have more or fewer paragraphs than the document has sentences."""
+    """The sections that have more or fewer sentences than the document's."""
     for section, count in COUNTS.items():
         here = sum(number.isdigit() and (section, number) not in LATER for number in page.sections[section])
         if here != count:
             yield f'{section}: the document has {count} sentences, the page {here}'
 
 
-def rows(section, number, names):
-    """The rows of a paragraph in its table: one, or more if its names are many."""
-    lines = [[]]
-    for name in names:
-        if lines[-1] and len(', '.join([*lines[-1], name])) > CELL:
-            lines.append([])
-        lines[-1].append(name)
-    return ['| %s %s | %s |' % (section, number, ', '.join(line)) for line in lines]
-
-
-def table(section, numbers, found):
-    """The table after a section: the definitions that cite its paragraphs."""
-    lines = ['| Paragraph | Definitions |', '|---|---|']
-    for number in numbers:
-        lines += rows(section, number, list(dict.fromkeys(f'`{name}`' for name, _ in found.get((section, number), []))))
-    return '\n'.join(lines)
-
-
 def write(page):
-    """Puts the names into the page that the comments have: a table at the end of each section."""
-    found, parts = citers(page), re.split(r'(?m)^(?=## )', TABLE.sub('', page.text))
-    for place, part in enumerate(parts):
-        section = part.split('\n')[0][3:]
-        if section in page.sections:
-            parts[place] = part.rstrip() + '\n\n' + table(section, page.sections[section], found) + '\n\n'
+    """Puts the names into the page that the comments have."""
+    found = citers(page)
+
+    def named(match):
+        section, number, words, _ = match.groups()
+        names = dict.fromkeys(f'`{name}`' for name, _ in found.get((section, number), []))
+        line = ' '.join([f'- **{section} {number}**', *words.split(), ', '.join(names)]).rstrip()
+        whole = re.sub('`[^`]*`', lambda code: code.group().replace(' ', '\0'), line)
+        return textwrap.fill(whole, WIDTH, subsequent_indent='  ', break_long_words=False, break_on_hyphens=False).replace('\0', ' ')
     with open(PAGE, 'w', encoding='utf-8') as file:
-        file.write(''.join(parts).rstrip() + '\n')
+        file.write(SENTENCE.sub(named, page.text))
 
 
 def main():
@@ -187,7 +169,7 @@ def main():
     names = [*unheld(page)]
     faults = [*misnumbered(page), *names, *unknown(page), *uncounted(page)]
     count = sum(len(numbers) for numbers in page.sections.values())
-    print('\n'.join(faults) if faults else f'{count} paragraphs, each held to its definitions and back, no sentence of more than {WORDS} words')
+    print('\n'.join(faults) if faults else f'{count} sentences, each held to its definitions and back')
     if names:
         print('tests/machine.py --write puts in the names that the comments have')
     return 1 if faults else 0
