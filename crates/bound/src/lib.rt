@@ -10,7 +10,7 @@ ghost use Rattle.program_index.specs.Indexed.{Indexed};
 ghost use Rattle.bound.specs.Calls.{RowSays, step_bound_in, supply_bound_call};
 
 use children::Told;
-use parlog::{Stepped, Supplied, Term, codes};
+use parlog::{Answer, Move, Term, codes};
 
 // ---- a step
 
@@ -26,26 +26,21 @@ pub fn step_in(
     bound: &mut [u8],
     p: usize,
     told: Told,
-) -> Stepped
+) -> Answer<Move>
     requires { Inside small image.now rels clauses (lent head.old procs.old vars.old) × (p < proc_count head.old) × ((at (procs_of procs.old (proc_count head.old)) p).mode ≡ 3 → Tells (procs_of procs.old (proc_count head.old)) p told) × Indexed image.now rels clauses ix.now }
     ensures { RowSays (step_bound_in small image.now rels clauses (lent head.old procs.old vars.old) bound.old p) result head.new procs.new vars.new bound.new }
 {
-    let d = step::planned(image, rels, clauses, ix, head, procs, vars, p, told);
-    let number = d.number;
-    if number != 0 {
-        return Stepped::Unmoved(entry::refusal(number));
-    }
-    let plan = d.plan;
+    let plan = step::planned(image, rels, clauses, ix, head, procs, vars, p, told)?;
     let changes = plan.changes;
     let list = changes.list;
     let count = changes.count;
     if bound.len() < bound_row::size_of(list, count) {
-        return Stepped::Unmoved(entry::refusal(codes::ROOM));
+        return Err(entry::refusal(codes::ROOM));
     }
     let mv = plan.mv;
     step::carry_out(head, procs, vars, p, plan);
     bound_row::tell(bound, list, count);
-    Stepped::Moved(mv)
+    Ok(mv)
 }
 
 // ---- a supply
@@ -59,18 +54,16 @@ pub fn supply_bound(
     bound: &mut [u8],
     variable: u32,
     value: u32,
-) -> Supplied
+) -> Answer<usize>
     ensures { RowSays (supply_bound_call small image.now (lent head.now procs.now vars.old) bound.old variable value) result head.now procs.now vars.new bound.new }
 {
-    let a = machine::decided(image, head, procs, vars, variable, value);
-    let Supplied::Given(v) = a else {
-        return a;
-    };
+    let v = machine::decided(image, head, procs, vars, variable, value)?;
     if bound.len() < bound_row::ONE_SIZE {
-        return Supplied::Ungiven(entry::refusal(codes::ROOM));
+        let short = entry::refusal(codes::ROOM);
+        return Err(short);
     }
     let n = head::var_count(head);
     vars::bind(vars, n, v, Term::Const(value));
     bound_row::tell_one(bound, v);
-    a
+    Ok(v)
 }

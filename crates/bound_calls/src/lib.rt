@@ -7,7 +7,7 @@ ghost use Rattle.parlog.specs.Limits.{small};
 ghost use Rattle.parlog.specs.Tables.{lent};
 ghost use Rattle.program_index.specs.Indexed.{Indexed};
 
-use parlog::{Found, Loaded, Stepped, codes};
+use parlog::{Answer, Move, codes};
 
 // The step by number, and the variables that it bound.
 pub fn step_bound(
@@ -17,19 +17,19 @@ pub fn step_bound(
     vars: &mut [u8],
     bound: &mut [u8],
     process: u32,
-) -> Stepped
+) -> Answer<Move>
     ensures { RowSays (step_bound_call small image.now (lent head.old procs.old vars.old) bound.old process) result head.new procs.new vars.new bound.new }
 {
     let mut ix = [0u16; program_index::SIZE];
     let e = entry::enter(image, head, procs, vars, &mut ix);
-    let Loaded::Accepted(rels, clauses) = e else {
+    let Ok((rels, clauses)) = e else {
         let r = load::refusal(e);
-        return Stepped::Unmoved(r);
+        return Err(r);
     };
     let p = process as usize;
     let n = head::proc_count(head);
     if n <= p {
-        return Stepped::Unmoved(entry::refusal(codes::NODE));
+        return Err(entry::refusal(codes::NODE));
     }
     let told = step::ask(procs, n, p);
     bound::step_in(image, rels, clauses, &ix, head, procs, vars, bound, p, told)
@@ -45,14 +45,14 @@ fn turn_in(
     procs: &mut [u8],
     vars: &mut [u8],
     bound: &mut [u8],
-) -> Stepped
+) -> Answer<Move>
     requires { Inside small image.now rels clauses (lent head.old procs.old vars.old) × Indexed image.now rels clauses ix.now }
     ensures { RowSays (turn_bound_in small image.now rels clauses (lent head.old procs.old vars.old) bound.old) result head.new procs.new vars.new bound.new }
 {
     let t = run::whose(head, procs, vars);
     let f = t.who;
-    let Found::At(p) = f else {
-        return Stepped::Unmoved(entry::refusal(codes::STILL));
+    let Some(p) = f else {
+        return Err(entry::refusal(codes::STILL));
     };
     bound::step_in(
         image, rels, clauses, ix, head, procs, vars, bound, p, t.told,
@@ -66,14 +66,14 @@ pub fn turn_bound(
     procs: &mut [u8],
     vars: &mut [u8],
     bound: &mut [u8],
-) -> Stepped
+) -> Answer<Move>
     ensures { RowSays (turn_bound_call small image.now (lent head.old procs.old vars.old) bound.old) result head.new procs.new vars.new bound.new }
 {
     let mut ix = [0u16; program_index::SIZE];
     let e = entry::enter(image, head, procs, vars, &mut ix);
-    let Loaded::Accepted(rels, clauses) = e else {
+    let Ok((rels, clauses)) = e else {
         let r = load::refusal(e);
-        return Stepped::Unmoved(r);
+        return Err(r);
     };
     turn_in(image, rels, clauses, &ix, head, procs, vars, bound)
 }

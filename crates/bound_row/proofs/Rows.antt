@@ -2,15 +2,15 @@
 use mathlib.Core.Path.{◌∙◌, ◌≡◌, refl, sym}
 use mathlib.Core.List.{[], ◌++◌, ◌∷◌, List}
 use Prim.Native.Nat.{◌*◌, ◌+◌, ◌<◌, ◌≤◌, ℕ}
-use lib.ListN.{drop, get_or, length, length-map, take}
-use lib.Seq.{length-take-le}
+use lib.ListN.{drop, drop_of_length-le, get_or, length, length-map, take}
+use lib.Seq.{drop-cons, length-take-le}
+use native.Mathlib.Numerals.{add-one}
 use native.Mathlib.Omega.{arith}
 use Rattle.bound_row.specs.Row.{bound_bytes, twos}
-use Rattle.lay.proofs.Laws.{laid-length, laid_none, laid_then, lays-then}
+use Rattle.lay.proofs.Laws.{laid_none, laid_then, lays-then}
 use Rattle.lay.specs.Lay.{laid, Lays, two}
 use Rattle.parlog.specs.declared.Change.{Change}
-use Rattle.unify.proofs.Laws.{rest_more, rest-none}
-use Rattle.unify.specs.Pending.{no_change, vars_bound}
+use Rattle.unify.specs.Pending.{vars_bound}
 
 -- ---- how many bytes
 
@@ -31,32 +31,24 @@ size_is list count h = sym (bytes-length (vars_bound (take count list)) ∙ rw (
 
 -- ---- writing them
 
-pub lays-length : {o p bs : List ℕ} {at n : ℕ} → Lays o p at bs n → length p ≡ length o
-lays-length {o} {p} {bs} {at} w = rw w.row (laid-length bs o at)
+pub tell-start : (list : List Change) (count : ℕ) → count ≤ length list → (o : List ℕ) {out : List ℕ} {at : ℕ} → Lays o out 0 (two count) at
+    → laid out at (twos (vars_bound (take count list))) ≡ laid o 0 (bound_bytes (vars_bound (take count list)))
+unfolding bound_bytes
+tell-start list count g o {out} {at} w =
+    let e : length (vars_bound (take count list)) ≡ count = vars-many (take count list) ∙ length-take-le count list g in
+    rw (e, w.row, w.place) (laid_then (two count) (twos (vars_bound (take count list))) o 0)
 
-module _ (list : List Change) (count : ℕ) (g : count ≤ length list) where
-  pub tell-start : (o : List ℕ) {out : List ℕ} {at : ℕ} → Lays o out 0 (two count) at → laid out at (twos (vars_bound (take count list))) ≡ laid o 0 (bound_bytes (vars_bound (take count list)))
-  unfolding bound_bytes
-  tell-start o {out} {at} w =
-      let e : length (vars_bound (take count list)) ≡ count = vars-many (take count list) ∙ length-take-le count list g in
-      rw (e, w.row, w.place) (laid_then (two count) (twos (vars_bound (take count list))) o 0)
+-- what is left to tell of a list, from its k-th change on
+module _ (cs : List Change) (k : ℕ) (out : List ℕ) (at : ℕ) {whole : List ℕ} (inv : laid out at (twos (vars_bound (drop k cs))) ≡ whole) where
+  pub tell-more : (d : Change) → k < length cs → {next : List ℕ} {to : ℕ} → Lays out next at (two (get_or cs k d).var) to → laid next to (twos (vars_bound (drop (k + 1) cs))) ≡ whole
+  tell-more d h {next} {to} w = rw (w.row, w.place) (laid_then (two (get_or cs k d).var) (twos (vars_bound (drop (k + 1) cs))) out at ∙ sym joins ∙ inv)
+    where
+      joins : laid out at (twos (vars_bound (drop k cs))) ≡ laid out at (two (get_or cs k d).var ++ twos (vars_bound (drop (k + 1) cs)))
+      joins = unfold twos in rw (drop-cons cs k d h, add-one)
 
-  module _ (k : ℕ) (out : List ℕ) (at : ℕ) {whole : List ℕ} (inv : laid out at (twos (vars_bound (drop k (take count list)))) ≡ whole) where
-    pub tell-more : k < count → {next : List ℕ} {to : ℕ} → Lays out next at (two (get_or list k no_change).var) to → laid next to (twos (vars_bound (drop (k + 1) (take count list)))) ≡ whole
-    tell-more h {next} {to} w = rw (w.row, w.place) (laid_then (two v) (twos rest) out at ∙ sym joins ∙ inv)
-      where
-        v : ℕ
-        v = (get_or list k no_change).var
-
-        rest : List ℕ
-        rest = vars_bound (drop (k + 1) (take count list))
-
-        joins : laid out at (twos (vars_bound (drop k (take count list)))) ≡ laid out at (two (get_or list k no_change).var ++ twos (vars_bound (drop (k + 1) (take count list))))
-        joins = unfold twos in rw (rest_more list count k no_change h g)
-
-    pub tell-done : count ≤ k → out ≡ whole
-    unfolding twos
-    tell-done h = sym (laid_none out at) ∙ (rw (rest-none list count k h g) at inv)
+  pub tell-done : length cs ≤ k → out ≡ whole
+  unfolding twos
+  tell-done h = sym (laid_none out at) ∙ (rw (drop_of_length-le cs {i = k} h) at inv)
 
 pub tell-only : (o : List ℕ) (v : ℕ) {p q : List ℕ} {at to : ℕ} → Lays o p 0 (two 1) at → Lays p q at (two v) to → q ≡ laid o 0 (bound_bytes (v ∷ []))
 unfolding bound_bytes twos

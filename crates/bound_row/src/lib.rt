@@ -30,12 +30,9 @@ pub fn tell(out: &mut [u8], list: [Change; codes::MOST_ARITY], count: usize)
     ensures { out.new ≡ laid out.old 0 (bound_bytes (vars_bound (take count list))) }
 {
     let mut at = lay::put2(out, 0, count);
-    let mut k = 0;
-    while k < count {
-        let c = list[k];
+    for c in &list[..count] {
         let v = basics::wide_u32(c.var);
         at = lay::put2(out, at, v);
-        k += 1;
     }
 }
 

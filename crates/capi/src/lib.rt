@@ -5,14 +5,12 @@ ghost use Rattle.capi.specs.Tells.{LoadTells, ParseTells, PrintTells, ReplayTell
 ghost use Rattle.parlog.specs.Limits.{small};
 ghost use Rattle.parlog.specs.Tables.{lent};
 
-use parlog::Loaded;
-
 // Tests an image: its relation and clause counts, or the first refusal.
 pub fn rissobarm_load(image: &[u8]) -> u64
     ensures { LoadTells image.now result }
 {
     let l = load::load(image);
-    let Loaded::Accepted(relations, clauses) = l else {
+    let Ok((relations, clauses)) = l else {
         let r = load::refusal(l);
         return words::refused(r);
     };

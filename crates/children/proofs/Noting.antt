@@ -1,4 +1,5 @@
 -- The note of a process through the pass: at its start, after each row, and what it tells at the end.
+use Rattle.std.specs.Prelude.{Option, Some, None}
 use mathlib.Core.Path.{◌∙◌, ◌≡◌, refl, sym}
 use mathlib.Core.Bool.{◌&&◌, ◌||◌, and_assoc, and_comm, Bool, cond, false, not, or_assoc, or_comm, true}
 use mathlib.Core.List.{[], List}
@@ -18,8 +19,6 @@ use Rattle.parlog.specs.Codes.{failure, success}
 use Rattle.parlog.specs.Scan.{every, highest, implies, lowest, or_else, some}
 use Rattle.parlog.specs.Tables.{at, State}
 use Rattle.parlog.specs.Tree.{all_children, any_child, child_done, child_reports, heard, heard_from, is_child, latest, lowest_child, reports, silent}
-use Rattle.parlog.specs.declared.Found.{Found}
-use Rattle.parlog.specs.declared.Found.TheVariants.{At, Nothing}
 use Rattle.parlog.specs.declared.Process.{Process}
 
 -- ---- laws of tests
@@ -30,16 +29,16 @@ or-move b r s = sym (or_assoc r s b) ∙ or_comm (r || s) b ∙ sym (or_assoc b 
 and-move : (a r s : Bool) → (r && (s && a)) ≡ ((a && r) && s)
 and-move a r s = sym (and_assoc r s a) ∙ and_comm (r && s) a ∙ sym (and_assoc a r s)
 
-pub or_nothing : (f : Found) → or_else f Nothing ≡ f
-or_nothing (At c) = refl
-or_nothing Nothing = refl
+pub or_nothing : (f : Option ℕ) → or_else f None ≡ f
+or_nothing (Some c) = refl
+or_nothing None = refl
 
-low-move : (f : Found) (a g : Bool) (q v : ℕ) → or_else f (found_by (g || a) (cond a q v)) ≡ or_else (or_else f (cond a (At q) Nothing)) (found_by g v)
-low-move (At c) a g q v = refl
-low-move Nothing true true q v = refl
-low-move Nothing true false q v = refl
-low-move Nothing false true q v = refl
-low-move Nothing false false q v = refl
+low-move : (f : Option ℕ) (a g : Bool) (q v : ℕ) → or_else f (found_by (g || a) (cond a q v)) ≡ or_else (or_else f (cond a (Some q) None)) (found_by g v)
+low-move (Some c) a g q v = refl
+low-move None true true q v = refl
+low-move None true false q v = refl
+low-move None false true q v = refl
+low-move None false false q v = refl
 
 -- success and failure are not told together
 exclusive : (ps : List Process) (c : ℕ) → not (reports success (at ps c) && reports failure (at ps c)) ≡ true
@@ -120,11 +119,11 @@ module _ (ps : List Process) (p q : ℕ) (x : Note) (so : Noted ps p (suc q) x) 
     unfolding every child_done
     told_none = rw e
 
-    told-lowest : lowest (child_reports success ps p) (suc q) ≡ or_else (lowest (child_reports success ps p) q) (cond a (At q) Nothing)
+    told-lowest : lowest (child_reports success ps p) (suc q) ≡ or_else (lowest (child_reports success ps p) q) (cond a (Some q) None)
     unfolding lowest child_reports
     told-lowest = rw e
 
-    told-highest : highest (is_child ps p) (suc q) ≡ At q
+    told-highest : highest (is_child ps p) (suc q) ≡ Some q
     unfolding highest
     told-highest = rw e
 

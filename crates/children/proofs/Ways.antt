@@ -1,4 +1,6 @@
 -- One law for each way through the code.
+use Rattle.std.specs.Prelude.{Option}
+use Rattle.std.specs.Bool.{then_some}
 use mathlib.Core.Path.{◌≡◌, refl}
 use mathlib.Core.Bool.{Bool, cond, false, true}
 use mathlib.Core.List.{List}
@@ -7,7 +9,7 @@ use lib.Dec.{eqb}
 use borrow.Author.Tests.{ne_eqb}
 use native.Mathlib.Omega.{arith}
 use Rattle.children.proofs.Small.{says}
-use Rattle.children.specs.Notes.{bad_note, good_note, heard_in, latest_bit, news_in, Noted, note_of, silent_bit}
+use Rattle.children.specs.Notes.{bad_note, found_by, good_note, heard_in, latest_bit, news_in, Noted, note_of, silent_bit}
 use Rattle.children.specs.declared.Note.{Note}
 use Rattle.parlog.specs.Codes.{failure, success}
 use Rattle.parlog.specs.Tables.{at}
@@ -72,3 +74,8 @@ noted-less ps p q x h so = let e : suc (q - 1) ≡ q = omega arith in rw e so
 
 pub noted-end : (ps : List Process) (p q : ℕ) (x : Note) → q ≡ 0 → Noted ps p q x → Noted ps p 0 x
 noted-end ps p q x e so = rw e at so
+
+-- the lowest that succeeded, where there is one
+pub found-is : (b : Bool) {c k : ℕ} {f : Option ℕ} → k ≡ c → f ≡ then_some b k → f ≡ found_by b c
+found-is true ek e = rw (← ek) e
+found-is false ek e = e

@@ -1,13 +1,11 @@
 -- What is noted of the children of a process while the rows are passed from the last down; 0 where none was heard.
-use Rattle.std.specs.Prelude.{◌≡◌, ◌&&◌, ◌||◌, Bool, cond, not, true, List, ◌%◌, ◌/◌, ◌<◌, ℕ, eqb}
+use Rattle.std.specs.Prelude.{◌≡◌, ◌&&◌, ◌||◌, Bool, cond, not, true, List, ◌%◌, ◌/◌, ◌<◌, ℕ, eqb, Option, Some, None}
 use Rattle.std.specs.Int.Bits.{bit_and, bit_or}
 use Rattle.children.specs.declared.Note.{Note}
 use Rattle.parlog.specs.Codes.{failure, success}
 use Rattle.parlog.specs.Scan.{every, highest, implies, lowest, or_else, some}
 use Rattle.parlog.specs.Tables.{at}
 use Rattle.parlog.specs.Tree.{all_children, any_child, bad, child_done, child_reports, good, Heard, heard, heard_from, is_child, lowest_child, reports, silent}
-use Rattle.parlog.specs.declared.Found.{Found}
-use Rattle.parlog.specs.declared.Found.TheVariants.{At, Nothing}
 use Rattle.parlog.specs.declared.Process.{Process}
 
 -- ---- what was said, in bits
@@ -68,8 +66,8 @@ abbrev pub latest_in : ℕ → Bool
 latest_in s = eqb (s / latest_bit % 2) 1
 
 -- c, where this holds
-abbrev pub found_by : Bool → ℕ → Found
-found_by b c = cond b (At c) Nothing
+abbrev pub found_by : Bool → ℕ → Option ℕ
+found_by b c = cond b (Some c) None
 
 -- what process c has reported, whose row is x
 abbrev pub heard_in : Process → ℕ → Heard

@@ -1,15 +1,14 @@
 // What the children of a process report, heard one by one from the last row down.
 #![tactic(auto)]
 
-ghost use Rattle.std.specs.Prelude.{◌≡◌, cond, false, ◌*◌, ◌≤◌, suc, ℕ, length};
+ghost use Rattle.std.specs.Prelude.{◌≡◌, false, ◌*◌, ◌≤◌, suc, ℕ, length, None};
 ghost use Rattle.parlog.specs.Tables.{at, procs_of, row_size};
 ghost use Rattle.parlog.specs.Tree.{is_child};
-ghost use Rattle.parlog.specs.declared.Found.TheVariants.{Nothing};
 ghost use Rattle.children.specs.declared.News.TheVariants.{Silent};
-ghost use Rattle.children.specs.Notes.{found_by, hear, heard_by, heard_in, news_in, none_silent, note_of, Noted, some_bad, some_good};
+ghost use Rattle.children.specs.Notes.{hear, heard_by, heard_in, news_in, none_silent, note_of, Noted, some_bad, some_good};
 ghost use Rattle.children.specs.Telling.{heard_of, Tells};
 
-use parlog::{Found, codes};
+use parlog::codes;
 
 // ---- what was said, in bits: one reports nothing, one success, one failure, and the latest reports
 
@@ -45,7 +44,7 @@ pub struct Told {
     pub failed: bool,
     pub succeeded: bool,
     pub hopeless: bool,
-    pub lowest: Found,
+    pub lowest: Option<usize>,
     pub latest: News,
 }
 
@@ -59,13 +58,13 @@ pub struct Note {
 
 // What is handed on for a process that does not ask.
 pub fn nothing() -> Told
-    ensures { (result.failed ≡ false) × (result.succeeded ≡ false) × (result.hopeless ≡ false) × (result.lowest ≡ Nothing) × (result.latest ≡ Silent) }
+    ensures { (result.failed ≡ false) × (result.succeeded ≡ false) × (result.hopeless ≡ false) × (result.lowest ≡ None) × (result.latest ≡ Silent) }
 {
     Told {
         failed: false,
         succeeded: false,
         hopeless: false,
-        lowest: Found::Nothing,
+        lowest: None,
         latest: News::Silent,
     }
 }
@@ -99,24 +98,18 @@ pub fn with(s: u8, f: u8) -> u8
     s | (f & EARLIER)
 }
 
-fn choose(b: bool, q: u16, v: u16) -> u16
-    ensures { result ≡ cond b q v }
-{
-    if b { q } else { v }
-}
-
 // Process q, lower than those heard before, tells f.
 fn hear(x: Note, f: u8, q: u16) -> Note
     ensures { result ≡ heard_by x f q }
 {
-    let said = with(x.said, f);
-    let first = basics::and(x.said == 0, f != SILENT);
-    let latest = choose(first, q, x.latest);
-    let lowest = choose(f == SUCCEEDED, q, x.lowest);
     Note {
-        said: said,
-        latest: latest,
-        lowest: lowest,
+        said: with(x.said, f),
+        latest: if x.said == 0 && f != SILENT {
+            q
+        } else {
+            x.latest
+        },
+        lowest: if f == SUCCEEDED { q } else { x.lowest },
     }
 }
 
@@ -138,15 +131,6 @@ pub fn none_silent(s: u8) -> bool
     ensures { result ≡ none_silent s }
 {
     s % 2 == 0
-}
-
-fn found(b: bool, c: u16) -> Found
-    ensures { result ≡ found_by b c }
-{
-    if b {
-        return Found::At(basics::wide_u16(c));
-    }
-    Found::Nothing
 }
 
 // What process c has reported.
@@ -180,20 +164,15 @@ pub fn told_by(procs: &[u8], n: usize, x: Note) -> Told
     requires { n * row_size ≤ length procs.now }
     ensures { (p : ℕ) → Noted (procs_of procs.now n) p 0 x → Tells (procs_of procs.now n) p result }
 {
-    let s = x.said;
-    let failed = some_bad(s);
-    let good = some_good(s);
-    let spoke = none_silent(s);
-    let succeeded = basics::and(!failed, spoke);
-    let hopeless = basics::and(!good, spoke);
-    let lowest = found(good, x.lowest);
-    let latest = heard(procs, n, x);
+    let failed = some_bad(x.said);
+    let good = some_good(x.said);
+    let spoke = none_silent(x.said);
     Told {
-        failed: failed,
-        succeeded: succeeded,
-        hopeless: hopeless,
-        lowest: lowest,
-        latest: latest,
+        failed,
+        succeeded: !failed && spoke,
+        hopeless: !good && spoke,
+        lowest: good.then_some(usize::from(x.lowest)),
+        latest: heard(procs, n, x),
     }
 }
 
@@ -232,9 +211,7 @@ pub fn asked(procs: &[u8], n: usize, p: usize) -> Told
         latest: 0,
         lowest: 0,
     };
-    let mut q = n;
-    while 0 < q {
-        q -= 1;
+    for q in (0..n).rev() {
         x = listen(procs, n, p, q, x);
     }
     told_by(procs, n, x)

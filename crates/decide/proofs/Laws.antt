@@ -1,10 +1,11 @@
 -- The laws of decisions: one for each way through the code.
+use Rattle.std.specs.Prelude.{Option}
 use mathlib.Core.Path.{◌∙◌, ◌≡◌, ap, refl, sym}
 use mathlib.Core.Bool.{◌&&◌, Bool, cond, false, true}
 use mathlib.Core.List.{[], ◌++◌, ◌∷◌, append_assoc, append-nil, List}
 use Prim.Native.Nat.{◌+◌, ◌<◌, ◌≤◌, suc, ℕ}
 use lib.Dec.{lit≤}
-use lib.ListN.{drop, get_or, length, length-append, take}
+use lib.ListN.{drop, drop_of_length-le, get_or, length, length-append, take}
 use lib.Seq.{get_or-take, length-take-le}
 use native.Mathlib.Omega.{arith}
 use Rattle.decide.specs.Decision.{decided_by, decided_of, Decides, gather, push_of}
@@ -15,19 +16,18 @@ use Rattle.parlog.proofs.Bools.{split}
 use Rattle.parlog.specs.Delta.{four_of}
 use Rattle.parlog.specs.Image.{is_input}
 use Rattle.parlog.specs.Unify.{bound, clash, decide, held_in, input_value, is_var, Outcome, settle, settled, shift, unify, value}
-use Rattle.parlog.specs.declared.Binding.{Binding}
 use Rattle.parlog.specs.declared.Change.{Change}
 use Rattle.parlog.specs.declared.Pair.{Pair}
 use Rattle.parlog.specs.declared.Term.{Term}
 use Rattle.parlog.specs.declared.Term.TheVariants.{Const}
 use Rattle.unify.proofs.Bounds.{lowers_at, unify-lowers}
-use Rattle.unify.proofs.Laws.{outcome-clash, outcome-ok, rest_more, rest-none}
+use Rattle.unify.proofs.Laws.{outcome-clash, outcome-ok, rest_more, rest-none, rest_on}
 use Rattle.unify.specs.Pending.{AllLower, Below, Lowers, no_change, no_pair, outcome, OutcomeLowers, pending}
 use Rattle.unify.specs.declared.Unified.{Unified}
 
 -- ---- input arguments
 
-module _ (vs : List Binding) (ms : List ℕ) (xs : List Term) (base n k v : ℕ) (gm : n ≤ length ms) (gx : n ≤ length xs) where
+module _ (vs : List (Option Term)) (ms : List ℕ) (xs : List Term) (base n k v : ℕ) (gm : n ≤ length ms) (gx : n ≤ length xs) where
   module _ (h : k < n) {t x : Term} {yes hit : Bool} (et : t ≡ shift base (get_or xs k (Const 0))) (ex : x ≡ value vs t) (ey : yes ≡ is_var v x) (eh : hit ≡ (is_input (get_or ms k 0) && yes)) where
     pub input-hit : hit ≡ true → true ≡ input_value vs (drop k (take n ms)) (drop k (take n xs)) base v
     unfolding input_value
@@ -43,14 +43,14 @@ module _ (vs : List Binding) (ms : List ℕ) (xs : List Term) (base n k v : ℕ)
 
 -- ---- the variables noted
 
-module _ (held : ℕ → Bool) (xs : List Change) (n k : ℕ) (g : n ≤ length xs) where
-  pub gather-more : k < n → (s t : Noted) {yes : Bool} → yes ≡ held (get_or xs k no_change).var → t ≡ push_of s yes (get_or xs k no_change).var → gather held t (drop (k + 1) (take n xs)) ≡ gather held s (drop k (take n xs))
+module _ (held : ℕ → Bool) (xs : List Change) (k : ℕ) where
+  pub gather-more : k < length xs → (s t : Noted) {yes : Bool} → yes ≡ held (get_or xs k no_change).var → t ≡ push_of s yes (get_or xs k no_change).var → gather held t (drop (k + 1) xs) ≡ gather held s (drop k xs)
   unfolding gather
-  gather-more h s t ey et = rw (rest_more xs n k no_change h g, et, ey)
+  gather-more h s t ey et = rw (rest_on xs k no_change h, et, ey)
 
-  pub gather-done : n ≤ k → (s : Noted) → s ≡ gather held s (drop k (take n xs))
+  pub gather-done : length xs ≤ k → (s : Noted) → s ≡ gather held s (drop k xs)
   unfolding gather
-  gather-done h s = rw (rest-none xs n k h g)
+  gather-done h s = rw (drop_of_length-le xs {i = k} h)
 
 pub push-count : (s : Noted) (y : Bool) (v : ℕ) {t : Noted} → t ≡ push_of s y v → t.count ≤ s.count + 1
 unfolding push_of
@@ -106,7 +106,7 @@ row_first v ns = refl
 
 -- ---- the ways through decide
 
-module _ (vs : List Binding) (es : List Pair) (held : ℕ → Bool) (u : Unified) (is : outcome u ≡ unify vs es) (four : length u.binds ≡ 4) where
+module _ (vs : List (Option Term)) (es : List Pair) (held : ℕ → Bool) (u : Unified) (is : outcome u ≡ unify vs es) (four : length u.binds ≡ 4) where
   pub way-fails : {r : Decision} → r ≡ record { deed = Fails; count = 0; binds = u.binds; noted = 0; notes = 0 ∷ 0 ∷ 0 ∷ 0 ∷ [] } → u.ok ≡ false → Decides (decide vs es held) r
   unfolding decide settle decided_of decided_by four_of
   way-fails e ok =
@@ -142,7 +142,7 @@ module _ (vs : List Binding) (es : List Pair) (held : ℕ → Bool) (u : Unified
         go (v ∷ ns) e = let z : s.count ≡ suc (length ns) = ap (λ (x : Noted). x.count) e in absurd (omega arith)
 
 -- the variables bound are among the first
-pub made-there : (m n : ℕ) (vs : List Binding) (es : List Pair) (u : Unified) → outcome u ≡ unify vs (take n es) → u.ok ≡ true → u.count ≤ 4 → length u.binds ≡ 4
+pub made-there : (m n : ℕ) (vs : List (Option Term)) (es : List Pair) (u : Unified) → outcome u ≡ unify vs (take n es) → u.ok ≡ true → u.count ≤ 4 → length u.binds ≡ 4
     → n ≤ length es → Below m n es → (k : ℕ) → k < u.count → (get_or u.binds k no_change).var < m
 made-there m n vs es u is ok most four le vars k h =
     one.0
@@ -163,7 +163,7 @@ unfolding held_in
 held-cong f g h [] = refl
 held-cong f g h (c ∷ cs) = rw (h c.var, held-cong f g h cs)
 
-pub decide-cong : (vs : List Binding) (es : List Pair) (f g : ℕ → Bool) → ((v : ℕ) → f v ≡ g v) → decide vs es f ≡ decide vs es g
+pub decide-cong : (vs : List (Option Term)) (es : List Pair) (f g : ℕ → Bool) → ((v : ℕ) → f v ≡ g v) → decide vs es f ≡ decide vs es g
 unfolding decide
 decide-cong vs es f g h = go (unify vs es)
   where

@@ -1,4 +1,5 @@
 -- The laws of the pairs of a match, and the ways through match_of and equate_of.
+use Rattle.std.specs.Prelude.{Option}
 use mathlib.Core.Path.{◌∙◌, ◌≡◌, ap, refl, sym}
 use mathlib.Core.List.{[], ◌∷◌, List}
 use Prim.Native.Nat.{◌+◌, ◌≤◌, suc, zero, ℕ}
@@ -12,7 +13,6 @@ use Rattle.decide.specs.declared.Decision.{Decision}
 use Rattle.parlog.proofs.Bools.{or-none, split}
 use Rattle.parlog.specs.Program.{out_count}
 use Rattle.parlog.specs.Unify.{decide, equate_of, head_side, input_value, match_of, out_after, pair_of, pairs_of, shift}
-use Rattle.parlog.specs.declared.Binding.{Binding}
 use Rattle.parlog.specs.declared.Pair.{Pair}
 use Rattle.parlog.specs.declared.Term.{Term}
 use Rattle.parlog.specs.declared.Term.TheVariants.{Const, Var}
@@ -87,7 +87,7 @@ below_one n p h g (suc k) lt = absurd (omega arith)
 
 -- ---- the ways through match_of and equate_of
 
-module _ (vs : List Binding) {r : Decision} where
+module _ (vs : List (Option Term)) {r : Decision} where
   pub match_is : (n : ℕ) (ms : List ℕ) (xs : List Term) (base : ℕ) (ts : List Term) (first own : ℕ) {es : List Pair} → es ≡ pairs_of ms xs base ts first own
       → Decides (decide vs (take n es) (held_by vs xs (record { bar = 0; arity = n; modes = ms; base = base }))) r
       → Decides (match_of vs (take n ms) (take n xs) base (take n ts) first own) r

@@ -1,5 +1,5 @@
 -- What an answer of the code tells, and the structs that it works with.
-use Rattle.std.specs.Prelude.{◌≡◌, ◌||◌, Bool, false, true, [], ◌∷◌, List, ◌+◌, ◌<◌, ◌≤◌, ℕ, ltb, get_or, length, set, take}
+use Rattle.std.specs.Prelude.{◌≡◌, ◌||◌, Bool, false, true, [], ◌∷◌, List, ◌+◌, ◌<◌, ◌≤◌, ℕ, ltb, get_or, length, set, take, Option}
 use Rattle.decide.specs.declared.Decision.{Decision}
 use Rattle.decide.specs.declared.Deed.{Deed}
 use Rattle.decide.specs.declared.Deed.TheVariants.{Binds, Fails, Suspends}
@@ -7,7 +7,6 @@ use Rattle.decide.specs.declared.Held.{Held}
 use Rattle.decide.specs.declared.Noted.{Noted}
 use Rattle.parlog.specs.Delta.{four_of}
 use Rattle.parlog.specs.Unify.{binds, Decided, fails, input_value, suspends}
-use Rattle.parlog.specs.declared.Binding.{Binding}
 use Rattle.parlog.specs.declared.Change.{Change}
 use Rattle.parlog.specs.declared.Term.{Term}
 use Rattle.parlog.specs.declared.Term.TheVariants.{Const}
@@ -74,7 +73,7 @@ gather held s [] = s
 gather held s (c ∷ cs) = gather held (push_of s (held c.var) c.var) cs
 
 -- v is not to be bound
-unfoldable pub held_by : List Binding → List Term → Held → ℕ → Bool
+unfoldable pub held_by : List (Option Term) → List Term → Held → ℕ → Bool
 held_by vs args h v = ltb v h.bar || input_value vs (take h.arity h.modes) (take h.arity args) h.base v
 
 -- ---- bounds

@@ -47,6 +47,7 @@ pub struct Held {
 }
 
 // The term is the variable v.
+// Kept: `matches!` with a guard is no plainer, and has one more case to prove.
 fn is_var(x: Term, v: u32) -> bool
     ensures { result ≡ is_var v x }
 {
@@ -80,18 +81,15 @@ fn is_input(
     requires { (n * cell_size ≤ length vars.now) × (n ≤ 65535) × (arity ≤ 4) × (length args ≡ 4) × Shifted args base arity n }
     ensures { result ≡ input_value (vars_in vars.now n) (take arity modes) (take arity args) base v }
 {
-    let mut i = 0;
-    while i < arity {
+    for i in 0..arity {
         let m = modes[i];
-        let a = args[i];
-        let t = shift(a, base);
+        let t = shift(args[i], base);
         let x = unify::value_of(vars, n, t);
         let yes = is_var(x, v);
         let hit = basics::and(m == 0, yes);
         if hit {
             return true;
         }
-        i += 1;
     }
     false
 }
@@ -108,21 +106,15 @@ fn is_held(vars: &[u8], n: usize, args: [Term; 4], h: Held, v: u32) -> bool
 }
 
 // One variable more, where it is to be noted.
-fn push(s: Noted, yes: bool, v: u16) -> Noted
+fn push(mut s: Noted, yes: bool, v: u16) -> Noted
     requires { s.count < 4 }
     ensures { result ≡ push_of s yes v }
 {
-    let at = s.count;
-    let mut notes = s.notes;
     if yes {
-        notes[at as usize] = v;
-        Noted {
-            count: at + 1,
-            notes: notes,
-        }
-    } else {
-        s
+        s.notes[usize::from(s.count)] = v;
+        s.count += 1;
     }
+    s
 }
 
 // The variables bound that are not to be bound, in order.
@@ -130,19 +122,14 @@ fn needed(vars: &[u8], n: usize, args: [Term; 4], h: Held, u: Unified) -> Noted
     requires { (n * cell_size ≤ length vars.now) × (n ≤ 65535) × (h.arity ≤ 4) × (length args ≡ 4) × Shifted args h.base h.arity n × (u.count ≤ 4) × (length u.binds ≡ 4) × ((k : ℕ) → k < u.count → (get_or u.binds k no_change).var < n) }
     ensures { result ≡ gather (held_by (vars_in vars.now n) args h) (record { count = 0; notes = 0 ∷ 0 ∷ 0 ∷ 0 ∷ [] }) (pending u) }
 {
-    let binds = u.binds;
-    let count = u.count;
     let mut s = Noted {
         count: 0,
         notes: [0, 0, 0, 0],
     };
-    let mut k = 0;
-    while k < count {
-        let c = binds[k];
+    for c in &u.binds[..u.count] {
         let v = c.var;
         let yes = is_held(vars, n, args, h, v);
         s = push(s, yes, v as u16);
-        k += 1;
     }
     s
 }
@@ -225,12 +212,10 @@ fn pair_at(
     requires { (k < 4) × (length modes ≡ 4) × (length args ≡ 4) × (length head ≡ 4) × (top (get_or args k (Const 0)) + base ≤ 65535) × (top (get_or head k (Const 0)) + first ≤ 65535) × (out ≤ 65540) }
     ensures { result ≡ pair_of (get_or modes k 0) (get_or args k (Const 0)) base (get_or head k (Const 0)) first out }
 {
-    let m = modes[k];
-    let a = args[k];
-    let t = head[k];
-    let left = shift(a, base);
-    let right = head_side(m, t, first, out);
-    Pair { left, right }
+    Pair {
+        left: shift(args[k], base),
+        right: head_side(modes[k], head[k], first, out),
+    }
 }
 
 // The arguments of the call with those of the head, from the left.

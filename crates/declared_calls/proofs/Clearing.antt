@@ -1,32 +1,21 @@
 -- A row of chains cleared: it is that of a table without names.
-use mathlib.Core.Path.{◌∙◌, ◌≡◌, refl}
-use mathlib.Core.List.{List}
-use Prim.Native.Nat.{◌+◌, ◌<◌, ◌≤◌, ℕ}
-use lib.ListN.{get_or, length, length-set, set}
-use lib.Seq.{get_or-set_other, get_or-set_same}
+use mathlib.Core.Path.{◌∙◌, ◌≡◌, ap}
+use mathlib.Core.List.{◌++◌, List}
+use Prim.Native.Nat.{◌+◌, ◌≤◌, ℕ}
+use lib.ListN.{drop, get_or, get_or-append, get_or-replicate, length, length-append, length-drop, length-replicate, replicate, take}
+use lib.Seq.{length-take-le}
 use native.Mathlib.Omega.{arith}
 use Rattle.declared_calls.specs.Declares.{Cleared}
 use Rattle.name_index.specs.Index.{Indexed, latest}
-use Rattle.parlog.proofs.Scans.{below_suc}
 
--- the first i chains have no name
-pub record ClearedTo (l k : List ℕ) (i : ℕ) : Type 0 where
-  pub heads : (h : ℕ) → h < i → get_or k h 0 ≡ 0
-  pub size : length k ≡ length l
-
-pub clear-start : (l : List ℕ) → ClearedTo l l 0
-clear-start l = record { heads = λ h i. absurd (omega arith); size = refl }
-
-pub clear-on : {l k : List ℕ} {i : ℕ} → ClearedTo l k i → i < 512 → 512 ≤ length l → ClearedTo l (set k i 0) (i + 1)
-clear-on {l} {k} {i} c h w = record {
-  heads = λ j g.
-      below_suc j i (omega arith) (λ e. rw e (get_or-set_same k i 0 0 (let z = c.size in omega arith)))
-      (λ g. get_or-set_other k i j 0 0 (λ z. omega arith) ∙ c.heads j g);
-  size = length-set k i 0 ∙ c.size;
-}
-
-pub clear-end : {l k : List ℕ} {i : ℕ} → ClearedTo l k i → 512 ≤ i → Cleared l k
-clear-end c h = record { heads = λ j g. c.heads j (omega arith); size = c.size }
+-- the chains filled with 0
+pub clear-all : {l z : List ℕ} → 512 ≤ length l → z ≡ replicate (length (take 512 l)) 0 → Cleared l (z ++ drop 512 l)
+clear-all {l} {z} h e =
+    let n : length z ≡ 512 = ap length e ∙ length-replicate (length (take 512 l)) 0 ∙ length-take-le 512 l h in
+    record {
+      heads = λ j g. get_or-append z (drop 512 l) 0 j (omega arith) ∙ ap (λ (y : List ℕ). get_or y j 0) e ∙ get_or-replicate (length (take 512 l)) j 0 0 (omega (arith, length-take-le 512 l h));
+      size = omega (arith, length-append z (drop 512 l), length-drop 512 l);
+    }
 
 -- a table of no name
 pub cleared-index : (s t : List ℕ) {l k : List ℕ} → Cleared l k → length l ≡ 512 + length t → length t ≤ 65535 → Indexed s t k 0

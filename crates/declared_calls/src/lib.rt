@@ -27,7 +27,7 @@ fn told(m: usize, class: usize, n: usize, p: usize) -> Named
 {
     Named {
         from: m,
-        class: class,
+        class,
         count: n,
         rest: p,
     }
@@ -40,8 +40,7 @@ fn names(s: &[u8], m: usize, class: usize, places: &mut [usize], links: &mut [u1
 {
     let mut p = m;
     let mut n = 0;
-    let mut left = s.len() - m;
-    while 0 < left {
+    for _ in m..s.len() {
         if !read_names::is_mode_line(s, p) {
             return told(m, class, n, p);
         }
@@ -56,7 +55,6 @@ fn names(s: &[u8], m: usize, class: usize, places: &mut [usize], links: &mut [u1
         }
         let line = read_names::mode_line(s, p);
         p = line.end;
-        left -= 1;
     }
     told(m, class, n, p)
 }
@@ -66,11 +64,7 @@ fn clear(links: &mut [u16])
     requires { 512 ≤ length links.old }
     ensures { Cleared links.old links.new }
 {
-    let mut i = 0;
-    while i < name_index::CHAINS {
-        links[i] = 0;
-        i += 1;
-    }
+    links[..name_index::CHAINS].fill(0);
 }
 
 // ---- calls
@@ -87,25 +81,20 @@ fn class_declared(
     requires { (from ≤ length s.now) × Declares s.now places.now links.now named }
     ensures { result ≡ class_declared s.now named.from named.class from left }
 {
-    let mut bounded = false;
-    let mut bound = 0;
+    let mut bound = None;
     loop {
         let a = Asked {
             class: named.class,
             count: named.count,
-            bounded: bounded,
-            bound: bound,
+            bound,
         };
-        let c = missing_call::least(s, places, links, a, from, left);
-        if !c.some {
+        let Some(at) = missing_call::least(s, places, links, a, from, left) else {
             return true;
-        }
-        let e = read_names::relation(s, named.rest, c.at);
-        if !e.known {
+        };
+        if read_names::relation(s, named.rest, at).arity.is_none() {
             return false;
         }
-        bounded = true;
-        bound = c.at;
+        bound = Some(at);
     }
 }
 
@@ -137,14 +126,12 @@ fn each_class(
     requires { (m ≤ length s.now) × (from ≤ length s.now) × (length links.old ≡ 512 + length places.old) × (length places.old ≤ 65535) }
     ensures { (result ≡ declared_for s.now m from left) × (length places.new ≡ length places.old) × (length links.new ≡ length links.old) }
 {
-    let mut k = 0;
-    while k < missing_call::CLASSES {
+    for k in 0..missing_call::CLASSES {
         clear(links);
         let named = names(s, m, k, places, links);
         if !class_declared(s, places, links, named, from, left) {
             return false;
         }
-        k += 1;
     }
     true
 }

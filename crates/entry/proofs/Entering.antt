@@ -1,4 +1,6 @@
 -- The ways through the first tests of a call.
+use Rattle.std.specs.Prelude.{Err, Ok}
+use Rattle.parlog.specs.Answer.{Answer}
 use mathlib.Core.Path.{◌∙◌, ◌≡◌, sym}
 use mathlib.Core.Bool.{◌&&◌, Bool, false, true}
 use mathlib.Core.List.{List}
@@ -18,15 +20,13 @@ use Rattle.parlog.specs.Program.{program_of}
 use Rattle.parlog.specs.Scan.{every}
 use Rattle.parlog.specs.TableRules.{cell_known, full_size, lent_ok, state_ok, tables_ok}
 use Rattle.parlog.specs.Tables.{Lent, marker_last, proc_count, tables_in, var_count}
-use Rattle.parlog.specs.declared.Loaded.{Loaded}
-use Rattle.parlog.specs.declared.Loaded.TheVariants.{Accepted, Refused}
 use Rattle.parlog.specs.declared.Refusal.{Refusal}
 use Rattle.program_index.specs.Indexed.{Indexed, IndexedOf}
 use Rattle.rows.proofs.Tables.{procs-length}
 use Rattle.vars.proofs.Tables.{vars-length}
 
 -- THE LAW: what an accepted image and good tables give
-pub lent-inside : (lim : Limits) (s : List ℕ) (r c : ℕ) (l : Lent) → load_of s ≡ Accepted r c → r ≤ 32 → c ≤ 64 → lent_ok lim (program_of s r c) l ≡ true → Inside lim s r c l
+pub lent-inside : (lim : Limits) (s : List ℕ) (r c : ℕ) (l : Lent) → load_of s ≡ Ok (r, c) → r ≤ 32 → c ≤ 64 → lent_ok lim (program_of s r c) l ≡ true → Inside lim s r c l
 unfolding lent_ok tables_ok tables_in
 lent-inside lim s r c l el hr hc e =
     let a = and-true (full_size lim l) (every (cell_known l.vars) (var_count l.head) && tables_ok lim (program_of s r c) (tables_in l)) e in
@@ -55,31 +55,31 @@ lent-inside lim s r c l el hr hc e =
       cells_known = b.0;
     }
 
-module _ (lim : Limits) (s : List ℕ) (l : Lent) {a : Loaded} (is : a ≡ load_of s) where
-  pub enter-refused : {f : Refusal} → a ≡ Refused f → EnterSays lim s l a
+module _ (lim : Limits) (s : List ℕ) (l : Lent) {a : Answer (ℕ × ℕ)} (is : a ≡ load_of s) where
+  pub enter-refused : {f : Refusal} → a ≡ Err f → EnterSays lim s l a
   unfolding enter
   enter-refused e = rw e (record { entry = rw (sym is ∙ e); inside = tt })
 
-  module _ {r c : ℕ} (e : a ≡ Accepted r c) {ok : Bool} (test : ok ≡ lent_ok lim (program_of s r c) l) where
-    pub enter-turned : ok ≡ false → {f : Refusal} → f ≡ refusal 8 0 → EnterSays lim s l (Refused f)
+  module _ {r c : ℕ} (e : a ≡ Ok (r, c)) {ok : Bool} (test : ok ≡ lent_ok lim (program_of s r c) l) where
+    pub enter-turned : ok ≡ false → {f : Refusal} → f ≡ refusal 8 0 → EnterSays lim s l (Err f)
     unfolding enter
     enter-turned h ef = record { entry = rw (sym is ∙ e, sym test ∙ h, ef); inside = tt }
 
-    pub enter-entered : ok ≡ true → Bounded (length s) a → EnterSays lim s l (Accepted r c)
+    pub enter-entered : ok ≡ true → Bounded (length s) a → EnterSays lim s l (Ok (r, c))
     unfolding enter
     enter-entered h b =
         let k = rw e at b in
         record { entry = rw (sym is ∙ e, sym test ∙ h); inside = lent-inside lim s r c l (sym is ∙ e) k.0 k.1 (sym test ∙ h) }
 
 -- what a call knows that was let in
-pub inside_of : (lim : Limits) (s : List ℕ) (l : Lent) {a : Loaded} {r c : ℕ} → EnterSays lim s l a → a ≡ Accepted r c → Inside lim s r c l
+pub inside_of : (lim : Limits) (s : List ℕ) (l : Lent) {a : Answer (ℕ × ℕ)} {r c : ℕ} → EnterSays lim s l a → a ≡ Ok (r, c) → Inside lim s r c l
 inside_of lim s l h e = rw e at h.inside
 
-pub indexed_of : (s ix : List ℕ) {a : Loaded} {r c : ℕ} → IndexedOf a s ix → a ≡ Accepted r c → Indexed s r c ix
+pub indexed_of : (s ix : List ℕ) {a : Answer (ℕ × ℕ)} {r c : ℕ} → IndexedOf a s ix → a ≡ Ok (r, c) → Indexed s r c ix
 indexed_of s ix h e = rw e at h
 
-pub indexed-none : (s ix : List ℕ) {a : Loaded} {f : Refusal} → a ≡ Refused f → IndexedOf a s ix
+pub indexed-none : (s ix : List ℕ) {a : Answer (ℕ × ℕ)} {f : Refusal} → a ≡ Err f → IndexedOf a s ix
 indexed-none s ix e = rw e tt
 
-pub indexed-some : (s ix : List ℕ) {a : Loaded} {r c : ℕ} → a ≡ Accepted r c → Indexed s r c ix → IndexedOf a s ix
+pub indexed-some : (s ix : List ℕ) {a : Answer (ℕ × ℕ)} {r c : ℕ} → a ≡ Ok (r, c) → Indexed s r c ix → IndexedOf a s ix
 indexed-some s ix e i = rw e i

@@ -1,5 +1,6 @@
 -- What the first tests of a call come to, and what holds of the bytes once they are passed.
-use Rattle.std.specs.Prelude.{◌≡◌, true, List, ◌*◌, ◌<◌, ◌≤◌, ℕ, length}
+use Rattle.parlog.specs.Answer.{Answer}
+use Rattle.std.specs.Prelude.{◌≡◌, true, List, ◌*◌, ◌<◌, ◌≤◌, ℕ, length, Err, Ok}
 use Rattle.parlog.specs.Calls.{enter, entered, Entry, turned_away}
 use Rattle.parlog.specs.Limits.{Limits}
 use Rattle.parlog.specs.Load.{load_of}
@@ -7,12 +8,10 @@ use Rattle.parlog.specs.Program.{program_of}
 use Rattle.parlog.specs.Scan.{every}
 use Rattle.parlog.specs.TableRules.{cell_known, lent_ok}
 use Rattle.parlog.specs.Tables.{cell_size, head_size, Lent, marker_last, proc_count, row_size, tables_in, var_count}
-use Rattle.parlog.specs.declared.Loaded.{Loaded}
-use Rattle.parlog.specs.declared.Loaded.TheVariants.{Accepted, Refused}
 
 -- what a call that was let in may count on
 pub record Inside (lim : Limits) (s : List ℕ) (r c : ℕ) (l : Lent) : Type 0 where
-  pub loaded : load_of s ≡ Accepted r c
+  pub loaded : load_of s ≡ Ok (r, c)
   pub good : lent_ok lim (program_of s r c) l ≡ true
   pub relations : r ≤ 32
   pub clauses : c ≤ 64
@@ -29,16 +28,16 @@ pub record Inside (lim : Limits) (s : List ℕ) (r c : ℕ) (l : Lent) : Type 0 
   pub cells_known : every (cell_known l.vars) (var_count l.head) ≡ true
 
 -- an answer of a load read as an entry
-abbrev pub entry_of : Loaded → List ℕ → Lent → Entry
-entry_of (Refused r) s l = turned_away r
-entry_of (Accepted r c) s l = entered (program_of s r c) (tables_in l)
+abbrev pub entry_of : Answer (ℕ × ℕ) → List ℕ → Lent → Entry
+entry_of (Err r) s l = turned_away r
+entry_of (Ok (r, c)) s l = entered (program_of s r c) (tables_in l)
 
 -- these facts, where it was let in
-abbrev pub InsideOf : Loaded → Limits → List ℕ → Lent → Type 0
-InsideOf (Refused r) lim s l = Unit {0}
-InsideOf (Accepted r c) lim s l = Inside lim s r c l
+abbrev pub InsideOf : Answer (ℕ × ℕ) → Limits → List ℕ → Lent → Type 0
+InsideOf (Err r) lim s l = Unit {0}
+InsideOf (Ok (r, c)) lim s l = Inside lim s r c l
 
 -- Refusals 20, 21: the refusal of the image or of the tables, else the counts
-pub record EnterSays (lim : Limits) (s : List ℕ) (l : Lent) (e : Loaded) : Type 0 where
+pub record EnterSays (lim : Limits) (s : List ℕ) (l : Lent) (e : Answer (ℕ × ℕ)) : Type 0 where
   pub entry : enter lim s l ≡ entry_of e s l
   pub inside : InsideOf e lim s l

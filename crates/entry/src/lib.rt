@@ -8,7 +8,7 @@ ghost use Rattle.parlog.specs.Tables.{lent};
 ghost use Rattle.program_index.specs.Indexed.{index_size, IndexedOf};
 ghost use Rattle.entry.specs.Entered.{EnterSays};
 
-use parlog::{Loaded, Refusal, codes};
+use parlog::{Answer, Refusal, codes};
 
 // The limits of a run.
 pub const PROCS: usize = codes::MOST_PROCS;
@@ -19,10 +19,7 @@ pub const VARS: usize = codes::MOST_VARS;
 pub fn refusal(number: u8) -> Refusal
     ensures { result ≡ refusal number 0 }
 {
-    Refusal {
-        number: number,
-        offset: 0,
-    }
+    Refusal { number, offset: 0 }
 }
 
 // The image first, then the table rules: the counts of the program with its index, or the refusal.
@@ -32,17 +29,17 @@ pub fn enter(
     procs: &[u8],
     vars: &[u8],
     ix: &mut [u16; program_index::SIZE],
-) -> Loaded
+) -> Answer<(usize, usize)>
     requires { length ix.old ≡ index_size }
     ensures enter_says { EnterSays small image.now (lent head.now procs.now vars.now) result }
     ensures indexed_of { IndexedOf result image.now ix.new }
 {
     let l = load::load_indexed(image, ix);
-    let Loaded::Accepted(rels, clauses) = l else {
+    let Ok((rels, clauses)) = l else {
         return l;
     };
     if !table_rules::lent_ok(image, rels, clauses, ix, head, procs, vars, PROCS, VARS) {
-        return Loaded::Refused(refusal(codes::STATE));
+        return Err(refusal(codes::STATE));
     }
-    l
+    Ok((rels, clauses))
 }

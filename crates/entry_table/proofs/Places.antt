@@ -1,11 +1,12 @@
 -- Places of entries, one behind the other.
 use mathlib.Core.Path.{◌∙◌, ◌≡◌, ap, refl, sym}
-use mathlib.Core.Bool.{◌&&◌, Bool, cond, false, true}
+use mathlib.Core.Bool.{◌&&◌, Bool, false, true}
 use mathlib.Core.List.{List}
 use Prim.Native.Nat.{◌*◌, ◌+◌, ◌-◌, ◌/◌, ◌<◌, ◌≤◌, suc, zero, ℕ}
 use lib.Dec.{eqb}
 use lib.ListN.{drop, drop_of_length-le, get_or, length, length-set, set}
 use lib.Seq.{drop-cons, get_or-set_other, get_or-set_same}
+use mir.Val.{bool_byte}
 use borrow.Author.Tests.{eq-eqb, eqb-false, eqb-true, ne_eqb}
 use native.Mathlib.Omega.{arith}
 use native.Mathlib.Nat.{div-mul-le_self, le_trans, mul_assoc, mul-le-mul_right, mul_left_comm, suc-mul}
@@ -147,20 +148,18 @@ module _ (s t : List ℕ) (n i : ℕ) where
   more-entered : (r : ℕ) → Entered s t 1 n → n < length t → drop r s ≡ entry_from s n → r ≤ length s → Entered s (set t n r) 1 (n + 1)
   more-entered r e h w g = let p = e.some in next-entered s t 1 n (get_or t (n - 1) 0) r e h refl (w ∙ ap (entry_from s) (let z : n ≡ n - 1 + 1 = omega arith in z) ∙ sym (entries-on s (n - 1) 1) ∙ ap (λ (v : List ℕ). entry_from v 1) (let z : (n - 1) * 1 ≡ n - 1 = omega arith in ap (entry_from s) (sym z) ∙ sym (e.begins (n - 1) (omega arith)))) g
 
-  pub among-turn : (b v : ℕ) (x : Bool) → i < length s → n < length t → b ≡ get_or s i 0 → x ≡ eqb b 10 → v ≡ cond x 1 0 → Among s t n i → Among s (set t n (i + 1)) (n + v) (i + 1)
-  among-turn b v x h g e f y a = go (eqb b 10) refl
+  pub among-turn : (v : ℕ) → i < length s → n < length t → v ≡ bool_byte (eqb (get_or s i 0) 10) → Among s t n i → Among s (set t n (i + 1)) (n + v) (i + 1)
+  among-turn v h g y a = go (eqb (get_or s i 0) 10) refl
     where
-      go : (z : Bool) → eqb b 10 ≡ z → Among s (set t n (i + 1)) (n + v) (i + 1)
+      go : (z : Bool) → eqb (get_or s i 0) 10 ≡ z → Among s (set t n (i + 1)) (n + v) (i + 1)
       go true z =
-          let q = sym e ∙ eqb-true b 10 z in
-          let w = entry-stop s i h q ∙ a.behind in
-          let u : v ≡ 1 = rw (f, z) at y in
+          let w = entry-stop s i h (eqb-true (get_or s i 0) 10 z) ∙ a.behind in
+          let u : v ≡ 1 = rw z at y in
           rw u (record { entered = more-entered (i + 1) a.entered g w (omega arith); behind = rw w (entry-behind s n); inside = omega arith })
       go false z =
-          let q = eqb-false b 10 z in
-          let u : v ≡ 0 = rw (f, z) at y in
+          let u : v ≡ 0 = rw z at y in
           let m : n + 0 ≡ n = omega arith in
-          rw (u, m) (record { entered = kept-entered (i + 1) a.entered g; behind = sym (entry-go s i h (λ o. q (e ∙ o))) ∙ a.behind; inside = omega arith })
+          rw (u, m) (record { entered = kept-entered (i + 1) a.entered g; behind = sym (entry-go s i h (eqb-false (get_or s i 0) 10 z)) ∙ a.behind; inside = omega arith })
 
 pub among-start : (s t t0 : List ℕ) → 0 < length t0 → t ≡ set t0 0 0 → Among s t 1 0
 unfolding entry_from

@@ -1,7 +1,7 @@
 // The head of a run's tables: the counts of processes and variables, then the turn marker.
 #![tactic(auto)]
 
-ghost use Rattle.std.specs.Prelude.{◌≡◌, ◌+◌, ◌*◌, ◌/◌, ◌%◌, ◌≤◌, ◌<◌, length};
+ghost use Rattle.std.specs.Prelude.{◌≡◌, ◌+◌, ◌*◌, ◌/◌, ◌%◌, ◌≤◌, length};
 ghost use Rattle.parlog.specs.Tables.{head_bytes, head_size, marker_last, marker_steps, proc_count, var_count};
 
 use parlog::codes;
@@ -68,9 +68,5 @@ pub fn put_head(head: &mut [u8], n: usize, m: usize, last: usize, steps: u32)
     ensures { head.new ≡ head_bytes n m last steps }
 {
     let row = encode(n, m, last, steps);
-    let mut k = 0;
-    while k < codes::HEAD_SIZE {
-        head[k] = row[k];
-        k += 1;
-    }
+    head.copy_from_slice(&row);
 }

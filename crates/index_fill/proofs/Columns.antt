@@ -1,28 +1,37 @@
 -- Words of a row that are written one by one: what is filled, and what stays.
-use mathlib.Core.Path.{◌∙◌, ◌≡◌, refl, sym}
-use mathlib.Core.List.{List}
+use mathlib.Core.Path.{◌∙◌, ◌≡◌, sym}
+use mathlib.Core.List.{◌++◌, append_assoc, List}
 use Prim.Native.Nat.{◌+◌, ◌<◌, ◌≤◌, ℕ}
 use lib.Dec.{eqb}
-use lib.ListN.{get_or, length, length-set, set}
-use lib.Seq.{get_or-set_other, get_or-set_same}
+use lib.ListN.{drop, get_or, get_or-replicate, length, length-drop, length-replicate, length-take, replicate, set, take}
+use lib.Seq.{drop-drop, get_or-set_other, get_or-set_same}
+use borrow.Rule.Slice.PartMut.{mid_of, put_mid}
 use borrow.Author.Tests.{eqb-false, eqb-true}
 use native.Mathlib.Omega.{arith}
 use Rattle.index_fill.specs.Filling.{Kept, Placed, put_clause}
 use Rattle.parlog.proofs.Bools.{split}
+use Rattle.parlog.proofs.Rows.{splice-after, splice-before, splice-in, splice-length}
 use Rattle.parlog.specs.Records.{record_at}
-use Rattle.program_index.specs.Indexed.{behind_from, blocks_from, bodies_from, first_from, vars_from}
+use Rattle.program_index.specs.Indexed.{behind_from, blocks_from, bodies_from, first_from, index_size, vars_from}
 
 -- ---- what stays
 
-pub kept-all : (lo hi : ℕ) (xs : List ℕ) → Kept lo hi xs xs
-kept-all lo hi xs = record { below = λ i _. refl; above = λ i _. refl; size = refl }
-
-pub kept_set : {lo hi : ℕ} {xs ys : List ℕ} → Kept lo hi xs ys → (j v : ℕ) → lo ≤ j → j < hi → Kept lo hi xs (set ys j v)
-kept_set {lo} {hi} {xs} {ys} k j v a b = record {
-  below = λ i h. get_or-set_other ys j i v 0 (λ e. omega arith) ∙ k.below i h;
-  above = λ i h. get_or-set_other ys j i v 0 (λ e. omega arith) ∙ k.above i h;
-  size = length-set ys j v ∙ k.size;
-}
+-- the words of the relations cleared, by a fill of that part
+pub cleared : (ix ys : List ℕ) → length ix ≡ index_size → ys ≡ replicate (length (mid_of blocks_from 96 ix)) 0 → ((k : ℕ) → k < 96 → get_or (put_mid blocks_from 96 ix ys) (blocks_from + k) 0 ≡ 0) × Kept blocks_from index_size ix (put_mid blocks_from 96 ix ys)
+cleared ix ys n e =
+    let m : length (mid_of blocks_from 96 ix) ≡ 96 = omega (arith, length-take 96 (drop blocks_from ix), length-drop blocks_from ix) in
+    let zeros : List ℕ = replicate 96 0 in
+    let parts : put_mid blocks_from 96 ix ys ≡ take blocks_from ix ++ zeros ++ drop index_size ix = rw (e, m, drop-drop 96 blocks_from ix, append_assoc) in
+    let l : length zeros ≡ 96 = length-replicate {A = ℕ} 96 0 in
+    let room : blocks_from + 96 ≤ length ix = omega arith in
+    rw parts (
+      λ k h. splice-in ix blocks_from zeros 96 l room k h ∙ get_or-replicate 96 k 0 0 h,
+      record {
+        below = splice-before ix blocks_from zeros 96 l room;
+        above = splice-after ix blocks_from zeros 96 l room;
+        size = splice-length ix blocks_from zeros 96 l room;
+      },
+    )
 
 -- a column, and a word beside it
 pub beside : (P : ℕ → ℕ → Type 0) (base n i v : ℕ) (ys : List ℕ) → ((j : ℕ) → j < n → i ≡ base + j → ⊥) → ((j : ℕ) → j < n → P j (get_or ys (base + j) 0)) → (j : ℕ) → j < n → P j (get_or (set ys i v) (base + j) 0)

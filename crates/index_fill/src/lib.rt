@@ -16,11 +16,7 @@ pub fn clear(ix: &mut [u16; program_index::SIZE])
     requires { length ix.old ≡ index_size }
     ensures { ((k : ℕ) → k < 96 → get_or ix.new (blocks_from + k) 0 ≡ 0) × Kept blocks_from index_size ix.old ix.new }
 {
-    let mut k = 0;
-    while k < RELATION_WORDS {
-        ix[program_index::BLOCKS + k] = 0;
-        k += 1;
-    }
+    ix[program_index::BLOCKS..program_index::BLOCKS + RELATION_WORDS].fill(0);
 }
 
 // ---- a clause
@@ -73,10 +69,10 @@ fn note_clause(s: &[u8], g: Progress, at: usize, body: usize, ix: &mut [u16; pro
     let mark = place::byte_at(s, at + codes::CLAUSE_MARK);
     let own = load_names::follows(g, q);
     let new = program_block::opens(q, own, mark, q);
-    let rec = basics::wide_u16(ix[q]);
-    let x = basics::wide_u16(ix[program_index::BLOCKS + q]);
-    let f = basics::wide_u16(ix[program_index::FIRST + q]);
-    let b = basics::wide_u16(ix[program_index::BEHIND + q]);
+    let rec = usize::from(ix[q]);
+    let x = usize::from(ix[program_index::BLOCKS + q]);
+    let f = usize::from(ix[program_index::FIRST + q]);
+    let b = usize::from(ix[program_index::BEHIND + q]);
     let vars = vars_of(s, at, rec);
     let blocks = program_clause::more(new, x);
     let first = first_of(b, f, g.clauses);

@@ -1,4 +1,6 @@
 -- THE LAW: the loader's tests of a program's records are those told by the program.
+use Rattle.std.specs.Prelude.{Result, Err, Ok}
+use Rattle.parlog.specs.Answer.{Answer}
 use mathlib.Core.Path.{◌∙◌, ◌≡◌, ap, refl, sym}
 use mathlib.Core.Bool.{◌&&◌, Bool, false, not, true}
 use mathlib.Core.List.{[], ◌++◌, ◌∷◌, append_assoc, append-nil, List}
@@ -16,10 +18,7 @@ use Rattle.parlog.specs.Load.{after, block_with, broken, kind_fault, load_end, n
 use Rattle.parlog.specs.Names.{names_right}
 use Rattle.parlog.specs.Program.{Clause, Goal, Program}
 use Rattle.parlog.specs.Records.{walk}
-use Rattle.parlog.specs.declared.Loaded.{Loaded}
 use Rattle.parlog.specs.declared.Progress.{Progress}
-use Rattle.parlog.specs.declared.Verdict.{Verdict}
-use Rattle.parlog.specs.declared.Verdict.TheVariants.{Goes, Refuses}
 use Rattle.text_names.specs.Names.{Name}
 use Rattle.text_program.proofs.Fields.{record-end, record-inside, record-kind, record-length, record-whole}
 use Rattle.text_program.proofs.Here.{skip_by}
@@ -29,15 +28,15 @@ use Rattle.text_program.specs.Parsing.{once_by, records_in, repeated, text_verdi
 
 -- ---- what follows a record
 
-module _ (f h : Progress → Loaded) (at : ℕ) where
-  refuse-ext : (b : Bool) (n : ℕ) (v : Verdict) → after f at v ≡ after h at v → after f at (refuse_if b n v) ≡ after h at (refuse_if b n v)
+module _ (f h : Progress → Answer (ℕ × ℕ)) (at : ℕ) where
+  refuse-ext : (b : Bool) (n : ℕ) (v : Result Progress ℕ) → after f at v ≡ after h at v → after f at (refuse_if b n v) ≡ after h at (refuse_if b n v)
   refuse-ext true n v e = refl
   refuse-ext false n v e = e
 
-  once-ext : (b : Bool) (v : Verdict) → after f at v ≡ after h at v → after f at (once_by b v) ≡ after h at (once_by b v)
-  once-ext b (Refuses n) e = refl
-  once-ext true (Goes g) e = refl
-  once-ext false (Goes g) e = e
+  once-ext : (b : Bool) (v : Result Progress ℕ) → after f at v ≡ after h at v → after f at (once_by b v) ≡ after h at (once_by b v)
+  once-ext b (Err n) e = refl
+  once-ext true (Ok g) e = refl
+  once-ext false (Ok g) e = e
 
   judged-ext : (g : Progress) (kind : ℕ) (sized known : Bool) (r mark : ℕ) → f (progress_of g kind r mark) ≡ h (progress_of g kind r mark) → after f at (judged g kind sized known r mark) ≡ after h at (judged g kind sized known r mark)
   unfolding judged
@@ -58,16 +57,16 @@ abbrev inside : Clause → List ℕ
 inside c = c.rel ∷ length c.head ∷ c.mark ∷ c.vars ∷ (joined term_bytes c.head ++ (goal_bytes c.guard ++ goal_bytes c.body))
 
 -- no second mode line
-once-same : (v : Verdict) → once_by false v ≡ v
-once-same (Refuses n) = refl
-once-same (Goes g) = refl
+once-same : (v : Result Progress ℕ) → once_by false v ≡ v
+once-same (Err n) = refl
+once-same (Ok g) = refl
 
 module _ (names : List Name) (s : List ℕ) where
   -- one record and those behind it
-  abbrev one : (Progress → Loaded) → ℕ → Progress → Loaded
+  abbrev one : (Progress → Answer (ℕ × ℕ)) → ℕ → Progress → Answer (ℕ × ℕ)
   one rest at g = after rest at (text_verdict names s g at)
 
-  abbrev go : ℕ → ℕ → Progress → Loaded
+  abbrev go : ℕ → ℕ → Progress → Answer (ℕ × ℕ)
   go n at g = walk s broken one (load_end s) n at g
 
   walk-one : (kind : ℕ) (body : List ℕ) (n at : ℕ) (r : List ℕ) (g : Progress) → drop at s ≡ record_bytes kind body ++ r → go (suc n) at g ≡ one (go n (at + length (record_bytes kind body))) at g
@@ -106,11 +105,11 @@ module _ (names : List Name) (s : List ℕ) where
   unfolding relation_bytes
   relation-left m n at r e h = fuel-left 1 (length m ∷ m) n at r e h
 
-  relation-ext : (f h : Progress → Loaded) (at : ℕ) (g : Progress) (m : List ℕ) → f (progress_of g 1 0 0) ≡ h (progress_of g 1 0 0) → after f at (relation_judged names g m) ≡ after h at (relation_judged names g m)
+  relation-ext : (f h : Progress → Answer (ℕ × ℕ)) (at : ℕ) (g : Progress) (m : List ℕ) → f (progress_of g 1 0 0) ≡ h (progress_of g 1 0 0) → after f at (relation_judged names g m) ≡ after h at (relation_judged names g m)
   unfolding relation_judged
   relation-ext f h at g m e = once-ext f h at (repeated names g.relations) (judged g 1 (relation_sized m) true 0 0) (judged-ext f h at g 1 (relation_sized m) true 0 0 e)
 
-  relations-walked : (then : ℕ → Progress → Loaded) (all : ℕ) (tail : List ℕ) → ((n at : ℕ) (g : Progress) → drop at s ≡ tail → length (drop at s) ≤ n → g.relations ≡ all → go n at g ≡ then at g) →
+  relations-walked : (then : ℕ → Progress → Answer (ℕ × ℕ)) (all : ℕ) (tail : List ℕ) → ((n at : ℕ) (g : Progress) → drop at s ≡ tail → length (drop at s) ≤ n → g.relations ≡ all → go n at g ≡ then at g) →
       (ms : List (List ℕ)) (n at : ℕ) (g : Progress) → drop at s ≡ joined relation_bytes ms ++ tail → length (drop at s) ≤ n → g.relations + length ms ≡ all → go n at g ≡ relations_judged names then ms at g
   unfolding relations_judged joined
   relations-walked then all tail k [] n at g e h c = k n at g e h (omega arith)
@@ -146,11 +145,11 @@ module _ (names : List Name) (s : List ℕ) where
     unfolding clause_bytes
     clause-left c n at r e h = fuel-left 2 (inside c) n at r e h
 
-    clause-ext : (f h : Progress → Loaded) (at : ℕ) (g : Progress) (c : Clause) → f (progress_of g 2 c.rel c.mark) ≡ h (progress_of g 2 c.rel c.mark) → after f at (clause_judged rels g c) ≡ after h at (clause_judged rels g c)
+    clause-ext : (f h : Progress → Answer (ℕ × ℕ)) (at : ℕ) (g : Progress) (c : Clause) → f (progress_of g 2 c.rel c.mark) ≡ h (progress_of g 2 c.rel c.mark) → after f at (clause_judged rels g c) ≡ after h at (clause_judged rels g c)
     unfolding clause_judged
     clause-ext f h at g c e = judged-ext f h at g 2 (clause_sized c) (clause_known rels g c) c.rel c.mark e
 
-    clauses-walked : (then : ℕ → Progress → Loaded) (tail : List ℕ) → ((n at : ℕ) (g : Progress) → drop at s ≡ tail → length (drop at s) ≤ n → g.relations ≡ length rels → go n at g ≡ then at g) →
+    clauses-walked : (then : ℕ → Progress → Answer (ℕ × ℕ)) (tail : List ℕ) → ((n at : ℕ) (g : Progress) → drop at s ≡ tail → length (drop at s) ≤ n → g.relations ≡ length rels → go n at g ≡ then at g) →
         (cs : List Clause) (n at : ℕ) (g : Progress) → drop at s ≡ joined clause_bytes cs ++ tail → length (drop at s) ≤ n → g.relations ≡ length rels → go n at g ≡ clauses_judged rels then cs at g
     unfolding clauses_judged joined
     clauses-walked then tail k [] n at g e h c = k n at g e h c
@@ -192,7 +191,7 @@ module _ (names : List Name) (s : List ℕ) where
     unfolding progress_of
     ask-end g = refl
 
-    ask-ext : (f h : Progress → Loaded) (at : ℕ) (g : Progress) (n : ℕ) (q : Goal) → f (progress_of g 3 0 0) ≡ h (progress_of g 3 0 0) → after f at (ask_judged rels g n q) ≡ after h at (ask_judged rels g n q)
+    ask-ext : (f h : Progress → Answer (ℕ × ℕ)) (at : ℕ) (g : Progress) (n : ℕ) (q : Goal) → f (progress_of g 3 0 0) ≡ h (progress_of g 3 0 0) → after f at (ask_judged rels g n q) ≡ after h at (ask_judged rels g n q)
     unfolding ask_judged
     ask-ext f h at g n q e = judged-ext f h at g 3 (ask_sized n q) (goal_known rels n q) 0 0 e
 

@@ -1,16 +1,13 @@
 -- The loader's tests of the records of a program, told by the program.
-use Rattle.std.specs.Prelude.{◌&&◌, Bool, cond, not, true, [], ◌∷◌, List, ◌+◌, ℕ, eqb, leb, ltb, get_or, length}
+use Rattle.parlog.specs.Answer.{Answer}
+use Rattle.std.specs.Prelude.{◌&&◌, Bool, cond, not, true, [], ◌∷◌, List, ◌+◌, ℕ, eqb, leb, ltb, get_or, length, Result, Ok}
 use Rattle.parlog.specs.Image.{clause_kind, equality, first_variable, goal_kind, relation_kind, term_of}
 use Rattle.parlog.specs.Load.{after, block_with, kind_fault, refuse_if, too_many}
 use Rattle.parlog.specs.Names.{follows, term_named}
 use Rattle.parlog.specs.Program.{Clause, Goal, Literal}
-use Rattle.parlog.specs.declared.Loaded.{Loaded}
-use Rattle.parlog.specs.declared.Loaded.TheVariants.{Accepted}
 use Rattle.parlog.specs.declared.Progress.{Progress}
 use Rattle.parlog.specs.declared.Term.{Term}
 use Rattle.parlog.specs.declared.Term.TheVariants.{Const, Var}
-use Rattle.parlog.specs.declared.Verdict.{Verdict}
-use Rattle.parlog.specs.declared.Verdict.TheVariants.{Goes}
 use Rattle.text_names.specs.Names.{Name}
 use Rattle.text_program.specs.Encoded.{clause_bytes, relation_bytes}
 use Rattle.text_program.specs.Parsing.{all_of, once_by, repeated}
@@ -77,35 +74,35 @@ progress_of g kind r mark =
     (record { relations = g.relations; clauses = g.clauses; kind = kind; relation = g.relation; block = g.block }))
 
 -- the tests in their order, once 4 and 5 are told
-unfoldable pub judged : Progress → ℕ → Bool → Bool → ℕ → ℕ → Verdict
+unfoldable pub judged : Progress → ℕ → Bool → Bool → ℕ → ℕ → Result Progress ℕ
 judged g kind sized known r mark =
     refuse_if (kind_fault g kind) 3
     (refuse_if (too_many g kind) 6
     (refuse_if (not sized) 4
     (refuse_if (not known) 5
     (refuse_if (eqb kind clause_kind && ltb 8 (block_with g r mark)) 6
-    (Goes (progress_of g kind r mark))))))
+    (Ok (progress_of g kind r mark))))))
 
 -- Text 17: the tests of a relation, of a clause and of the goal
-unfoldable pub relation_judged : List Name → Progress → List ℕ → Verdict
+unfoldable pub relation_judged : List Name → Progress → List ℕ → Result Progress ℕ
 relation_judged names g ms = once_by (repeated names g.relations) (judged g relation_kind (relation_sized ms) true 0 0)
 
-unfoldable pub clause_judged : List (List ℕ) → Progress → Clause → Verdict
+unfoldable pub clause_judged : List (List ℕ) → Progress → Clause → Result Progress ℕ
 clause_judged rels g c = judged g clause_kind (clause_sized c) (clause_known rels g c) c.rel c.mark
 
-unfoldable pub ask_judged : List (List ℕ) → Progress → ℕ → Goal → Verdict
+unfoldable pub ask_judged : List (List ℕ) → Progress → ℕ → Goal → Result Progress ℕ
 ask_judged rels g n q = judged g goal_kind (ask_sized n q) (goal_known rels n q) 0 0
 
 -- relations one after the other, and then what follows
-unfoldable pub relations_judged : List Name → (ℕ → Progress → Loaded) → List (List ℕ) → ℕ → Progress → Loaded
+unfoldable pub relations_judged : List Name → (ℕ → Progress → Answer (ℕ × ℕ)) → List (List ℕ) → ℕ → Progress → Answer (ℕ × ℕ)
 relations_judged names then [] at g = then at g
 relations_judged names then (m ∷ ms) at g = after (relations_judged names then ms (at + length (relation_bytes m))) at (relation_judged names g m)
 
 -- clauses likewise
-unfoldable pub clauses_judged : List (List ℕ) → (ℕ → Progress → Loaded) → List Clause → ℕ → Progress → Loaded
+unfoldable pub clauses_judged : List (List ℕ) → (ℕ → Progress → Answer (ℕ × ℕ)) → List Clause → ℕ → Progress → Answer (ℕ × ℕ)
 clauses_judged rels then [] at g = then at g
 clauses_judged rels then (c ∷ cs) at g = after (clauses_judged rels then cs (at + length (clause_bytes c))) at (clause_judged rels g c)
 
 -- an image with these counts is taken
-abbrev pub taken : Progress → Loaded
-taken g = Accepted g.relations g.clauses
+abbrev pub taken : Progress → Answer (ℕ × ℕ)
+taken g = Ok (g.relations, g.clauses)

@@ -1,4 +1,6 @@
 -- One mode line more among those that were tested.
+use Rattle.std.specs.Prelude.{Err, Ok}
+use Rattle.parlog.specs.Answer.{Answer}
 use mathlib.Core.Path.{◌∙◌, ◌≡◌, ap, refl, sym}
 use mathlib.Core.Bool.{◌&&◌, and-true as true-right, Bool, cond, false, not, true}
 use mathlib.Core.List.{[], ◌∷◌, List}
@@ -12,10 +14,7 @@ use Rattle.judge_lines.specs.Whole.{Opening}
 use Rattle.judge_text.specs.Tests.{tested}
 use Rattle.lay_lines.specs.Lines.{modes_of}
 use Rattle.parlog.specs.Load.{kind_fault, refusal, refuse_if, too_many}
-use Rattle.parlog.specs.declared.Loaded.{Loaded}
-use Rattle.parlog.specs.declared.Loaded.TheVariants.{Refused}
 use Rattle.parlog.specs.declared.Progress.{Progress}
-use Rattle.parlog.specs.declared.Verdict.TheVariants.{Goes, Refuses}
 use Rattle.text_names.specs.Bytes.{first, next, past}
 use Rattle.text_names.specs.Names.{look, Name}
 use Rattle.text_program.proofs.Fields.{record-length}
@@ -66,8 +65,8 @@ unfolding tested relation_judged judged progress_of too_many repeated
 mode-tested names g ms x k right o r z n e =
     rw (no-fault g o.kind, z, ← r, n, ← e, again-told k g.relations) (go (leb 32 g.relations) right (ltb k g.relations))
   where
-    go : (a b c : Bool) → refuse_if a 6 (refuse_if (not b) 4 (refuse_if (not (not c)) 5 (Goes (record { relations = g.relations + 1; clauses = g.clauses; kind = 1; relation = g.relation; block = g.block }))))
-        ≡ once_by c (refuse_if a 6 (refuse_if (not b) 4 (Goes (record { relations = g.relations + 1; clauses = g.clauses; kind = 1; relation = g.relation; block = g.block }))))
+    go : (a b c : Bool) → refuse_if a 6 (refuse_if (not b) 4 (refuse_if (not (not c)) 5 (Ok (record { relations = g.relations + 1; clauses = g.clauses; kind = 1; relation = g.relation; block = g.block }))))
+        ≡ once_by c (refuse_if a 6 (refuse_if (not b) 4 (Ok (record { relations = g.relations + 1; clauses = g.clauses; kind = 1; relation = g.relation; block = g.block }))))
     go true b c = refl
     go false false c = refl
     go false true true = refl
@@ -87,12 +86,12 @@ mode-few ms e = go (leb (length ms) 4) refl e
 
 -- ---- the mode lines that are left
 
-module _ (names : List Name) (then : ℕ → Progress → Loaded) (k : ℕ) (g : Progress) where
-  pub modes-on : (x : ModeLine) (Y Z : Got (List ModeLine)) (next : Progress) (at : ℕ) → Y ≡ cons_got x Z → relation_judged names g x.modes ≡ Goes next → at ≡ k + length (relation_bytes x.modes) → relations_judged names then (modes_of Z.value) at next ≡ relations_judged names then (modes_of Y.value) k g
+module _ (names : List Name) (then : ℕ → Progress → Answer (ℕ × ℕ)) (k : ℕ) (g : Progress) where
+  pub modes-on : (x : ModeLine) (Y Z : Got (List ModeLine)) (next : Progress) (at : ℕ) → Y ≡ cons_got x Z → relation_judged names g x.modes ≡ Ok next → at ≡ k + length (relation_bytes x.modes) → relations_judged names then (modes_of Z.value) at next ≡ relations_judged names then (modes_of Y.value) k g
   unfolding relations_judged
   modes-on x Y Z next at e h l = sym (ap (λ (y : Got (List ModeLine)). relations_judged names then (modes_of y.value) k g) e ∙ rw (h, l) refl)
 
-  pub modes-stop : (x : ModeLine) (Y Z : Got (List ModeLine)) (n : ℕ) → Y ≡ cons_got x Z → relation_judged names g x.modes ≡ Refuses n → Refused (refusal n k) ≡ relations_judged names then (modes_of Y.value) k g
+  pub modes-stop : (x : ModeLine) (Y Z : Got (List ModeLine)) (n : ℕ) → Y ≡ cons_got x Z → relation_judged names g x.modes ≡ Err n → Err (refusal n k) ≡ relations_judged names then (modes_of Y.value) k g
   unfolding relations_judged
   modes-stop x Y Z n e h = sym (ap (λ (y : Got (List ModeLine)). relations_judged names then (modes_of y.value) k g) e ∙ rw h refl)
 

@@ -1,4 +1,6 @@
 -- THE LAW: the tests of the clauses and of the goal of a program are those told by its text.
+use Rattle.std.specs.Prelude.{Ok}
+use Rattle.parlog.specs.Answer.{Answer}
 use mathlib.Core.Path.{◌∙◌, ◌≡◌, ap, refl, sym}
 use mathlib.Core.Bool.{◌&&◌, Bool, cond, false, not, true}
 use mathlib.Core.List.{[], ◌++◌, ◌∷◌, append_assoc, List}
@@ -19,9 +21,7 @@ use Rattle.lay_lines.specs.Lines.{clause_right, clauses_with, modes_of, with_var
 use Rattle.parlog.proofs.Bools.{and-true}
 use Rattle.parlog.specs.Load.{after, block_with, kind_fault, refuse_if, too_many}
 use Rattle.parlog.specs.Names.{follows}
-use Rattle.parlog.specs.declared.Loaded.{Loaded}
 use Rattle.parlog.specs.declared.Progress.{Progress}
-use Rattle.parlog.specs.declared.Verdict.TheVariants.{Goes}
 use Rattle.read_goal.specs.Spans.{goal_right, literal_right, literals_in, stage_right, stages_right}
 use Rattle.read_names.specs.Tables.{mode_names}
 use Rattle.text_names.proofs.Looked.{same-is}
@@ -76,23 +76,23 @@ clause-few c e =
 
 -- ---- one record, where only right ones matter
 
-pub judged-both : (f h : Progress → Loaded) (at : ℕ) (g : Progress) (kind : ℕ) (sized known other : Bool) (r mark : ℕ) → (too_many g kind ≡ false → sized ≡ true → known ≡ other) → (too_many g kind ≡ false → sized ≡ true → f (progress_of g kind r mark) ≡ h (progress_of g kind r mark)) →
+pub judged-both : (f h : Progress → Answer (ℕ × ℕ)) (at : ℕ) (g : Progress) (kind : ℕ) (sized known other : Bool) (r mark : ℕ) → (too_many g kind ≡ false → sized ≡ true → known ≡ other) → (too_many g kind ≡ false → sized ≡ true → f (progress_of g kind r mark) ≡ h (progress_of g kind r mark)) →
     after f at (judged g kind sized known r mark) ≡ after h at (judged g kind sized other r mark)
 unfolding judged
 judged-both f h at g kind sized known other r mark k e = fault (kind_fault g kind) (too_many g kind) sized refl refl
   where
-    full : (b : Bool) → f (progress_of g kind r mark) ≡ h (progress_of g kind r mark) → after f at (refuse_if b 6 (Goes (progress_of g kind r mark))) ≡ after h at (refuse_if b 6 (Goes (progress_of g kind r mark)))
+    full : (b : Bool) → f (progress_of g kind r mark) ≡ h (progress_of g kind r mark) → after f at (refuse_if b 6 (Ok (progress_of g kind r mark))) ≡ after h at (refuse_if b 6 (Ok (progress_of g kind r mark)))
     full true z = refl
     full false z = z
 
     names : (b : Bool) → f (progress_of g kind r mark) ≡ h (progress_of g kind r mark) →
-        after f at (refuse_if (not b) 5 (refuse_if (eqb kind 2 && ltb 8 (block_with g r mark)) 6 (Goes (progress_of g kind r mark)))) ≡ after h at (refuse_if (not b) 5 (refuse_if (eqb kind 2 && ltb 8 (block_with g r mark)) 6 (Goes (progress_of g kind r mark))))
+        after f at (refuse_if (not b) 5 (refuse_if (eqb kind 2 && ltb 8 (block_with g r mark)) 6 (Ok (progress_of g kind r mark)))) ≡ after h at (refuse_if (not b) 5 (refuse_if (eqb kind 2 && ltb 8 (block_with g r mark)) 6 (Ok (progress_of g kind r mark))))
     names true z = full (eqb kind 2 && ltb 8 (block_with g r mark)) z
     names false z = refl
 
     fault : (a b c : Bool) → too_many g kind ≡ b → sized ≡ c →
-        after f at (refuse_if a 3 (refuse_if b 6 (refuse_if (not c) 4 (refuse_if (not known) 5 (refuse_if (eqb kind 2 && ltb 8 (block_with g r mark)) 6 (Goes (progress_of g kind r mark)))))))
-        ≡ after h at (refuse_if a 3 (refuse_if b 6 (refuse_if (not c) 4 (refuse_if (not other) 5 (refuse_if (eqb kind 2 && ltb 8 (block_with g r mark)) 6 (Goes (progress_of g kind r mark)))))))
+        after f at (refuse_if a 3 (refuse_if b 6 (refuse_if (not c) 4 (refuse_if (not known) 5 (refuse_if (eqb kind 2 && ltb 8 (block_with g r mark)) 6 (Ok (progress_of g kind r mark)))))))
+        ≡ after h at (refuse_if a 3 (refuse_if b 6 (refuse_if (not c) 4 (refuse_if (not other) 5 (refuse_if (eqb kind 2 && ltb 8 (block_with g r mark)) 6 (Ok (progress_of g kind r mark)))))))
     fault true b c p q = refl
     fault false true c p q = refl
     fault false false false p q = refl
@@ -130,8 +130,8 @@ mark-right ms g semicolon name x b = go semicolon (same_name name x) b refl
     go true false h e = any-one (follows g (look (mode_names ms) x))
     go false t h e = any-one (follows g (look (mode_names ms) x))
 
-module _ (ms : List ModeLine) (few : length ms ≤ 32) (goal : List (List Said)) (thenJ thenS : ℕ → Progress → Loaded) where
-  one-said : (x : SaidClause) (n : Numbering) (opens : Bool) (at : ℕ) (g : Progress) (f : ℕ → Progress → Loaded) (h : Progress → Loaded) →
+module _ (ms : List ModeLine) (few : length ms ≤ 32) (goal : List (List Said)) (thenJ thenS : ℕ → Progress → Answer (ℕ × ℕ)) where
+  one-said : (x : SaidClause) (n : Numbering) (opens : Bool) (at : ℕ) (g : Progress) (f : ℕ → Progress → Answer (ℕ × ℕ)) (h : Progress → Answer (ℕ × ℕ)) →
       clause_sized (clause_in n (mark_by opens) x) ≡ clause_right x →
       (too_many g 2 ≡ false → clause_right x ≡ true → clause_known (modes_of ms) g (clause_in n (mark_by opens) x) ≡ (clause_fits true ms x && leb g.relation (look (mode_names ms) x.name))) →
       (too_many g 2 ≡ false → clause_right x ≡ true → f (at + clause_size x) (progress_of g 2 (look n.relations x.name) (mark_by opens)) ≡ h (progress_of g 2 (look n.relations x.name) (mark_by opens))) →

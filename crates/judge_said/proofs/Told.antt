@@ -1,4 +1,6 @@
 -- THE LAW: 4, 5 and 6 of a text, told by what it says.
+use Rattle.std.specs.Prelude.{Result, Err, Ok}
+use Rattle.parlog.specs.Answer.{Answer}
 use mathlib.Core.Path.{◌∙◌, ◌≡◌, ap, refl, sym}
 use mathlib.Core.Bool.{Bool, false, true}
 use mathlib.Core.List.{[], ◌++◌, ◌∷◌, append-nil, List}
@@ -19,10 +21,7 @@ use Rattle.lay_lines.specs.Lines.{clauses_with, modes_of}
 use Rattle.lay_literal.specs.Fits.{goal_fits}
 use Rattle.parlog.proofs.Bools.{and-true}
 use Rattle.parlog.specs.Load.{after, nothing_read, too_many}
-use Rattle.parlog.specs.declared.Loaded.{Loaded}
 use Rattle.parlog.specs.declared.Progress.{Progress}
-use Rattle.parlog.specs.declared.Verdict.{Verdict}
-use Rattle.parlog.specs.declared.Verdict.TheVariants.{Goes, Refuses}
 use Rattle.read_goal.specs.Spans.{goal_right}
 use Rattle.read_names.specs.Tables.{mode_names}
 use Rattle.text_names.specs.Names.{adds, Name}
@@ -54,16 +53,16 @@ module _ (ms : List ModeLine) (few : length ms ≤ 32) (goal : List (List Said))
 
 -- ---- relations
 
-once-both : (f h : Progress → Loaded) (at : ℕ) (b : Bool) (v : Verdict) → after f at v ≡ after h at v → after f at (once_by b v) ≡ after h at (once_by b v)
-once-both f h at b (Refuses n) e = refl
-once-both f h at true (Goes g) e = refl
-once-both f h at false (Goes g) e = e
+once-both : (f h : Progress → Answer (ℕ × ℕ)) (at : ℕ) (b : Bool) (v : Result Progress ℕ) → after f at v ≡ after h at v → after f at (once_by b v) ≡ after h at (once_by b v)
+once-both f h at b (Err n) e = refl
+once-both f h at true (Ok g) e = refl
+once-both f h at false (Ok g) e = e
 
-relation-both : (names : List Name) (f h : Progress → Loaded) (at : ℕ) (g : Progress) (m : List ℕ) → (too_many g 1 ≡ false → f (progress_of g 1 0 0) ≡ h (progress_of g 1 0 0)) → after f at (relation_judged names g m) ≡ after h at (relation_judged names g m)
+relation-both : (names : List Name) (f h : Progress → Answer (ℕ × ℕ)) (at : ℕ) (g : Progress) (m : List ℕ) → (too_many g 1 ≡ false → f (progress_of g 1 0 0) ≡ h (progress_of g 1 0 0)) → after f at (relation_judged names g m) ≡ after h at (relation_judged names g m)
 unfolding relation_judged
 relation-both names f h at g m e = once-both f h at (repeated names g.relations) (judged g 1 (relation_sized m) true 0 0) (judged-both f h at g 1 (relation_sized m) true true 0 0 (λ p q. refl) (λ p q. e p))
 
-relations-both : (names : List Name) (f h : ℕ → Progress → Loaded) (all : ℕ) → ((at : ℕ) (g : Progress) → g.clauses ≡ 0 → all ≤ 32 → f at g ≡ h at g) →
+relations-both : (names : List Name) (f h : ℕ → Progress → Answer (ℕ × ℕ)) (all : ℕ) → ((at : ℕ) (g : Progress) → g.clauses ≡ 0 → all ≤ 32 → f at g ≡ h at g) →
     (rels : List (List ℕ)) (at : ℕ) (g : Progress) → g.clauses ≡ 0 → g.relations ≤ 32 → g.relations + length rels ≡ all → relations_judged names f rels at g ≡ relations_judged names h rels at g
 unfolding relations_judged
 relations-both names f h all k [] at g z l e = k at g z (omega arith)
@@ -88,7 +87,7 @@ unfolding constant_names
 names-all p = refl
 
 -- the tests of its goal, and that it is the last
-abbrev ask_of : Source → ℕ → Progress → Loaded
+abbrev ask_of : Source → ℕ → Progress → Answer (ℕ × ℕ)
 ask_of p at g = after taken at (ask_judged (modes_of p.modes) g (length (variable_names (goal_terms p.goal))) (goal_numbered (numbers p.modes p.goal (constant_names p)) p.goal))
 
 -- the clauses and the goal of a source

@@ -1,4 +1,5 @@
 -- The ways through the tests of a record.
+use Rattle.std.specs.Prelude.{Err, Ok}
 use mathlib.Core.Path.{◌∙◌, ◌≡◌, refl}
 use mathlib.Core.Bool.{◌&&◌, Bool, cond, false, not, true}
 use mathlib.Core.List.{List}
@@ -11,7 +12,6 @@ use Rattle.judge_text.specs.Tests.{Counted, kept, tested}
 use Rattle.parlog.specs.Load.{block_with, refuse_if}
 use Rattle.parlog.specs.Names.{follows}
 use Rattle.parlog.specs.declared.Progress.{Progress}
-use Rattle.parlog.specs.declared.Verdict.TheVariants.{Goes, Refuses}
 use Rattle.text_names.specs.Bytes.{front}
 use Rattle.text_program.specs.Numbered.{mark_by}
 use Rattle.text_program.specs.Source.{read_clause}
@@ -19,23 +19,23 @@ use Rattle.text_program.specs.Source.{read_clause}
 -- ---- the first that fails
 
 module _ (many right known full : Bool) (next : Progress) where
-  pub tested-many : many ≡ true → Refuses 6 ≡ tested many right known full next
+  pub tested-many : many ≡ true → Err 6 ≡ tested many right known full next
   unfolding tested
   tested-many e = rw e
 
-  pub tested-right : many ≡ false → not right ≡ true → Refuses 4 ≡ tested many right known full next
+  pub tested-right : many ≡ false → not right ≡ true → Err 4 ≡ tested many right known full next
   unfolding tested
   tested-right e f = rw (e, f)
 
-  pub tested-known : many ≡ false → not right ≡ false → not known ≡ true → Refuses 5 ≡ tested many right known full next
+  pub tested-known : many ≡ false → not right ≡ false → not known ≡ true → Err 5 ≡ tested many right known full next
   unfolding tested
   tested-known e f g = rw (e, f, g)
 
-  pub tested-full : many ≡ false → not right ≡ false → not known ≡ false → full ≡ true → Refuses 6 ≡ tested many right known full next
+  pub tested-full : many ≡ false → not right ≡ false → not known ≡ false → full ≡ true → Err 6 ≡ tested many right known full next
   unfolding tested
   tested-full e f g h = rw (e, f, g, h)
 
-  pub tested-goes : many ≡ false → not right ≡ false → not known ≡ false → full ≡ false → Goes next ≡ tested many right known full next
+  pub tested-goes : many ≡ false → not right ≡ false → not known ≡ false → full ≡ false → Ok next ≡ tested many right known full next
   unfolding tested
   tested-goes e f g h = rw (e, f, g, h)
 
@@ -43,7 +43,7 @@ module _ (many right known full : Bool) (next : Progress) where
   unfolding tested
   tested-kept k = go many right known full refl refl
     where
-      go : (a b c d : Bool) → many ≡ a → full ≡ d → kept (refuse_if a 6 (refuse_if (not b) 4 (refuse_if (not c) 5 (refuse_if d 6 (Goes next)))))
+      go : (a b c d : Bool) → many ≡ a → full ≡ d → kept (refuse_if a 6 (refuse_if (not b) 4 (refuse_if (not c) 5 (refuse_if d 6 (Ok next)))))
       go true b c d e f = (omega arith, omega arith)
       go false false c d e f = (omega arith, omega arith)
       go false true false d e f = (omega arith, omega arith)

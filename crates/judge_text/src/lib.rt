@@ -6,25 +6,31 @@ ghost use Rattle.judge_text.specs.Tests.{tested};
 ghost use Rattle.parlog.specs.Load.{block_with};
 ghost use Rattle.text_program.specs.Numbered.{mark_by};
 
-use parlog::{Progress, Verdict, codes};
+use parlog::{Progress, codes};
 
 // The first test that fails, or what is known behind the record.
-pub fn verdict(many: bool, right: bool, known: bool, full: bool, next: Progress) -> Verdict
+pub fn verdict(
+    many: bool,
+    right: bool,
+    known: bool,
+    full: bool,
+    next: Progress,
+) -> Result<Progress, u8>
     ensures { result ≡ tested many right known full next }
 {
     if many {
-        return Verdict::Refuses(codes::MANY);
+        return Err(codes::MANY);
     }
     if !right {
-        return Verdict::Refuses(codes::BODY);
+        return Err(codes::BODY);
     }
     if !known {
-        return Verdict::Refuses(codes::NAME);
+        return Err(codes::NAME);
     }
     if full {
-        return Verdict::Refuses(codes::MANY);
+        return Err(codes::MANY);
     }
-    Verdict::Goes(next)
+    Ok(next)
 }
 
 // How many clauses the block has with this one.

@@ -9,14 +9,11 @@ ghost use Rattle.text_names.specs.Entries.{entries};
 
 use lay_text::To;
 
-// What ends an entry.
-const LINE_END: u8 = 10;
-
 // A place in a text, or its end.
 fn inside(s: &[u8], q: usize) -> usize
     ensures { (drop result s.now ≡ drop q s.now) × (result ≤ length s.now) }
 {
-    if q <= s.len() { q } else { s.len() }
+    q.min(s.len())
 }
 
 // The name at a place.
@@ -25,13 +22,7 @@ fn name(out: &mut [u8], w: To, s: &[u8], from: usize) -> To
     ensures { Writes out.old w (front (drop from s.now)) true out.new result }
 {
     let end = text_names::name_end(s, from);
-    let mut to = w;
-    let mut i = from;
-    while i < end {
-        to = lay_text::put(out, to, s[i]);
-        i += 1;
-    }
-    to
+    lay_text::word(out, w, &s[from..end])
 }
 
 // The name at a place and a byte 10.
@@ -40,7 +31,7 @@ fn entry(out: &mut [u8], w: To, s: &[u8], from: usize) -> To
     ensures { Writes out.old w (front (drop from s.now) ++ (10 ∷ [])) true out.new result }
 {
     let a = name(out, w, s, from);
-    lay_text::put(out, a, LINE_END)
+    lay_text::put(out, a, entry_table::LINE_END)
 }
 
 // The names of the mode lines from a place on.
@@ -50,8 +41,7 @@ pub fn mode_names(out: &mut [u8], w: To, s: &[u8], at: usize) -> To
 {
     let mut to = w;
     let mut p = at;
-    let mut left = s.len() - at;
-    while 0 < left {
+    for _ in at..s.len() {
         if !read_names::is_mode_line(s, p) {
             return to;
         }
@@ -59,7 +49,6 @@ pub fn mode_names(out: &mut [u8], w: To, s: &[u8], at: usize) -> To
         let line = read_names::mode_line(s, p);
         to = entry(out, to, s, from);
         p = line.end;
-        left -= 1;
     }
     to
 }
@@ -69,10 +58,8 @@ pub fn table_names(out: &mut [u8], w: To, s: &[u8], table: &[usize]) -> To
     ensures { Writes out.old w (entries (names_at s.now table.now)) true out.new result }
 {
     let mut to = w;
-    let mut i = 0;
-    while i < table.len() {
-        to = entry(out, to, s, inside(s, table[i]));
-        i += 1;
+    for q in table {
+        to = entry(out, to, s, inside(s, *q));
     }
     to
 }

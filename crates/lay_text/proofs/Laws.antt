@@ -1,15 +1,15 @@
 -- Writers one behind the other.
 use mathlib.Core.Path.{◌∙◌, ◌≡◌, ap, refl, sym}
 use mathlib.Core.Bool.{◌&&◌, and_assoc, and-true as true-right, Bool, cond, false, true}
-use mathlib.Core.List.{[], ◌++◌, ◌∷◌, List}
-use Prim.Native.Nat.{◌+◌, ◌-◌, ◌<◌, ◌≤◌, suc, ℕ}
+use mathlib.Core.List.{[], ◌++◌, ◌∷◌, append_assoc, List}
+use Prim.Native.Nat.{◌+◌, ◌-◌, ◌<◌, ◌≤◌, min, ℕ}
 use lib.Dec.{ltb}
-use lib.ListN.{drop, drop_of_length-le, get_or, length, length-append, length-drop, set, take}
-use lib.Seq.{drop-cons, get_or-drop, length-take-le, take-add, take-append_seam, take-suc}
+use lib.ListN.{drop, length, length-append, length-drop, take}
+use Rattle.std.proofs.lemmas.List.{take-append-drop}
+use lib.Seq.{drop-drop, length-take-le, take-append_seam, take-length}
 use borrow.Author.Tests.{le-ltb, ltb-false, ltb-true}
 use native.Mathlib.Omega.{arith}
-use native.Mathlib.Numerals.{add-one}
-use Rattle.lay.proofs.Laws.{laid-length, laid_none, laid_one, laid-past, laid_then}
+use Rattle.lay.proofs.Laws.{laid-fits, laid-length, laid_none, laid-past, laid_then}
 use Rattle.lay.specs.Lay.{laid}
 use Rattle.lay_text.specs.Laying.{capped, Left, most, Writes}
 use Rattle.lay_text.specs.declared.To.{To}
@@ -30,7 +30,15 @@ pub capped-out : (n : ℕ) → most ≤ n → capped n ≡ most
 unfolding capped
 capped-out n h = rw (le-ltb n most h)
 
-capped_le : (n : ℕ) → capped n ≤ most
+-- a sum that stays at the last place
+pub capped-min : (n : ℕ) → min n most ≡ capped n
+capped-min n = go (ltb n most) refl
+  where
+    go : (b : Bool) → ltb n most ≡ b → min n most ≡ capped n
+    go true e = let h = ltb-true n most e in rw (capped-in n (omega arith)) (omega arith)
+    go false e = let h = ltb-false n most e in rw (capped-out n h) (omega arith)
+
+pub capped_le : (n : ℕ) → capped n ≤ most
 capped_le n = go (ltb n most) refl
   where
     go : (b : Bool) → ltb n most ≡ b → capped n ≤ most
@@ -126,27 +134,13 @@ writes-both {o} {p} {q} {w} {x} {y} {bs} {cs} {a} {b} f g =
       size = g.size ∙ f.size;
     }
 
--- ---- one byte of a word or a name
+-- ---- one byte, and a word
+
+pub laid_word : (o p : List ℕ) (w x : To) (bs : List ℕ) → p ≡ laid o w.at bs → x.at ≡ capped (w.at + length bs) → x.named ≡ w.named → length o ≤ most → Writes o w bs true p x
+laid_word o p w x bs e f g h = record { row = e; place = f; named = g ∙ sym (true-right w.named); small = h; size = rw e (laid-length bs o w.at) }
 
 pub put_one : (o p : List ℕ) (w x : To) (b : ℕ) → p ≡ laid o w.at (b ∷ []) → x.at ≡ capped (w.at + 1) → x.named ≡ w.named → length o ≤ most → Writes o w (b ∷ []) true p x
-put_one o p w x b e f g h = record { row = e; place = f; named = g ∙ sym (true-right w.named); small = h; size = rw e (laid-length (b ∷ []) o w.at) }
-
-pub word-step : {o : List ℕ} {w : To} {bs : List ℕ} {p : List ℕ} {x : To} {q : List ℕ} {y : To} (s : List ℕ) (i b : ℕ) → i < length s → b ≡ get_or s i 0 →
-    Left o w bs true p x (drop i s) true → Writes p x (b ∷ []) true q y → Left o w bs true q y (drop (i + 1) s) true
-word-step s i b h e l v = left_step (b ∷ []) (drop (i + 1) s) true true (left_as (drop-cons s i 0 h ∙ rw (add-one, ← e)) refl l) v
-
-pub word_end : {o : List ℕ} {w : To} {bs : List ℕ} {p : List ℕ} {x : To} (s : List ℕ) (i : ℕ) → length s ≤ i → Left o w bs true p x (drop i s) true → Writes o w bs true p x
-word_end s i h l = left_end (left_as (drop_of_length-le s h) refl l)
-
-part-cons : (s : List ℕ) (i end : ℕ) → i < end → end ≤ length s → take (end - i) (drop i s) ≡ get_or s i 0 ∷ take (end - (i + 1)) (drop (i + 1) s)
-part-cons s i end h l = let e : end - i ≡ suc (end - (i + 1)) = omega arith in rw (e, drop-cons s i 0 (omega arith), add-one)
-
-pub name-step : {o : List ℕ} {w : To} {bs : List ℕ} {p : List ℕ} {x : To} {q : List ℕ} {y : To} (s : List ℕ) (i end b : ℕ) → i < end → end ≤ length s → b ≡ get_or s i 0 →
-    Left o w bs true p x (take (end - i) (drop i s)) true → Writes p x (b ∷ []) true q y → Left o w bs true q y (take (end - (i + 1)) (drop (i + 1) s)) true
-name-step s i end b h g e l v = left_step (b ∷ []) (take (end - (i + 1)) (drop (i + 1) s)) true true (left_as (part-cons s i end h g ∙ rw (← e)) refl l) v
-
-pub name-stop : {o : List ℕ} {w : To} {bs : List ℕ} {p : List ℕ} {x : To} (s : List ℕ) (i end : ℕ) → end ≤ i → Left o w bs true p x (take (end - i) (drop i s)) true → Writes o w bs true p x
-name-stop s i end h l = let e : end - i ≡ 0 = omega arith in left_end (rw e at l)
+put_one o p w x b e f g h = laid_word o p w x (b ∷ []) e f g h
 
 -- a name by the place behind it
 name-length : (s : List ℕ) (from end : ℕ) → from ≤ length s → end ≤ length s → drop end s ≡ back (drop from s) → length (front (drop from s)) ≡ end - from
@@ -162,36 +156,25 @@ name-part s from end h g e =
 
 -- ---- a part of a row
 
-module _ (o s : List ℕ) (at from : ℕ) where
-  pub copy_start : o ≡ laid o at (take 0 (drop from s))
-  copy_start = sym (laid_none o at)
-
-  pub copy-turn : (p : List ℕ) (k b : ℕ) → from + k < length s → b ≡ get_or s (from + k) 0 → p ≡ laid o at (take k (drop from s)) → set p (at + k) b ≡ laid o at (take (k + 1) (drop from s))
-  copy-turn p k b h e f =
-      let d = drop from s in
-      let l : k < length d = omega (arith, length-drop from s) in
-      let m : length (take k d) ≡ k = length-take-le k d (omega arith) in
-      sym (laid_one p (at + k) b) ∙ rw f (rw m at (laid_then (take k d) (b ∷ []) o at))
-      ∙ ap (laid o at) (sym (rw add-one (take-suc d k 0 l) ∙ ap (λ (v : ℕ). take k d ++ (v ∷ [])) (get_or-drop from s k 0 ∙ sym e)))
-
-  pub copy-end : (p : List ℕ) (k n : ℕ) → k ≡ n → p ≡ laid o at (take k (drop from s)) → p ≡ laid o at (take n (drop from s))
-  copy-end p k n e f = rw (← e) f
-
+module _ (o b : List ℕ) (at n : ℕ) where
   -- what there is no room for leaves the row
-  pub part-row : (m n : ℕ) → m ≤ n → from + n ≤ length s → (m < n → length o ≤ at + m) → laid o at (take m (drop from s)) ≡ laid o at (take n (drop from s))
-  part-row m n h g f = go (ltb m n) refl
+  part-laid : n ≤ length b → (n < length b → length o ≤ at + n) → laid o at (take n b) ≡ laid o at b
+  part-laid h f = go (ltb n (length b)) refl
     where
-      go : (b : Bool) → ltb m n ≡ b → laid o at (take m (drop from s)) ≡ laid o at (take n (drop from s))
-      go false e = let z : m ≡ n = omega (arith, ltb-false m n e) in rw z
+      go : (t : Bool) → ltb n (length b) ≡ t → laid o at (take n b) ≡ laid o at b
+      go false e = let z : n ≡ length b = omega (arith, ltb-false n (length b) e) in rw (z, take-length b)
       go true e =
-          let d = drop from s in
-          let z : n ≡ m + (n - m) = omega arith in
-          let l : length (take m d) ≡ m = length-take-le m d (omega (arith, length-drop from s)) in
-          let q = f (ltb-true m n e) in
-          let c = laid-length (take m d) o at in
-          sym (laid-past (take (n - m) (drop m d)) (laid o at (take m d)) (at + m) (omega arith))
-          ∙ rw l at (laid_then (take m d) (take (n - m) (drop m d)) o at)
-          ∙ ap (laid o at) (sym (take-add m (n - m) d) ∙ ap (λ (v : ℕ). take v d) (sym z))
+          let l : length (take n b) ≡ n = length-take-le n b h in
+          let q = f (ltb-true n (length b) e) in
+          let c = laid-length (take n b) o at in
+          sym (laid-past (drop n b) (laid o at (take n b)) (at + n) (omega arith))
+          ∙ rw l at (laid_then (take n b) (drop n b) o at)
+          ∙ ap (laid o at) (take-append-drop n b)
+
+  pub copied : (q : List ℕ) → at < length o → n ≡ min (length b) (length o - at) → q ≡ take n b → take at o ++ (q ++ drop n (drop at o)) ≡ laid o at b
+  copied q h m e =
+      let l : length (take n b) ≡ n = length-take-le n b (omega arith) in
+      rw (e, drop-drop n at o) (sym (append_assoc (take at o) (take n b) (drop (at + n) o)) ∙ ap (λ (k : ℕ). take at o ++ take n b ++ drop (at + k) o) (sym l) ∙ sym (laid-fits (take n b) o at (omega arith)) ∙ part-laid (omega arith) (λ x. omega arith))
 
 -- the name from one place to another, and whether it is one
 pub entry-told : (o p s : List ℕ) (w y : To) (from end : ℕ) (cs : List ℕ) (ok : Bool) → from ≤ length s → end ≤ length s → drop end s ≡ back (drop from s) → front (drop from s) ≡ cs → length o ≤ most →

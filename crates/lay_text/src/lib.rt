@@ -1,16 +1,13 @@
 // Text laid into a lent row as far as there is room: bytes, words, and names of a names row.
 #![tactic(auto)]
 
-ghost use Rattle.std.specs.Prelude.{true, [], ◌∷◌, ◌≡◌, ◌+◌, ◌<◌, ◌≤◌, drop, length, take};
-ghost use Rattle.entry_table.specs.Entered.{Entered};
+ghost use Rattle.std.specs.Prelude.{true, [], ◌∷◌, ◌≡◌, ◌+◌, ◌<◌};
 ghost use Rattle.lay.specs.Lay.{laid};
-ghost use Rattle.lay_text.specs.Laying.{capped, Writes};
+ghost use Rattle.lay_text.specs.Laying.{Writes};
+ghost use Rattle.lay_text.specs.Wrote.{Wrote};
 ghost use Rattle.text_names.specs.Entries.{entry_name, is_entry};
 
-use entry_table::Noted;
-
-// The last place that a number can tell; a text that is longer ends there.
-const MOST: usize = 18446744073709551615;
+use entry_table::Names;
 
 // How far a text has come: the place, and whether the names row had all its names.
 #[derive(Clone, Copy)]
@@ -28,22 +25,28 @@ fn store(out: &mut [u8], at: usize, byte: u8)
     }
 }
 
-// One place further.
-fn onward(at: usize) -> usize
-    ensures { result ≡ capped (at + 1) }
+// A part of a row, as far as there is room.
+fn copy(out: &mut [u8], at: usize, part: &[u8])
+    ensures { out.new ≡ laid out.old at part.now }
 {
-    if at < MOST { at + 1 } else { MOST }
+    if at < out.len() {
+        let n = part.len().min(out.len() - at);
+        out[at..at + n].copy_from_slice(&part[..n]);
+    }
 }
+
+// ---- a row and a place
+
+// Still used by lay_names, lay_literal and parse, which hold a row and its place apart.
 
 // One byte of text.
 pub fn put(out: &mut [u8], w: To, byte: u8) -> To
     ensures { Writes out.old w (byte ∷ []) true out.new result }
 {
-    let at = w.at;
-    store(out, at, byte);
+    store(out, w.at, byte);
     To {
-        at: onward(at),
-        named: w.named,
+        at: w.at.saturating_add(1),
+        ..w
     }
 }
 
@@ -51,67 +54,59 @@ pub fn put(out: &mut [u8], w: To, byte: u8) -> To
 pub fn word(out: &mut [u8], w: To, bytes: &[u8]) -> To
     ensures { Writes out.old w bytes.now true out.new result }
 {
-    let mut to = w;
-    let mut i = 0;
-    while i < bytes.len() {
-        to = put(out, to, bytes[i]);
-        i += 1;
-    }
-    to
-}
-
-// ---- names
-
-// The smaller of two numbers.
-fn least(a: usize, b: usize) -> usize
-    ensures { (result ≤ a) × (result ≤ b) × (result < b → a ≤ result) }
-{
-    if a < b { a } else { b }
-}
-
-// n bytes of one row into another, where there is room.
-fn copy(out: &mut [u8], at: usize, s: &[u8], from: usize, n: usize)
-    requires { (at + n ≤ length out.old) × (from + n ≤ length s.now) }
-    ensures { out.new ≡ laid out.old at (take n (drop from s.now)) }
-{
-    let mut k = 0;
-    while k < n {
-        out[at + k] = s[from + k];
-        k += 1;
-    }
-}
-
-// The same as far as there is room.
-fn copy_in(out: &mut [u8], at: usize, s: &[u8], from: usize, n: usize)
-    requires { from + n ≤ length s.now }
-    ensures { out.new ≡ laid out.old at (take n (drop from s.now)) }
-{
-    if at < out.len() {
-        let m = least(out.len() - at, n);
-        copy(out, at, s, from, m);
-    }
-}
-
-// n places further.
-fn ahead(at: usize, n: usize) -> usize
-    ensures { result ≡ capped (at + n) }
-{
-    if n <= MOST - at { at + n } else { MOST }
-}
-
-// The name in entry k, and whether it is one.
-pub fn name(out: &mut [u8], w: To, names: &[u8], table: &[usize], e: Noted, k: usize) -> To
-    requires { Entered names.now table.now e.every e.count }
-    ensures { Writes out.old w (entry_name names.now k) (is_entry names.now k) out.new result }
-{
-    let from = entry_table::find(names, table, e, k);
-    let end = text_names::name_end(names, from);
-    let at = w.at;
-    let n = end - from;
-    copy_in(out, at, names, from, n);
-    let there = entry_table::is_name(names, from, end);
+    copy(out, w.at, bytes);
     To {
-        at: ahead(at, n),
-        named: basics::and(w.named, there),
+        at: w.at.saturating_add(bytes.len()),
+        ..w
+    }
+}
+
+// ---- a writer
+
+// A lent row, and how far the text in it has come.
+#[derive(Drop)]
+pub struct Writer<'a> {
+    pub out: &'a mut [u8],
+    pub to: To,
+}
+
+impl<'a> Writer<'a> {
+    // A text that begins in a row.
+    pub fn new(out: &'a mut [u8]) -> Self
+        ensures row { (result.out.ghost_name ≡ out.entry.ghost_name) × (result.out.now ≡ out.old) }
+        ensures start { (result.to.at ≡ 0) × (result.to.named ≡ true) }
+    {
+        Writer {
+            out,
+            to: To { at: 0, named: true },
+        }
+    }
+
+    // One byte of text.
+    pub fn put(&mut self, byte: u8)
+        ensures { Wrote self.old (byte ∷ []) true self.new }
+    {
+        store(self.out, self.to.at, byte);
+        self.to.at = self.to.at.saturating_add(1);
+    }
+
+    // A word.
+    pub fn word(&mut self, bytes: &[u8])
+        ensures { Wrote self.old bytes.now true self.new }
+    {
+        copy(self.out, self.to.at, bytes);
+        self.to.at = self.to.at.saturating_add(bytes.len());
+    }
+
+    // The name in entry k, and whether it is one.
+    pub fn name(&mut self, names: &Names, k: usize)
+        ensures { Wrote self.old (entry_name names.now.row.now k) (is_entry names.now.row.now k) self.new }
+    {
+        let from = names.find(k);
+        let end = text_names::name_end(names.row, from);
+        copy(self.out, self.to.at, &names.row[from..end]);
+        let there = entry_table::is_name(names.row, from, end);
+        self.to.at = self.to.at.saturating_add(end - from);
+        self.to.named = basics::and(self.to.named, there);
     }
 }

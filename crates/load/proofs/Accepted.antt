@@ -1,4 +1,6 @@
 -- What an accepted image says of itself: r relations, then c clauses, then the goal, each with its fields and its names right.
+use Rattle.std.specs.Prelude.{Result, Ok, Err}
+use Rattle.parlog.specs.Answer.{Answer}
 use mathlib.Core.Path.{◌∙◌, ◌≡◌, ap, refl, subst, sym}
 use mathlib.Core.Bool.{◌&&◌, ◌||◌, Bool, cond, false, not, true}
 use mathlib.Core.List.{List}
@@ -13,6 +15,7 @@ use native.Mathlib.Numerals.{add-one}
 use Rattle.load_names.specs.Reading.{Arities}
 use Rattle.load.proofs.Room.{block_room, few-clauses, few-relations}
 use Rattle.load.proofs.Turn.{passed}
+use Rattle.parlog.proofs.Answered.{ok-both}
 use Rattle.parlog.proofs.Along.{along-snoc}
 use Rattle.parlog.proofs.Bools.{and-true, or-false}
 use Rattle.parlog.proofs.Walk.{walk-holds, whole}
@@ -21,11 +24,7 @@ use Rattle.parlog.specs.Load.{after, block_full, block_with, broken, judged, kin
 use Rattle.parlog.specs.Names.{arity_of, clause_inside, clause_placed, follows, goal_named, names_right, relation_named}
 use Rattle.parlog.specs.Records.{byte_at, cut, kind_at, record_at, record_end}
 use Rattle.parlog.specs.Scan.{along}
-use Rattle.parlog.specs.declared.Loaded.{Loaded}
-use Rattle.parlog.specs.declared.Loaded.TheVariants.{Accepted, Refused}
 use Rattle.parlog.specs.declared.Progress.{Progress}
-use Rattle.parlog.specs.declared.Verdict.{Verdict}
-use Rattle.parlog.specs.declared.Verdict.TheVariants.{Goes, Refuses}
 
 pub record RelationRight (s : List ℕ) (at : ℕ) : Type 0 where
   pub kind : kind_at s at ≡ 1
@@ -98,7 +97,7 @@ pub record Passed (s : List ℕ) (g : Progress) (at : ℕ) (t : Progress) : Type
   pub inside : record_end s at ≤ length s
   pub next : progressed s g at (kind_at s at) ≡ t
 
-pub all-passed : (s : List ℕ) (g t : Progress) (at : ℕ) → cut s at ≡ false → verdict s g at ≡ Goes t → Passed s g at t
+pub all-passed : (s : List ℕ) (g t : Progress) (at : ℕ) → cut s at ≡ false → verdict s g at ≡ Ok t → Passed s g at t
 unfolding verdict
 all-passed s g t at w e =
     let p2 = passed (kind_fault g (kind_at s at)) 3 _ t e in
@@ -278,12 +277,12 @@ module _ (s : List ℕ) (g t : Progress) (at : ℕ) (R : Reached s g at) (P : Pa
         go false e = kept-other (eqb (kind_at s at) 2) e refl
 
 -- the answer's counts are those of the progress
-finished : (s : List ℕ) (g : Progress) (r c : ℕ) (b : Bool) → cond b (Accepted g.relations g.clauses) (Refused (refusal 7 (length s))) ≡ Accepted r c → (b ≡ true) × (g.relations ≡ r) × (g.clauses ≡ c)
-finished s g r c true e = (refl, cc, cc)
+finished : (s : List ℕ) (g : Progress) (r c : ℕ) (b : Bool) → cond {A = Answer (ℕ × ℕ)} b (Ok (g.relations, g.clauses)) (Err (refusal 7 (length s))) ≡ Ok (r, c) → (b ≡ true) × (g.relations ≡ r) × (g.clauses ≡ c)
+finished s g r c true e = let p = ok-both e in (refl, p.0, p.1)
 finished s g r c false e = absurd (let z : ◌≡◌ {A = ℕ} 0 1 = cc in omega arith)
 
 module _ (s : List ℕ) (r c : ℕ) (short : length s ≤ 32768) where
-  from_end : (g : Progress) (at : ℕ) → Reached s g at → length s ≤ at → load_end s g ≡ Accepted r c → Right s r c
+  from_end : (g : Progress) (at : ℕ) → Reached s g at → length s ≤ at → load_end s g ≡ Ok (r, c) → Right s r c
   from_end g at R h e =
       let f = finished s g r c (eqb g.kind 3) e in
       let k3 = eqb-true g.kind 3 f.0 in
@@ -303,16 +302,16 @@ module _ (s : List ℕ) (r c : ℕ) (short : length s ≤ 32768) where
         ends = sym (R.done k3) ∙ the_end;
       }))
 
-  pub from-records : (n at : ℕ) (g : Progress) → length s ≤ at + n → Reached s g at → records s n at g ≡ Accepted r c → Right s r c
-  from-records = walk-holds s broken (judged s) (load_end s) (λ at g. Reached s g at) (λ a. a ≡ Accepted r c → Right s r c)
+  pub from-records : (n at : ℕ) (g : Progress) → length s ≤ at + n → Reached s g at → records s n at g ≡ Ok (r, c) → Right s r c
+  from-records = walk-holds s broken (judged s) (load_end s) (λ at g. Reached s g at) (λ a. a ≡ Ok (r, c) → Right s r c)
       (λ at g R l e q. absurd (let z : ◌≡◌ {A = ℕ} 0 1 = cc in omega arith))
       (λ at g R l e rest go. turn g at R e rest go (verdict s g at) refl)
       (λ at g R h q. from_end g at R h q)
     where
-      turn : (g : Progress) (at : ℕ) → Reached s g at → cut s at ≡ false → (rest : Progress → Loaded) → ((t : Progress) → Reached s t (record_end s at) → rest t ≡ Accepted r c → Right s r c)
-          → (v : Verdict) → verdict s g at ≡ v → after rest at v ≡ Accepted r c → Right s r c
-      turn g at R e rest go (Goes t) ve q = go t (reached s g t at R (all-passed s g t at e ve)) q
-      turn g at R e rest go (Refuses j) ve q = absurd (let z : ◌≡◌ {A = ℕ} 0 1 = cc in omega arith)
+      turn : (g : Progress) (at : ℕ) → Reached s g at → cut s at ≡ false → (rest : Progress → Answer (ℕ × ℕ)) → ((t : Progress) → Reached s t (record_end s at) → rest t ≡ Ok (r, c) → Right s r c)
+          → (v : Result Progress ℕ) → verdict s g at ≡ v → after rest at v ≡ Ok (r, c) → Right s r c
+      turn g at R e rest go (Ok t) ve q = go t (reached s g t at R (all-passed s g t at e ve)) q
+      turn g at R e rest go (Err j) ve q = absurd (let z : ◌≡◌ {A = ℕ} 0 1 = cc in omega arith)
 
 -- before the first record
 pub nothing-reached : (s : List ℕ) → Reached s nothing_read 0
@@ -334,10 +333,10 @@ nothing-reached s = record {
 }
 
 -- THE LAW: an accepted image is right
-pub accepted : (s : List ℕ) (r c : ℕ) → load_of s ≡ Accepted r c → Right s r c
+pub accepted : (s : List ℕ) (r c : ℕ) → load_of s ≡ Ok (r, c) → Right s r c
 unfolding load_of long
 accepted s r c e = go (ltb 32768 (length s)) refl e
   where
-    go : (b : Bool) → ltb 32768 (length s) ≡ b → cond b (Refused (refusal 1 0)) (records s (length s) 0 nothing_read) ≡ Accepted r c → Right s r c
+    go : (b : Bool) → ltb 32768 (length s) ≡ b → cond b (Err (refusal 1 0)) (records s (length s) 0 nothing_read) ≡ Ok (r, c) → Right s r c
     go true _ e' = absurd (let z : ◌≡◌ {A = ℕ} 0 1 = cc in omega arith)
     go false le e' = from-records s r c (ltb-false 32768 (length s) le) (length s) 0 nothing_read (omega arith) (nothing-reached s) e'

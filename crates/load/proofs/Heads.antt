@@ -1,4 +1,5 @@
 -- In an accepted image every clause's head has a term for each argument of its relation.
+use Rattle.std.specs.Prelude.{Ok}
 use mathlib.Core.Path.{◌≡◌}
 use mathlib.Core.Bool.{true}
 use mathlib.Core.List.{[], List}
@@ -15,7 +16,6 @@ use Rattle.parlog.specs.Load.{load_of, nothing_read, records}
 use Rattle.parlog.specs.Names.{arity_of, relation_named}
 use Rattle.parlog.specs.Program.{clause_at, clause_of, modes_at, modes_of, program_of}
 use Rattle.parlog.specs.Records.{byte_at, record_at, record_end}
-use Rattle.parlog.specs.declared.Loaded.TheVariants.{Accepted}
 use Rattle.place.proofs.Clauses.{clause-here, clause-past}
 use Rattle.program_index.specs.Indexed.{Headed}
 
@@ -42,9 +42,9 @@ module _ (s : List ℕ) (r c : ℕ) (ok : Right s r c) where
       (λ h. rw (clause-past s r c k (ltb-false k c h), modes-past equality (let f = ok.relations in omega arith)) (omega arith))
 
 -- THE LAW: an accepted image's heads are no shorter than their relations' modes
-pub accepted-heads : (s : List ℕ) (r c : ℕ) → load_of s ≡ Accepted r c → (k : ℕ) → length (modes_at (program_of s r c) (clause_at (program_of s r c) k).rel) ≤ length (clause_at (program_of s r c) k).head
+pub accepted-heads : (s : List ℕ) (r c : ℕ) → load_of s ≡ Ok (r, c) → (k : ℕ) → length (modes_at (program_of s r c) (clause_at (program_of s r c) k).rel) ≤ length (clause_at (program_of s r c) k).head
 accepted-heads s r c e = right-heads s r c (accepted s r c e)
 
 -- the same of records that pass their tests
-pub passed-heads : (s : List ℕ) (r c : ℕ) → length s ≤ 32768 → records s (length s) 0 nothing_read ≡ Accepted r c → Headed (program_of s r c)
+pub passed-heads : (s : List ℕ) (r c : ℕ) → length s ≤ 32768 → records s (length s) 0 nothing_read ≡ Ok (r, c) → Headed (program_of s r c)
 passed-heads s r c few e = right-heads s r c (from-records s r c few (length s) 0 nothing_read (omega arith) (nothing-reached s) e)

@@ -1,4 +1,5 @@
 -- An accepted image holds a sane program: its terms are constants of an image or variables of their own clause or goal.
+use Rattle.std.specs.Prelude.{Ok}
 use mathlib.Core.Path.{◌∙◌, ◌≡◌, refl}
 use mathlib.Core.Bool.{Bool, cond, false, true}
 use mathlib.Core.List.{[], List}
@@ -19,7 +20,6 @@ use Rattle.parlog.specs.Program.{clause_at, clause_of, goal_of, literal_of, mode
 use Rattle.parlog.specs.Records.{byte_at, record_at, record_end, word_at}
 use Rattle.parlog.specs.Sane.{all_of, args_in, ClauseSane, goal_terms, Sane, stage_terms, term_in, terms_in}
 use Rattle.parlog.specs.Scan.{list_of}
-use Rattle.parlog.specs.declared.Loaded.TheVariants.{Accepted}
 use Rattle.parlog.specs.declared.Term.TheVariants.{Const, Var}
 
 -- ---- terms
@@ -96,5 +96,5 @@ module _ (s : List ℕ) (r c : ℕ) (ok : Right s r c) where
   right-sane = record { goal = goal-sane; clause = clause-sane; modes = modes-few }
 
 -- THE LAW: an accepted image holds a sane program
-pub accepted-sane : (s : List ℕ) (r c : ℕ) → load_of s ≡ Accepted r c → Sane (program_of s r c)
+pub accepted-sane : (s : List ℕ) (r c : ℕ) → load_of s ≡ Ok (r, c) → Sane (program_of s r c)
 accepted-sane s r c e = right-sane s r c (accepted s r c e)

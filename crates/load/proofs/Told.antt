@@ -1,56 +1,31 @@
--- The ways through the tests of a record: what is told of a clause's body beside the verdict.
-use mathlib.Core.Path.{◌∙◌, ◌≡◌, refl, sym}
-use mathlib.Core.Bool.{◌||◌, Bool, cond, false, true}
+-- What is told with the verdict of a record, and the first record of an image.
+use Rattle.parlog.specs.declared.Progress.{Progress}
+use Rattle.std.specs.Prelude.{Result, Ok, Err, IfSome}
+use Rattle.std.specs.Result.{result_err}
+use mathlib.Core.Path.{◌≡◌, ap, sym}
 use mathlib.Core.List.{List}
-use Prim.Native.Nat.{◌<◌, ◌≤◌, ℕ}
-use lib.Dec.{eqb, ltb}
+use Prim.Native.Nat.{◌≤◌, ℕ}
 use lib.ListN.{length}
-use borrow.Author.Tests.{eqb-false, le-ltb, ltb-false}
+use borrow.Author.Tests.{le-ltb}
 use native.Mathlib.Omega.{arith}
-use Rattle.load_body.specs.Reading.{place_of}
 use Rattle.load.proofs.Turn.{stops}
-use Rattle.load.specs.Bounds.{BodyTold, Next}
-use Rattle.load.specs.Fields.{record_verdict}
-use Rattle.parlog.proofs.Bools.{or-false}
-use Rattle.parlog.specs.Body.{body_right}
-use Rattle.parlog.specs.Image.{body_at, guard_at}
+use Rattle.load.specs.Bounds.{Next}
+use Rattle.load.specs.Fields.{record_verdict, told}
 use Rattle.parlog.specs.Load.{load_of, long, nothing_read, refusal}
-use Rattle.parlog.specs.declared.Loaded.TheVariants.{Refused}
-use Rattle.parlog.specs.declared.Verdict.{Verdict}
-use Rattle.parlog.specs.declared.Verdict.TheVariants.{Refuses}
-use Rattle.place.proofs.Grows.{goal-after}
 
-place-some : (s : List ℕ) (at kind : ℕ) → 0 < place_of s at kind
-place-some s at kind = go (eqb kind 2)
-  where
-    go : (b : Bool) → 0 < cond b (body_at s at) 1
-    go true = goal-after s (guard_at s at)
-    go false = omega arith
+pub told-err : (v : Result Progress ℕ) (p j : ℕ) → told v p ≡ Err j → v ≡ Err j
+told-err (Ok g) p j e = absurd (let z : ◌≡◌ {A = ℕ} 0 1 = cc in omega arith)
+told-err (Err n) p j e = cc
 
-module _ (s : List ℕ) (at kind : ℕ) {b : ℕ} (e : b ≡ cond (body_right s at kind) (place_of s at kind) 0) where
-  pub body-none : b ≡ 0 → body_right s at kind ≡ false
-  body-none z = go (body_right s at kind) refl
-    where
-      go : (x : Bool) → body_right s at kind ≡ x → body_right s at kind ≡ false
-      go true h = absurd (let f : b ≡ place_of s at kind = rw h at e in omega (arith, place-some s at kind))
-      go false h = h
-
-  pub body-some : (b ≡ 0 → ⊥) → (body_right s at kind ≡ true) × (b ≡ place_of s at kind)
-  body-some n = go (body_right s at kind) refl
-    where
-      go : (x : Bool) → body_right s at kind ≡ x → (body_right s at kind ≡ true) × (b ≡ place_of s at kind)
-      go true h = (h, rw h at e)
-      go false h = absurd (n (rw h at e))
-
--- a record that is refused before its fields are looked at
-pub broken-told : (n p : ℕ) {v w : Verdict} {b : ℕ} → v ≡ Refuses n → b ≡ 0 → w ≡ Refuses n → 1 ≤ n → n ≤ 7 → (v ≡ w) × Next v × BodyTold v b p × (b ≤ 65535)
-broken-told n p ev eb ew lo hi = (ev ∙ sym ew, rw ev (lo, hi), rw ev tt, omega arith)
+pub told-ok : (v : Result Progress ℕ) (p b : ℕ) (g : Progress) → told v p ≡ Ok (g, b) → (v ≡ Ok g) × (b ≡ p)
+told-ok (Ok t) p b g e =
+    let q : ◌≡◌ {A = Progress × ℕ} (t, p) (g, b) = cc in
+    (ap (λ x. Ok x.0) q, ap (λ x. x.1) (sym q))
+told-ok (Err n) p b g e = absurd (let z : ◌≡◌ {A = ℕ} 0 1 = cc in omega arith)
 
 -- the first record decides where it is refused
-pub first_stops : (s : List ℕ) {j : ℕ} {v : Verdict} → (length s ≡ 0 → ⊥) → length s ≤ 32768 → v ≡ record_verdict s nothing_read 0 → v ≡ Refuses j → load_of s ≡ Refused (refusal j 0)
-unfolding load_of long
-first_stops s {j} some short ev e = rw (le-ltb 32768 (length s) short) (stops s nothing_read 0 j (omega arith) (sym ev ∙ e))
-
--- there is one, and the image is not too long
-pub first-there : (n : ℕ) {x : Bool} → x ≡ (eqb n 0 || ltb 32768 n) → x ≡ false → (n ≡ 0 → ⊥) × (n ≤ 32768)
-first-there n e h = let o = or-false (eqb n 0) (ltb 32768 n) (sym e ∙ h) in (eqb-false n 0 o.0, ltb-false 32768 n o.1)
+module _ (s : List ℕ) (some : length s ≡ 0 → ⊥) (short : length s ≤ 32768) where
+  pub first_stops : (p : ℕ) (r : Result (Progress × ℕ) ℕ) → r ≡ told (record_verdict s nothing_read 0) p → Next r → IfSome (result_err r) (λ n. (load_of s ≡ Err (refusal n 0)) × (1 ≤ n) × (n ≤ 7))
+  unfolding load_of long
+  first_stops p (Ok x) e h = tt
+  first_stops p (Err j) e h = (rw (le-ltb 32768 (length s) short) (stops s nothing_read 0 j (omega arith) (told-err _ p j (sym e))), h.0, h.1)

@@ -1,38 +1,43 @@
 // The image loader: the tests of a record in their order, and the records in file order.
 #![tactic(auto)]
 
-ghost use Rattle.std.specs.Prelude.{◌≡◌, false, ◌+◌, ◌<◌, ◌≤◌, ℕ, get_or, length};
+ghost use Rattle.std.specs.Prelude.{◌≡◌, false, ◌+◌, ◌<◌, ◌≤◌, ℕ, get_or, length, Err, IfSome};
 ghost use Rattle.parlog.specs.Records.{kind_at, record_end};
 ghost use Rattle.parlog.specs.Load.{kind_fault, too_many, block_with, block_full, progressed, records, nothing_read, refusal, load_of};
-ghost use Rattle.parlog.specs.declared.Loaded.TheVariants.{Refused};
-ghost use Rattle.parlog.specs.declared.Verdict.TheVariants.{Refuses};
 ghost use Rattle.load_body.specs.Reading.{place_of};
 ghost use Rattle.load_names.specs.Reading.{Arities};
 ghost use Rattle.program_index.specs.Indexed.{blocks_from, index_size, IndexedOf};
-ghost use Rattle.load.specs.Bounds.{BodyTold, Bounded, Next, Small};
-ghost use Rattle.load.specs.Fields.{fields_verdict, record_verdict, refusal_of};
+ghost use Rattle.load.specs.Bounds.{Bounded, Next, Small};
+ghost use Rattle.load.specs.Fields.{fields_verdict, record_verdict, refusal_of, told};
 
-use parlog::{Loaded, Progress, Refusal, Verdict, codes};
+use parlog::{Answer, Progress, Refusal, codes};
+
+// What is known before the first record.
+const NOTHING_READ: Progress = Progress {
+    relations: 0,
+    clauses: 0,
+    kind: 0,
+    relation: 0,
+    block: 0,
+};
 
 // 3, KIND.
 fn kind_fault(g: Progress, kind: usize) -> bool
     ensures { result ≡ kind_fault g kind }
 {
-    let late = basics::or(kind < g.kind, g.kind == codes::GOAL_KIND);
-    let high = basics::or(codes::GOAL_KIND < kind, late);
-    basics::or(kind < codes::RELATION_KIND, high)
+    let late = (kind < g.kind) | (g.kind == codes::GOAL_KIND);
+    (kind < codes::RELATION_KIND) | ((codes::GOAL_KIND < kind) | late)
 }
 
 // 6, MANY: 33rd relation, 65th clause.
 fn too_many(g: Progress, kind: usize) -> bool
     ensures { result ≡ too_many g kind }
 {
-    let clauses = basics::and(kind == codes::CLAUSE_KIND, codes::MOST_CLAUSES <= g.clauses);
-    basics::choose(
-        kind == codes::RELATION_KIND,
-        codes::MOST_RELATIONS <= g.relations,
-        clauses,
-    )
+    if kind == codes::RELATION_KIND {
+        codes::MOST_RELATIONS <= g.relations
+    } else {
+        (kind == codes::CLAUSE_KIND) & (codes::MOST_CLAUSES <= g.clauses)
+    }
 }
 
 // How many clauses the block has with this one.
@@ -40,8 +45,11 @@ fn block_with(g: Progress, r: usize, mark: usize) -> usize
     requires { g.block ≤ 8 }
     ensures { result ≡ block_with g r mark }
 {
-    let joins = basics::and(load_names::follows(g, r), mark == 0);
-    if joins { g.block + 1 } else { 1 }
+    if load_names::follows(g, r) & (mark == 0) {
+        g.block + 1
+    } else {
+        1
+    }
 }
 
 // 6, MANY: 9th clause of a block.
@@ -52,7 +60,7 @@ fn block_full(s: &[u8], g: Progress, at: usize, kind: usize) -> bool
     let r = place::byte_at(s, at + codes::CLAUSE_RELATION);
     let m = place::byte_at(s, at + codes::CLAUSE_MARK);
     let n = block_with(g, r, m);
-    basics::and(kind == codes::CLAUSE_KIND, codes::MOST_BLOCK < n)
+    (kind == codes::CLAUSE_KIND) & (codes::MOST_BLOCK < n)
 }
 
 // What is known after the record.
@@ -67,116 +75,82 @@ fn progressed(s: &[u8], g: Progress, at: usize, kind: usize) -> Progress
     if kind == codes::RELATION_KIND {
         return Progress {
             relations: g.relations + 1,
-            clauses: g.clauses,
-            kind: kind,
-            relation: g.relation,
-            block: g.block,
+            kind,
+            ..g
         };
     }
     if kind == codes::CLAUSE_KIND {
-        let r = place::byte_at(s, at + codes::CLAUSE_RELATION);
-        let m = place::byte_at(s, at + codes::CLAUSE_MARK);
-        let b = block_with(g, r, m);
+        let relation = place::byte_at(s, at + codes::CLAUSE_RELATION);
+        let mark = place::byte_at(s, at + codes::CLAUSE_MARK);
         return Progress {
-            relations: g.relations,
             clauses: g.clauses + 1,
-            kind: kind,
-            relation: r,
-            block: b,
+            kind,
+            relation,
+            block: block_with(g, relation, mark),
+            ..g
         };
     }
-    Progress {
-        relations: g.relations,
-        clauses: g.clauses,
-        kind: kind,
-        relation: g.relation,
-        block: g.block,
-    }
+    Progress { kind, ..g }
 }
 
-// The verdict of a record, and of a clause that goes where its body begins.
-#[derive(Clone, Copy)]
-struct Tested {
-    verdict: Verdict,
-    body: usize,
-}
-
-// The tests of a record's fields, 4, 5, and the ninth-clause part of 6.
-fn test_fields(s: &[u8], t: &[u8; codes::ARITIES], g: Progress, at: usize, kind: usize) -> Tested
+// The tests of a record's fields, 4, 5, and the ninth-clause part of 6: what is known after it, and where the body of a clause begins.
+fn test_fields(
+    s: &[u8],
+    t: &[u8; codes::ARITIES],
+    g: Progress,
+    at: usize,
+    kind: usize,
+) -> Result<(Progress, usize), u8>
     requires arities { Arities s.now g.relations t.now }
     requires small { Small g }
     requires at_bound { (at ≤ 32768) × (record_end s.now at ≤ length s.now) }
     requires kind_value { too_many g kind ≡ false }
-    ensures { (result.verdict ≡ fields_verdict s.now g at kind) × Next result.verdict × BodyTold result.verdict result.body (place_of s.now at kind) × (result.body ≤ 65535) }
+    ensures { (result ≡ told (fields_verdict s.now g at kind) (place_of s.now at kind)) × Next result }
 {
-    let body = load_body::body_of(s, at, kind);
-    if body == 0 {
-        return Tested {
-            verdict: Verdict::Refuses(codes::BODY),
-            body,
-        };
-    }
+    let body = load_body::body_of(s, at, kind).ok_or(codes::BODY)?;
     if !load_names::names_right(s, t, g, at, kind) {
-        return Tested {
-            verdict: Verdict::Refuses(codes::NAME),
-            body,
-        };
+        return Err(codes::NAME);
     }
     if block_full(s, g, at, kind) {
-        return Tested {
-            verdict: Verdict::Refuses(codes::MANY),
-            body,
-        };
+        return Err(codes::MANY);
     }
-    let next = progressed(s, g, at, kind);
-    Tested {
-        verdict: Verdict::Goes(next),
-        body,
-    }
-}
-
-// A record refused before its fields are looked at.
-fn broken(number: u8) -> Tested
-    ensures { (result.verdict ≡ Refuses number) × (result.body ≡ 0) }
-{
-    Tested {
-        verdict: Verdict::Refuses(number),
-        body: 0,
-    }
+    Ok((progressed(s, g, at, kind), body))
 }
 
 // The tests of a record, 2, 3, 6, then those of its fields.
-fn test_record(s: &[u8], t: &[u8; codes::ARITIES], g: Progress, at: usize) -> Tested
+fn test_record(
+    s: &[u8],
+    t: &[u8; codes::ARITIES],
+    g: Progress,
+    at: usize,
+) -> Result<(Progress, usize), u8>
     requires arities { Arities s.now g.relations t.now }
     requires small { Small g }
     requires at_bound { at ≤ 32768 }
-    ensures { (result.verdict ≡ record_verdict s.now g at) × Next result.verdict × BodyTold result.verdict result.body (place_of s.now at (kind_at s.now at)) × (result.body ≤ 65535) }
+    ensures { (result ≡ told (record_verdict s.now g at) (place_of s.now at (kind_at s.now at))) × Next result }
 {
     if records::cut(s, at) {
-        return broken(codes::CUT);
+        return Err(codes::CUT);
     }
     let kind = records::kind_at(s, at);
     if kind_fault(g, kind) {
-        return broken(codes::KIND);
+        return Err(codes::KIND);
     }
     if too_many(g, kind) {
-        return broken(codes::MANY);
+        return Err(codes::MANY);
     }
     test_fields(s, t, g, at, kind)
 }
 
 // A refusal with its number and offset.
-fn refused(number: u8, offset: usize) -> Loaded
-    ensures { result ≡ Refused (refusal number offset) }
+fn refused(number: u8, offset: usize) -> Answer<(usize, usize)>
+    ensures { result ≡ Err (refusal number offset) }
 {
-    Loaded::Refused(Refusal {
-        number: number,
-        offset: offset,
-    })
+    Err(Refusal { number, offset })
 }
 
 // Records in file order, each noted in the index once it has passed its tests.
-fn records(s: &[u8], ix: &mut [u16; program_index::SIZE]) -> Loaded
+fn records(s: &[u8], ix: &mut [u16; program_index::SIZE]) -> Answer<(usize, usize)>
     requires { (length s.now ≤ 32768) × (length ix.old ≡ index_size) × ((k : ℕ) → k < 96 → get_or ix.old (blocks_from + k) 0 ≡ 0) }
     ensures value { result ≡ records s.now (length s.now) 0 nothing_read }
     ensures bounded { Bounded (length s.now) result }
@@ -185,40 +159,28 @@ fn records(s: &[u8], ix: &mut [u16; program_index::SIZE]) -> Loaded
     let n = s.len();
     let mut arities = [0; codes::ARITIES];
     let mut at = 0;
-    let mut g = Progress {
-        relations: 0,
-        clauses: 0,
-        kind: 0,
-        relation: 0,
-        block: 0,
-    };
+    let mut g = NOTHING_READ;
     while at < n {
         let end = records::end_at(s, at);
-        let t = test_record(s, &arities, g, at);
-        let v = t.verdict;
-        let k = g.relations;
-        arities[k] = place::byte_at(s, at + codes::RELATION_ARITY) as u8;
-        ix[k + g.clauses] = at as u16;
-        match v {
-            Verdict::Refuses(number) => {
-                return refused(number, at);
-            }
-            Verdict::Goes(next) => {
-                index_fill::note(s, g, at, next.kind, t.body, ix);
-                g = next;
-            }
-        }
+        let (next, body) = match test_record(s, &arities, g, at) {
+            Ok(passed) => passed,
+            Err(number) => return refused(number, at),
+        };
+        arities[g.relations] = place::byte_at(s, at + codes::RELATION_ARITY) as u8;
+        ix[g.relations + g.clauses] = at as u16;
+        index_fill::note(s, g, at, next.kind, body, ix);
+        g = next;
         at = end;
     }
     if g.kind == codes::GOAL_KIND {
-        Loaded::Accepted(g.relations, g.clauses)
+        Ok((g.relations, g.clauses))
     } else {
         refused(codes::NOGOAL, n)
     }
 }
 
 // The answer to an image: its counts, with the index of its program, or the first refusal.
-pub fn load_indexed(image: &[u8], ix: &mut [u16; program_index::SIZE]) -> Loaded
+pub fn load_indexed(image: &[u8], ix: &mut [u16; program_index::SIZE]) -> Answer<(usize, usize)>
     requires { length ix.old ≡ index_size }
     ensures value { result ≡ load_of image.now }
     ensures bounded { Bounded (length image.now) result }
@@ -231,36 +193,23 @@ pub fn load_indexed(image: &[u8], ix: &mut [u16; program_index::SIZE]) -> Loaded
     records(image, ix)
 }
 
-// The number by which the first record is refused; 0 where it is not, or the image has none or is too long.
-fn first_refusal(s: &[u8]) -> u8
-    ensures { ((result ≡ 0 → ⊥) → load_of s.now ≡ Refused (refusal result 0)) × (result ≤ 7) }
+// The number by which the first record is refused, if it is; none too where the image has no record or is too long.
+fn first_refusal(s: &[u8]) -> Option<u8>
+    ensures { IfSome result (λ n. (load_of s.now ≡ Err (refusal n 0)) × (1 ≤ n) × (n ≤ 7)) }
 {
-    if basics::or(s.len() == 0, codes::MOST_BYTES < s.len()) {
-        return 0;
+    if s.is_empty() | (codes::MOST_BYTES < s.len()) {
+        return None;
     }
     let arities = [0; codes::ARITIES];
-    let g = Progress {
-        relations: 0,
-        clauses: 0,
-        kind: 0,
-        relation: 0,
-        block: 0,
-    };
-    let t = test_record(s, &arities, g, 0);
-    let v = t.verdict;
-    match v {
-        Verdict::Refuses(number) => number,
-        Verdict::Goes(_) => 0,
-    }
+    test_record(s, &arities, NOTHING_READ, 0).err()
 }
 
 // The same for who needs no index: it is the same pass, but that no row is set up for it where the first record is refused.
-pub fn load(image: &[u8]) -> Loaded
+pub fn load(image: &[u8]) -> Answer<(usize, usize)>
     ensures value { result ≡ load_of image.now }
     ensures bounded { Bounded (length image.now) result }
 {
-    let number = first_refusal(image);
-    if number != 0 {
+    if let Some(number) = first_refusal(image) {
         return refused(number, 0);
     }
     let mut ix = [0u16; program_index::SIZE];
@@ -268,14 +217,14 @@ pub fn load(image: &[u8]) -> Loaded
 }
 
 // The refusal that an answer holds.
-pub fn refusal(l: Loaded) -> Refusal
+pub fn refusal(l: Answer<(usize, usize)>) -> Refusal
     ensures { result ≡ refusal_of l }
 {
     match l {
-        Loaded::Accepted(_, _) => Refusal {
+        Ok(_) => Refusal {
             number: 0,
             offset: 0,
         },
-        Loaded::Refused(r) => r,
+        Err(r) => r,
     }
 }

@@ -3,13 +3,14 @@ use mathlib.Core.Path.{◌∙◌, ◌≡◌, refl, sym}
 use mathlib.Core.Bool.{◌&&◌, Bool, cond, false, true}
 use mathlib.Core.List.{List}
 use Prim.Native.Nat.{◌*◌, ◌+◌, ◌<◌, ◌≤◌, ℕ}
+use Rattle.std.specs.Bool.{then_some}
 use lib.Dec.{eqb, ltb}
 use borrow.Author.Tests.{le-ltb, lt-ltb, ltb-false, ltb-true}
 use native.Mathlib.Omega.{arith}
 use Rattle.parlog.proofs.Bools.{split}
-use Rattle.load_names.specs.Reading.{Arities, word_of}
+use Rattle.load_names.specs.Reading.{word_of}
 use Rattle.parlog.specs.Image.{body_at, equality, goal_end, guard_at, literals_end, number_of, stage_end, term_at}
-use Rattle.parlog.specs.Names.{clause_inside, goal_named, literal_named, literals_named, relation_named, stage_named, term_named, term_named_at, terms_named}
+use Rattle.parlog.specs.Names.{arity_of, clause_inside, goal_named, literal_named, literals_named, relation_named, stage_named, term_named, term_named_at, terms_named}
 use Rattle.parlog.specs.Records.{byte_at}
 use Rattle.parlog.specs.declared.Term.{Term}
 use Rattle.parlog.specs.declared.Term.TheVariants.{Const, Var}
@@ -31,9 +32,9 @@ word_below vars (Var v) h =
 
 -- ---- relations by the table of arities
 
-pub relation-known : (s t : List ℕ) (rels r a : ℕ) → Arities s rels t → r < rels → eqb a (byte_at t r) ≡ relation_named s rels r a
+pub relation-known : (s t : List ℕ) (rels r a : ℕ) → byte_at t r ≡ arity_of s r → r < rels → eqb a (byte_at t r) ≡ relation_named s rels r a
 unfolding relation_named
-relation-known s t rels r a h l = rw (lt-ltb r rels l, h.arity r l)
+relation-known s t rels r a h l = rw (lt-ltb r rels l, h)
 
 pub relation-unknown : (s : List ℕ) (rels r a : ℕ) → rels ≤ r → false ≡ relation_named s rels r a
 unfolding relation_named
@@ -41,7 +42,7 @@ relation-unknown s rels r a h = rw (le-ltb r rels h)
 
 -- ---- stages
 
-pub stage-named-read : (s : List ℕ) (rels vars at k : ℕ) → k ≡ byte_at s at → cond (literals_named s rels vars k (at + 1)) (literals_end s k (at + 1)) 0 ≡ cond (stage_named s rels vars at) (stage_end s at) 0
+pub stage-named-read : (s : List ℕ) (rels vars at k : ℕ) → k ≡ byte_at s at → then_some (literals_named s rels vars k (at + 1)) (literals_end s k (at + 1)) ≡ then_some (stage_named s rels vars at) (stage_end s at)
 unfolding stage_end
 stage-named-read s rels vars at k e = rw e
 
@@ -73,6 +74,3 @@ module _ (s : List ℕ) (rels at : ℕ) where
 module _ (s : List ℕ) (at a to : ℕ) (e : a ≡ byte_at s (at + 5)) (h : goal_end s (body_at s at) ≤ to) where
   pub guard-in : (goal_end s (at + 8 + 2 * a) ≤ to) × (at + 8 + 2 * a ≤ to)
   guard-in = rw e (let g = goal-grows s (guard_at s at) in let b = goal-grows s (body_at s at) in (omega arith, omega arith))
-
-  pub body-in : (b : ℕ) → b ≡ goal_end s (at + 8 + 2 * a) → goal_end s b ≤ to
-  body-in b q = rw (q, e) h

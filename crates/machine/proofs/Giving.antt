@@ -1,4 +1,6 @@
 -- The ways through a supply, and the bytes that it leaves.
+use Rattle.std.specs.Prelude.{Option, Ok, Err, Some}
+use Rattle.parlog.specs.Answer.{Answer}
 use mathlib.Core.Path.{◌∙◌, ◌≡◌, refl, sym}
 use mathlib.Core.Bool.{Bool, cond, false, true}
 use mathlib.Core.List.{List}
@@ -20,13 +22,7 @@ use Rattle.parlog.specs.Program.{Program, program_of}
 use Rattle.parlog.specs.Run.{supplied, supply_tables, supply_value, ungiven}
 use Rattle.parlog.specs.Tables.{head_bytes, Lent, marker_last, marker_steps, number_code, proc_count, put_tables, Tables, tables_in, var_count, vars_in}
 use Rattle.parlog.specs.Unify.{changed, value}
-use Rattle.parlog.specs.declared.Binding.{Binding}
-use Rattle.parlog.specs.declared.Binding.TheVariants.{Bound}
-use Rattle.parlog.specs.declared.Loaded.{Loaded}
-use Rattle.parlog.specs.declared.Loaded.TheVariants.{Accepted, Refused}
 use Rattle.parlog.specs.declared.Refusal.{Refusal}
-use Rattle.parlog.specs.declared.Supplied.{Supplied}
-use Rattle.parlog.specs.declared.Supplied.TheVariants.{Given, Ungiven}
 use Rattle.parlog.specs.declared.Term.{Term}
 use Rattle.parlog.specs.declared.Term.TheVariants.{Const, Var}
 use Rattle.rows.proofs.Exact.{table-bytes}
@@ -39,42 +35,42 @@ use Rattle.vars.proofs.Tables.{vars-set-length}
 use Rattle.vars.specs.Cells.{Cells}
 
 module _ (t : Term) (c : ℕ) where
-  pub given-large : 32767 < c → {f : Refusal} → f ≡ refusal 14 0 → Ungiven f ≡ cond (leb c 32767) (given_by t) (Ungiven (refusal 14 0))
+  pub given-large : 32767 < c → {f : Refusal} → f ≡ refusal 14 0 → Err f ≡ cond (leb c 32767) (given_by t) (Err (refusal 14 0))
   given-large h ef = rw (ef, lt-leb c 32767 h)
 
   module _ (h : c ≤ 32767) {k : Bool} (ek : k ≡ is_const t) where
-    pub given-known : k ≡ true → {f : Refusal} → f ≡ refusal 13 0 → Ungiven f ≡ cond (leb c 32767) (given_by t) (Ungiven (refusal 14 0))
+    pub given-known : k ≡ true → {f : Refusal} → f ≡ refusal 13 0 → Err f ≡ cond (leb c 32767) (given_by t) (Err (refusal 14 0))
     given-known e ef = rw (ef, le-leb c 32767 h) (sym (const-of t (sym ek ∙ e)))
       where
-        const-of : (x : Term) → is_const x ≡ true → given_by x ≡ Ungiven (refusal 13 0)
+        const-of : (x : Term) → is_const x ≡ true → given_by x ≡ Err (refusal 13 0)
         const-of (Const n) q = refl
         const-of (Var v) q = never q
 
-    pub given-free : k ≡ false → {w : ℕ} → w ≡ number_code (Bound t) → Given w ≡ cond (leb c 32767) (given_by t) (Ungiven (refusal 14 0))
+    pub given-free : k ≡ false → {w : ℕ} → w ≡ number_code (Some t) → Ok w ≡ cond (leb c 32767) (given_by t) (Err (refusal 14 0))
     given-free e ew = rw (ew, le-leb c 32767 h) (sym (var-of t (sym ek ∙ e)))
       where
-        var-of : (x : Term) → is_const x ≡ false → given_by x ≡ Given (number_code (Bound x))
+        var-of : (x : Term) → is_const x ≡ false → given_by x ≡ Ok (number_code (Some x))
         var-of (Const n) q = never (sym q)
         var-of (Var v) q = refl
 
-module _ (pr : Program) (vs : List Binding) (v c : ℕ) {g : ℕ} (eg : g ≡ pr.goal_vars) where
-  pub asked-none : g ≤ v → {f : Refusal} → f ≡ refusal 12 0 → Ungiven f ≡ asked_of pr vs v c
+module _ (pr : Program) (vs : List (Option Term)) (v c : ℕ) {g : ℕ} (eg : g ≡ pr.goal_vars) where
+  pub asked-none : g ≤ v → {f : Refusal} → f ≡ refusal 12 0 → Err f ≡ asked_of pr vs v c
   unfolding asked_of
   asked-none h ef = rw (ef, ← eg, le-ltb v g h)
 
-  pub asked-some : v < g → {t : Term} → t ≡ value vs (Var v) → {x : Supplied} → x ≡ cond (leb c 32767) (given_by t) (Ungiven (refusal 14 0)) → x ≡ asked_of pr vs v c
+  pub asked-some : v < g → {t : Term} → t ≡ value vs (Var v) → {x : Answer ℕ} → x ≡ cond (leb c 32767) (given_by t) (Err (refusal 14 0)) → x ≡ asked_of pr vs v c
   unfolding asked_of
   asked-some h et ex = rw (ex, et, ← eg, lt-ltb v g h)
 
 -- ---- what is decided
 
 -- a value that is a variable is no higher
-value-below : (vs : List Binding) (v w : ℕ) → value vs (Var v) ≡ Var w → w ≤ v
+value-below : (vs : List (Option Term)) (v w : ℕ) → value vs (Var v) ≡ Var w → w ≤ v
 unfolding top
 value-below vs v w e = let h = rw e at (top-value vs (Var v)) in omega (arith, h)
 
 module _ (pr : Program) (l : Lent) (v c : ℕ) where
-  abbrev vs : List Binding
+  abbrev vs : List (Option Term)
   vs = vars_in l.vars (var_count l.head)
 
   asked-call : supply_answer (supply_tables pr (tables_in l) v c) l ≡ supply_of (asked_of pr vs v c) l c
@@ -89,47 +85,47 @@ module _ (pr : Program) (l : Lent) (v c : ℕ) where
       same = unfold tables_in in refl
 
       by : (x y : Bool) → supply_answer (cond x (cond y (supply_value (value (tables_in l).state.vars (Var v)) (tables_in l) c) (ungiven 14)) (ungiven 12)) l
-          ≡ supply_of (cond x (cond y (given_by (value vs (Var v))) (Ungiven (refusal 14 0))) (Ungiven (refusal 12 0))) l c
+          ≡ supply_of (cond x (cond y (given_by (value vs (Var v))) (Err (refusal 14 0))) (Err (refusal 12 0))) l c
       by false y = refl
       by true false = refl
       by true true = rw same (term (value vs (Var v)))
 
-  asked-below : {w : ℕ} → asked_of pr vs v c ≡ Given w → (ltb w pr.goal_vars ≡ true) × (leb c 32767 ≡ true)
+  asked-below : {w : ℕ} → asked_of pr vs v c ≡ Ok w → (ltb w pr.goal_vars ≡ true) × (leb c 32767 ≡ true)
   unfolding asked_of
   asked-below {w} = by (ltb v pr.goal_vars) (leb c 32767) refl refl
     where
-      term : (t : Term) → value vs (Var v) ≡ t → given_by t ≡ Given w → v < pr.goal_vars → ltb w pr.goal_vars ≡ true
+      term : (t : Term) → value vs (Var v) ≡ t → given_by t ≡ Ok w → v < pr.goal_vars → ltb w pr.goal_vars ≡ true
       term (Const k) q e h = cc
       term (Var u) q e h = let z : u ≡ w = cc in lt-ltb w pr.goal_vars (omega (arith, value-below vs v u q, z))
 
-      by : (x y : Bool) → ltb v pr.goal_vars ≡ x → leb c 32767 ≡ y → cond x (cond y (given_by (value vs (Var v))) (Ungiven (refusal 14 0))) (Ungiven (refusal 12 0)) ≡ Given w → (ltb w pr.goal_vars ≡ true) × (leb c 32767 ≡ true)
+      by : (x y : Bool) → ltb v pr.goal_vars ≡ x → leb c 32767 ≡ y → cond x (cond y (given_by (value vs (Var v))) (Err (refusal 14 0))) (Err (refusal 12 0)) ≡ Ok w → (ltb w pr.goal_vars ≡ true) × (leb c 32767 ≡ true)
       by false y h k e = (cc, cc)
       by true false h k e = (cc, cc)
       by true true h k e = (term (value vs (Var v)) refl e (ltb-true v pr.goal_vars h), k)
 
-module _ (lim : Limits) (s : List ℕ) (l : Lent) (v c : ℕ) {a : Loaded} (told : EnterSays lim s l a) where
-  pub decided-refused : {f r : Refusal} → a ≡ Refused f → r ≡ refusal_of a → DecidedSays lim s l v c (Ungiven r)
+module _ (lim : Limits) (s : List ℕ) (l : Lent) (v c : ℕ) {a : Answer (ℕ × ℕ)} (told : EnterSays lim s l a) where
+  pub decided-refused : {f r : Refusal} → a ≡ Err f → r ≡ refusal_of a → DecidedSays lim s l v c (Err r)
   unfolding supply_call
   decided-refused e er = record { call = rw (told.entry, er, e); writes = tt }
 
-  pub decided-asked : {r k : ℕ} → a ≡ Accepted r k → {x : Supplied} → x ≡ asked_of (program_of s r k) (vars_in l.vars (var_count l.head)) v c → DecidedSays lim s l v c x
+  pub decided-asked : {r k : ℕ} → a ≡ Ok (r, k) → {x : Answer ℕ} → x ≡ asked_of (program_of s r k) (vars_in l.vars (var_count l.head)) v c → DecidedSays lim s l v c x
   decided-asked {r} {k} e {x} ex = record { call = whole; writes = writing x ex }
     where
       whole : supply_call lim s l v c ≡ supply_of x l c
       whole = unfold supply_call in rw (told.entry, e, ex) (asked-call (program_of s r k) l v c)
 
-      writing : (y : Supplied) → y ≡ asked_of (program_of s r k) (vars_in l.vars (var_count l.head)) v c → WritesOf y l c
-      writing (Ungiven f) ey = tt
-      writing (Given w) ey =
+      writing : (y : Answer ℕ) → y ≡ asked_of (program_of s r k) (vars_in l.vars (var_count l.head)) v c → WritesOf y l c
+      writing (Err f) ey = tt
+      writing (Ok w) ey =
           let i = inside_of lim s l told e in
           let b = asked-below (program_of s r k) l v c (sym ey) in
           let u = ltb-true w (program_of s r k).goal_vars b.0 in
           record { row = omega (arith, u, i.goal); constant = leb-true c 32767 b.1; head = i.head; rows = i.rows; cells = i.cells; cells_known = i.cells_known }
 
-pub writes-of : (lim : Limits) (s : List ℕ) (l : Lent) (v c : ℕ) {a : Supplied} {w : ℕ} → DecidedSays lim s l v c a → a ≡ Given w → Writes l w c
+pub writes-of : (lim : Limits) (s : List ℕ) (l : Lent) (v c : ℕ) {a : Answer ℕ} {w : ℕ} → DecidedSays lim s l v c a → a ≡ Ok w → Writes l w c
 writes-of lim s l v c h e = rw e at h.writes
 
-pub constant-small : (c : ℕ) → c ≤ 32767 → number_code (Bound (Const c)) < 16777216
+pub constant-small : (c : ℕ) → c ≤ 32767 → number_code (Some (Const c)) < 16777216
 constant-small c h = omega arith
 
 -- ---- bytes
@@ -138,7 +134,7 @@ module _ (l : Lent) (w c : ℕ) (can : Writes l w c) where
   abbrev after : Tables
   after = supplied (tables_in l) w c
 
-  after-vars : after.state.vars ≡ set (vars_in l.vars (var_count l.head)) w (Bound (Const c))
+  after-vars : after.state.vars ≡ set (vars_in l.vars (var_count l.head)) w (Some (Const c))
   unfolding supplied tables_in changed
   after-vars = refl
 
@@ -151,7 +147,7 @@ module _ (l : Lent) (w c : ℕ) (can : Writes l w c) where
       n = unfold supplied tables_in in procs-length l.procs (proc_count l.head)
 
       m : length after.state.vars ≡ var_count l.head
-      m = rw after-vars (vars-set-length l.vars (var_count l.head) w (Bound (Const c)))
+      m = rw after-vars (vars-set-length l.vars (var_count l.head) w (Some (Const c)))
 
       last : after.last ≡ marker_last l.head
       last = unfold supplied tables_in in refl
@@ -168,20 +164,20 @@ module _ (l : Lent) (w c : ℕ) (can : Writes l w c) where
   procs-stay are =
       table-bytes (table_same l.procs (proc_count l.head)) are (omega (arith, procs-length l.procs (proc_count l.head), can.rows))
 
-  vars-put : {m : List ℕ} → Cells (var_count l.head) l.vars m (set (vars_in l.vars (var_count l.head)) w (Bound (Const c))) → Bytes m → m ≡ (put_tables l after).vars
+  vars-put : {m : List ℕ} → Cells (var_count l.head) l.vars m (set (vars_in l.vars (var_count l.head)) w (Some (Const c))) → Bytes m → m ≡ (put_tables l after).vars
   unfolding put_tables
   vars-put t are =
-      rw after-vars (cells-bytes t can.cells_known are (omega (arith, vars-set-length l.vars (var_count l.head) w (Bound (Const c)), can.cells)))
+      rw after-vars (cells-bytes t can.cells_known are (omega (arith, vars-set-length l.vars (var_count l.head) w (Some (Const c)), can.cells)))
 
 -- ---- the call
 
-module _ (lim : Limits) (s : List ℕ) (l : Lent) (v c : ℕ) {a : Supplied} (told : DecidedSays lim s l v c a) where
-  pub supply-refused : {f : Refusal} → a ≡ Ungiven f → SupplySays lim s l v c a l.head l.procs l.vars
-  supply-refused e = let k = rw e at told.call in record { answer = rw (k, e); head = rw k; procs = rw k; vars = rw k }
+module _ (lim : Limits) (s : List ℕ) (l : Lent) (v c : ℕ) {a : Answer ℕ} (told : DecidedSays lim s l v c a) where
+  pub supply-refused : {f : Refusal} → a ≡ Err f → SupplySays lim s l v c (Err f) l.head l.procs l.vars
+  supply-refused e = let k = rw e at told.call in record { answer = rw k; head = rw k; procs = rw k; vars = rw k }
 
-  pub supply-given : {w n : ℕ} {m : List ℕ} → a ≡ Given w → n ≡ var_count l.head
-      → Cells n l.vars m (set (vars_in l.vars n) w (Bound (Const c)))
-      → Bytes l.head → Bytes l.procs → Bytes m → SupplySays lim s l v c (Given w) l.head l.procs m
+  pub supply-given : {w n : ℕ} {m : List ℕ} → a ≡ Ok w → n ≡ var_count l.head
+      → Cells n l.vars m (set (vars_in l.vars n) w (Some (Const c)))
+      → Bytes l.head → Bytes l.procs → Bytes m → SupplySays lim s l v c (Ok w) l.head l.procs m
   supply-given {w} e en t hs ps ms =
       let k = rw e at told.call in
       let can = writes-of lim s l v c told e in

@@ -1,5 +1,6 @@
 -- What a supply promises: its answer, and each table afterwards, byte for byte.
-use Rattle.std.specs.Prelude.{◌≡◌, Bool, cond, false, true, List, ◌*◌, ◌<◌, ◌≤◌, ℕ, leb, ltb, length}
+use Rattle.parlog.specs.Answer.{Answer}
+use Rattle.std.specs.Prelude.{◌≡◌, Bool, cond, false, true, List, ◌*◌, ◌<◌, ◌≤◌, ℕ, leb, ltb, length, Option, Ok, Err}
 use Rattle.parlog.specs.Calls.{SupplyCall, supply_call}
 use Rattle.parlog.specs.Limits.{Limits}
 use Rattle.parlog.specs.Load.{refusal}
@@ -9,9 +10,6 @@ use Rattle.parlog.specs.Scan.{every}
 use Rattle.parlog.specs.TableRules.{cell_known}
 use Rattle.parlog.specs.Tables.{cell_size, head_size, Lent, proc_count, put_tables, row_size, tables_in, var_count}
 use Rattle.parlog.specs.Unify.{value}
-use Rattle.parlog.specs.declared.Binding.{Binding}
-use Rattle.parlog.specs.declared.Supplied.{Supplied}
-use Rattle.parlog.specs.declared.Supplied.TheVariants.{Given, Ungiven}
 use Rattle.parlog.specs.declared.Term.{Term}
 use Rattle.parlog.specs.declared.Term.TheVariants.{Const, Var}
 
@@ -21,18 +19,18 @@ is_const (Const k) = true
 is_const (Var v) = false
 
 -- Turns 6, Refusals 13: by the value of the variable
-abbrev pub given_by : Term → Supplied
-given_by (Const k) = Ungiven (refusal 13 0)
-given_by (Var w) = Given w
+abbrev pub given_by : Term → Answer ℕ
+given_by (Const k) = Err (refusal 13 0)
+given_by (Var w) = Ok w
 
 -- Refusals 12, 14: the answer alone
-unfoldable pub asked_of : Program → List Binding → ℕ → ℕ → Supplied
-asked_of pr vs v c = cond (ltb v pr.goal_vars) (cond (leb c 32767) (given_by (value vs (Var v))) (Ungiven (refusal 14 0))) (Ungiven (refusal 12 0))
+unfoldable pub asked_of : Program → List (Option Term) → ℕ → ℕ → Answer ℕ
+asked_of pr vs v c = cond (ltb v pr.goal_vars) (cond (leb c 32767) (given_by (value vs (Var v))) (Err (refusal 14 0))) (Err (refusal 12 0))
 
 -- an answer read as the whole call
-abbrev pub supply_of : Supplied → Lent → ℕ → SupplyCall
-supply_of (Ungiven r) l c = record { answer = Ungiven r; lent = l }
-supply_of (Given w) l c = record { answer = Given w; lent = put_tables l (supplied (tables_in l) w c) }
+abbrev pub supply_of : Answer ℕ → Lent → ℕ → SupplyCall
+supply_of (Err r) l c = record { answer = Err r; lent = l }
+supply_of (Ok w) l c = record { answer = Ok w; lent = put_tables l (supplied (tables_in l) w c) }
 
 -- what the writing of it may count on
 pub record Writes (l : Lent) (w c : ℕ) : Type 0 where
@@ -44,17 +42,17 @@ pub record Writes (l : Lent) (w c : ℕ) : Type 0 where
   pub cells_known : every (cell_known l.vars) (var_count l.head) ≡ true
 
 -- that, where there is something to write
-abbrev pub WritesOf : Supplied → Lent → ℕ → Type 0
-WritesOf (Ungiven r) l c = Unit {0}
-WritesOf (Given w) l c = Writes l w c
+abbrev pub WritesOf : Answer ℕ → Lent → ℕ → Type 0
+WritesOf (Err r) l c = Unit {0}
+WritesOf (Ok w) l c = Writes l w c
 
 -- Refusals 22: what is decided before anything is written
-pub record DecidedSays (lim : Limits) (s : List ℕ) (l : Lent) (v c : ℕ) (a : Supplied) : Type 0 where
+pub record DecidedSays (lim : Limits) (s : List ℕ) (l : Lent) (v c : ℕ) (a : Answer ℕ) : Type 0 where
   pub call : supply_call lim s l v c ≡ supply_of a l c
   pub writes : WritesOf a l c
 
 -- Turns 6, Refusals 23: the whole call
-pub record SupplySays (lim : Limits) (s : List ℕ) (l : Lent) (v c : ℕ) (r : Supplied) (h p w : List ℕ) : Type 0 where
+pub record SupplySays (lim : Limits) (s : List ℕ) (l : Lent) (v c : ℕ) (r : Answer ℕ) (h p w : List ℕ) : Type 0 where
   pub answer : r ≡ (supply_call lim s l v c).answer
   pub head : h ≡ (supply_call lim s l v c).lent.head
   pub procs : p ≡ (supply_call lim s l v c).lent.procs

@@ -1,7 +1,7 @@
 // The calls over lent bytes: a start, a supply, and the value of a goal variable.
 #![tactic(auto)]
 
-ghost use Rattle.std.specs.Prelude.{◌≡◌, cond, ◌*◌, ◌≤◌, ◌<◌, leb, ltb, length};
+ghost use Rattle.std.specs.Prelude.{◌≡◌, cond, ◌*◌, ◌≤◌, ◌<◌, leb, ltb, length, Err, Some};
 ghost use Rattle.parlog.specs.Calls.{value_answer, value_call};
 ghost use Rattle.parlog.specs.Codes.{starting, the_goal};
 ghost use Rattle.parlog.specs.Limits.{small};
@@ -10,14 +10,12 @@ ghost use Rattle.parlog.specs.Program.{program_of, tag_of_goal};
 ghost use Rattle.parlog.specs.Run.{seen, unseen};
 ghost use Rattle.parlog.specs.Tables.{cell_size, goal_spot, head_size, lent, new_process, number_code, started_lent, var_count, vars_in};
 ghost use Rattle.parlog.specs.Unify.{value};
-ghost use Rattle.parlog.specs.declared.Binding.TheVariants.{Bound};
-ghost use Rattle.parlog.specs.declared.Supplied.TheVariants.{Ungiven};
 ghost use Rattle.parlog.specs.declared.Term.TheVariants.{Var};
 ghost use Rattle.program_index.specs.Indexed.{Indexed, IndexedOf, index_size};
 ghost use Rattle.machine.specs.Starting.{BeginSays, StartSays, StartableSays};
 ghost use Rattle.machine.specs.Supplying.{DecidedSays, SupplySays, asked_of, given_by, is_const};
 
-use parlog::{Loaded, Process, Spot, Started, Supplied, Term, Valued, codes};
+use parlog::{Answer, Process, Spot, Term, codes};
 
 // The sizes of the two tables of a run.
 const PROC_BYTES: usize = codes::MOST_PROCS * codes::ROW_SIZE;
@@ -35,28 +33,29 @@ fn look(
     head: &[u8],
     vars: &[u8],
     variable: u32,
-) -> Valued
+) -> Answer<Term>
     requires { (rels ≤ 32) × (clauses ≤ 64) × (head_size ≤ length head.now) × (var_count head.now * cell_size ≤ length vars.now) × ((program_of image.now rels clauses).goal_vars ≤ var_count head.now) × Indexed image.now rels clauses ix.now }
     ensures { result ≡ value_answer (cond (ltb variable (program_of image.now rels clauses).goal_vars) (seen (value (vars_in vars.now (var_count head.now)) (Var variable))) (unseen 12)) }
 {
     let goal = program_clause::goal_vars(image, rels, clauses, ix);
     if goal <= (variable as usize) {
-        return Valued::Unvalued(entry::refusal(codes::NOVAR));
+        let unseen = entry::refusal(codes::NOVAR);
+        return Err(unseen);
     }
     let n = head::var_count(head);
     let seen = unify::value_of(vars, n, Term::Var(variable));
-    Valued::Value(seen)
+    Ok(seen)
 }
 
 // The value of a goal variable.
-pub fn value(image: &[u8], head: &[u8], procs: &[u8], vars: &[u8], variable: u32) -> Valued
+pub fn value(image: &[u8], head: &[u8], procs: &[u8], vars: &[u8], variable: u32) -> Answer<Term>
     ensures { result ≡ value_call small image.now (lent head.now procs.now vars.now) variable }
 {
     let mut ix = [0u16; program_index::SIZE];
     let e = entry::enter(image, head, procs, vars, &mut ix);
-    let Loaded::Accepted(rels, clauses) = e else {
+    let Ok((rels, clauses)) = e else {
         let r = load::refusal(e);
-        return Valued::Unvalued(r);
+        return Err(r);
     };
     look(image, rels, clauses, &ix, head, vars, variable)
 }
@@ -70,19 +69,19 @@ fn startable(
     procs: &[u8],
     vars: &[u8],
     ix: &mut [u16; program_index::SIZE],
-) -> Loaded
+) -> Answer<(usize, usize)>
     requires { length ix.old ≡ index_size }
     ensures startable_says { StartableSays small image.now (lent head.now procs.now vars.now) result }
     ensures indexed_of { IndexedOf result image.now ix.new }
 {
     let l = load::load_indexed(image, ix);
-    let Loaded::Accepted(rels, clauses) = l else {
+    let Ok((rels, clauses)) = l else {
         return l;
     };
     if !table_rules::full_size(head, procs, vars, entry::PROCS, entry::VARS) {
-        return Loaded::Refused(entry::refusal(codes::STATE));
+        return Err(entry::refusal(codes::STATE));
     }
-    l
+    Ok((rels, clauses))
 }
 
 // The process of the image's goal, about to start.
@@ -108,13 +107,13 @@ fn goal_process(
     };
     let notes = [0, 0, 0, 0];
     Process {
-        tag: tag,
+        tag,
         mode: codes::STARTING,
         result: 0,
         count: 0,
         parent: 0,
-        spot: spot,
-        notes: notes,
+        spot,
+        notes,
     }
 }
 
@@ -154,17 +153,17 @@ fn begin(
 }
 
 // A start: the tables of a run that has not moved yet.
-pub fn start(image: &[u8], head: &mut [u8], procs: &mut [u8], vars: &mut [u8]) -> Started
+pub fn start(image: &[u8], head: &mut [u8], procs: &mut [u8], vars: &mut [u8]) -> Answer<()>
     ensures { StartSays small image.now (lent head.old procs.old vars.old) result head.new procs.new vars.new }
 {
     let mut ix = [0u16; program_index::SIZE];
     let a = startable(image, head, procs, vars, &mut ix);
-    let Loaded::Accepted(rels, clauses) = a else {
+    let Ok((rels, clauses)) = a else {
         let r = load::refusal(a);
-        return Started::Unstarted(r);
+        return Err(r);
     };
     begin(image, rels, clauses, &ix, head, procs, vars);
-    Started::Begun
+    Ok(())
 }
 
 // ---- the supply
@@ -181,7 +180,7 @@ fn is_const(t: Term) -> bool
 
 // The number of a term.
 fn number_of(t: Term) -> usize
-    ensures { result ≡ number_code (Bound t) }
+    ensures { result ≡ number_code (Some t) }
 {
     match t {
         Term::Const(c) => c as usize,
@@ -190,18 +189,18 @@ fn number_of(t: Term) -> usize
 }
 
 // A constant for a variable whose value is t: it must be one that an image can have, before t is looked at.
-fn given(t: Term, constant: u32) -> Supplied
-    ensures { result ≡ cond (leb constant 32767) (given_by t) (Ungiven (refusal 14 0)) }
+fn given(t: Term, constant: u32) -> Answer<usize>
+    ensures { result ≡ cond (leb constant 32767) (given_by t) (Err (refusal 14 0)) }
 {
     let large = codes::MOST_CONSTANT < constant;
     let known = is_const(t);
     if large {
-        return Supplied::Ungiven(entry::refusal(codes::CONST));
+        return Err(entry::refusal(codes::CONST));
     }
     if known {
-        return Supplied::Ungiven(entry::refusal(codes::BOUND));
+        return Err(entry::refusal(codes::BOUND));
     }
-    Supplied::Given(number_of(t))
+    Ok(number_of(t))
 }
 
 // What a supply answers, in tables that keep the rules; nothing is written yet.
@@ -214,13 +213,13 @@ pub fn asked(
     vars: &[u8],
     variable: u32,
     value: u32,
-) -> Supplied
+) -> Answer<usize>
     requires { (rels ≤ 32) × (clauses ≤ 64) × (head_size ≤ length head.now) × (var_count head.now * cell_size ≤ length vars.now) × ((program_of image.now rels clauses).goal_vars ≤ var_count head.now) × Indexed image.now rels clauses ix.now }
     ensures { result ≡ asked_of (program_of image.now rels clauses) (vars_in vars.now (var_count head.now)) variable value }
 {
     let goal = program_clause::goal_vars(image, rels, clauses, ix);
     if goal <= (variable as usize) {
-        return Supplied::Ungiven(entry::refusal(codes::NOVAR));
+        return Err(entry::refusal(codes::NOVAR));
     }
     let n = head::var_count(head);
     let t = unify::value_of(vars, n, Term::Var(variable));
@@ -235,14 +234,14 @@ pub fn decided(
     vars: &[u8],
     variable: u32,
     value: u32,
-) -> Supplied
+) -> Answer<usize>
     ensures { DecidedSays small image.now (lent head.now procs.now vars.now) variable value result }
 {
     let mut ix = [0u16; program_index::SIZE];
     let e = entry::enter(image, head, procs, vars, &mut ix);
-    let Loaded::Accepted(rels, clauses) = e else {
+    let Ok((rels, clauses)) = e else {
         let r = load::refusal(e);
-        return Supplied::Ungiven(r);
+        return Err(r);
     };
     asked(image, rels, clauses, &ix, head, vars, variable, value)
 }
@@ -255,14 +254,11 @@ pub fn supply(
     vars: &mut [u8],
     variable: u32,
     value: u32,
-) -> Supplied
+) -> Answer<usize>
     ensures { SupplySays small image.now (lent head.now procs.now vars.old) variable value result head.now procs.now vars.new }
 {
-    let a = decided(image, head, procs, vars, variable, value);
-    let Supplied::Given(v) = a else {
-        return a;
-    };
+    let v = decided(image, head, procs, vars, variable, value)?;
     let n = head::var_count(head);
     vars::bind(vars, n, v, Term::Const(value));
-    a
+    Ok(v)
 }

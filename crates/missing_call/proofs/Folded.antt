@@ -17,12 +17,12 @@ least-append asked m [] ys = refl
 least-append asked m (x ∷ xs) ys = least-append asked (seen asked m x) xs ys
 
 -- what was seen of the first ones, and then the others
-pub least_on : (s t : List ℕ) (a : Asked) (w v : Seen) (xs ys : List Name) → one_at s v.some v.at ≡ least_of s t a w xs → least_of s t a v ys ≡ least_of s t a w (xs ++ ys)
+pub least_on : (s t : List ℕ) (a : Asked) (w v : Seen) (xs ys : List Name) → one_at s v.at ≡ least_of s t a w xs → least_of s t a v ys ≡ least_of s t a w (xs ++ ys)
 least_on s t a w v xs ys e =
     rw (e)
-    (sym (least-append (missing a.class (names_at s (take a.count t)) (one_at s a.bounded a.bound)) (one_at s w.some w.at) xs ys))
+    (sym (least-append (missing a.class (names_at s (take a.count t)) (one_at s a.bound)) (one_at s w.at) xs ys))
 
 -- none more
-pub least-none : (s t : List ℕ) (a : Asked) (w : Seen) → least_of s t a w [] ≡ one_at s w.some w.at
+pub least-none : (s t : List ℕ) (a : Asked) (w : Seen) → least_of s t a w [] ≡ one_at s w.at
 unfolding least
 least-none s t a w = refl

@@ -2,19 +2,18 @@
 use mathlib.Core.Path.{◌∙◌, ◌≡◌, ap, refl, sym}
 use mathlib.Core.Bool.{◌&&◌, Bool, false, not, true}
 use mathlib.Core.List.{[], ◌∷◌, List}
-use Prim.Native.Nat.{◌<◌, ◌≤◌, ℕ}
+use Prim.Native.Nat.{◌≤◌, ℕ}
 use lib.ListN.{drop, length, take}
-use borrow.Author.Tests.{le-ltb, lt-ltb, not-false, not-true}
-use native.Mathlib.Omega.{arith}
+use borrow.Author.Tests.{not-false, not-true}
+use Rattle.std.specs.Prelude.{None, Option, Some}
 use Rattle.missing_call.specs.Least.{above, before, in_class, least, missing, of_class}
-use Rattle.missing_call.specs.Sees.{least_of, Looks, one_at}
+use Rattle.missing_call.specs.Sees.{least_of, Looks, one_at, OneIn}
 use Rattle.missing_call.specs.declared.Asked.{Asked}
 use Rattle.missing_call.specs.declared.Seen.{Seen}
-use Rattle.name_index.specs.Index.{chain_of, Indexed}
-use Rattle.read_names.proofs.Tabled.{names_fit}
+use Rattle.name_index.specs.Index.{chain_of}
 use Rattle.read_names.specs.Tables.{names_at}
 use Rattle.text_names.specs.Bytes.{front}
-use Rattle.text_names.specs.Names.{known, look, Name}
+use Rattle.text_names.specs.Names.{known, Name}
 
 -- ---- a name that is looked for
 
@@ -42,34 +41,28 @@ module _ (k : ℕ) (ts bs : List Name) (x : Name) where
 
 -- the name at q is looked for
 abbrev asked_for : List ℕ → List ℕ → Asked → ℕ → Bool
-asked_for s t a q = missing a.class (names_at s (take a.count t)) (one_at s a.bounded a.bound) (front (drop q s))
+asked_for s t a q = missing a.class (names_at s (take a.count t)) (one_at s a.bound) (front (drop q s))
 
 module _ (s t : List ℕ) (a : Asked) (q h : ℕ) (chain : h ≡ chain_of (front (drop q s))) (c : Bool) (class : c ≡ in_class a.class h) where
   of-class : c ≡ of_class a.class (front (drop q s))
   of-class = class ∙ ap (in_class a.class) chain
 
   pub missing-class : not c ≡ true → false ≡ asked_for s t a q
-  missing-class e = other-class a.class (names_at s (take a.count t)) (one_at s a.bounded a.bound) (front (drop q s)) (sym of-class ∙ not-true c e)
+  missing-class e = other-class a.class (names_at s (take a.count t)) (one_at s a.bound) (front (drop q s)) (sym of-class ∙ not-true c e)
 
-  module _ {l : List ℕ} (index : Indexed s t l a.count) (k : ℕ) (found : k ≡ look (names_at s (take a.count t)) (front (drop q s))) where
-    pub missing-known : k < a.count → false ≡ asked_for s t a q
-    missing-known i =
-        let n = names_fit s t a.count index.inside in
-        known-one a.class (names_at s (take a.count t)) (one_at s a.bounded a.bound) (front (drop q s))
-        (lt-ltb (look (names_at s (take a.count t)) (front (drop q s))) (length (names_at s (take a.count t))) (omega arith))
+  module _ (f : Bool) (found : f ≡ known (names_at s (take a.count t)) (front (drop q s))) where
+    pub missing-known : f ≡ true → false ≡ asked_for s t a q
+    missing-known e = known-one a.class (names_at s (take a.count t)) (one_at s a.bound) (front (drop q s)) (sym found ∙ e)
 
-    module _ (of : not c ≡ false) (out : a.count ≤ k) where
-      asked-above : above (one_at s a.bounded a.bound) (front (drop q s)) ≡ asked_for s t a q
-      asked-above =
-          let n = names_fit s t a.count index.inside in
-          new-one a.class (names_at s (take a.count t)) (one_at s a.bounded a.bound) (front (drop q s)) (sym of-class ∙ not-false c of)
-          (le-ltb (look (names_at s (take a.count t)) (front (drop q s))) (length (names_at s (take a.count t))) (omega arith))
+    module _ (of : not c ≡ false) (new : f ≡ false) where
+      asked-above : above (one_at s a.bound) (front (drop q s)) ≡ asked_for s t a q
+      asked-above = new-one a.class (names_at s (take a.count t)) (one_at s a.bound) (front (drop q s)) (sym of-class ∙ not-false c of) (sym found ∙ new)
 
-      pub missing-above : (r : Bool) → a.bounded ≡ true → r ≡ before (front (drop a.bound s)) (front (drop q s)) → r ≡ asked_for s t a q
-      missing-above r e f = f ∙ sym (ap (λ (b : Bool). above (one_at s b a.bound) (front (drop q s))) e) ∙ asked-above
+      pub missing-above : (p : ℕ) (r : Bool) → a.bound ≡ Some p → r ≡ before (front (drop p s)) (front (drop q s)) → r ≡ asked_for s t a q
+      missing-above p r e f = f ∙ sym (ap (λ (b : Option ℕ). above (one_at s b) (front (drop q s))) e) ∙ asked-above
 
-      pub missing-free : a.bounded ≡ false → true ≡ asked_for s t a q
-      missing-free e = sym (ap (λ (b : Bool). above (one_at s b a.bound) (front (drop q s))) e) ∙ asked-above
+      pub missing-free : a.bound ≡ None → true ≡ asked_for s t a q
+      missing-free e = sym (ap (λ (b : Option ℕ). above (one_at s b) (front (drop q s))) e) ∙ asked-above
 
 -- ---- the lesser of two
 
@@ -95,21 +88,22 @@ module _ (asked : Name → Bool) (x : Name) where
 
 -- the least name with that at q, and the walk stays where it is
 abbrev pub Called : List ℕ → List ℕ → Asked → Seen → ℕ → Seen → Type 0
-Called s t a w q r = (one_at s r.some r.at ≡ least_of s t a w (front (drop q s) ∷ [])) × (r.at ≤ length s) × (r.end ≡ w.end)
+Called s t a w q r = (one_at s r.at ≡ least_of s t a w (front (drop q s) ∷ [])) × OneIn s r.at × (r.end ≡ w.end)
 
 module _ {s t l : List ℕ} {a : Asked} {w : Seen} (q : ℕ) (looks : Looks s t l a w) (c : Bool) (asked : c ≡ asked_for s t a q) where
   abbrev wanted : Name → Bool
-  wanted = missing a.class (names_at s (take a.count t)) (one_at s a.bounded a.bound)
+  wanted = missing a.class (names_at s (take a.count t)) (one_at s a.bound)
 
   pub call_none : not c ≡ true → Called s t a w q w
-  call_none e = (none_kept wanted (front (drop q s)) (one_at s w.some w.at) (sym asked ∙ not-true c e), looks.within, refl)
+  call_none e = (none_kept wanted (front (drop q s)) (one_at s w.at) (sym asked ∙ not-true c e), looks.within, refl)
 
   module _ (is : not c ≡ false) where
-    pub call-first : q ≤ length s → w.some ≡ false → Called s t a w q (record { end = w.end; some = true; at = q })
+    pub call-first : q ≤ length s → w.at ≡ None → Called s t a w q (record { end = w.end; at = Some q })
     call-first i e = (rw e (first-kept wanted (front (drop q s)) (sym asked ∙ not-false c is)), i, refl)
 
-    pub call-lesser : (r : Bool) → q ≤ length s → w.some ≡ true → r ≡ before (front (drop q s)) (front (drop w.at s)) → not r ≡ false → Called s t a w q (record { end = w.end; some = true; at = q })
-    call-lesser r i e f h = (rw e (lesser-kept wanted (front (drop q s)) (sym asked ∙ not-false c is) (front (drop w.at s)) (sym f ∙ not-false r h)), i, refl)
+    module _ (p : ℕ) (r : Bool) (some : w.at ≡ Some p) (less : r ≡ before (front (drop q s)) (front (drop p s))) where
+      pub call-lesser : q ≤ length s → not r ≡ false → Called s t a w q (record { end = w.end; at = Some q })
+      call-lesser i h = (rw some (lesser-kept wanted (front (drop q s)) (sym asked ∙ not-false c is) (front (drop p s)) (sym less ∙ not-false r h)), i, refl)
 
-    pub call-other : (r : Bool) → w.some ≡ true → r ≡ before (front (drop q s)) (front (drop w.at s)) → not r ≡ true → Called s t a w q w
-    call-other r e f h = (rw e (other-kept wanted (front (drop q s)) (sym asked ∙ not-false c is) (front (drop w.at s)) (sym f ∙ not-true r h)), looks.within, refl)
+      pub call-other : not r ≡ true → Called s t a w q w
+      call-other h = (rw some (other-kept wanted (front (drop q s)) (sym asked ∙ not-false c is) (front (drop p s)) (sym less ∙ not-true r h)), looks.within, refl)

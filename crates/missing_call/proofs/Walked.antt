@@ -4,7 +4,7 @@ use mathlib.Core.List.{[], ◌∷◌, List}
 use Prim.Native.Nat.{◌≤◌, ℕ}
 use lib.ListN.{drop, length}
 use Rattle.missing_call.proofs.Folded.{least-none, least_on}
-use Rattle.missing_call.specs.Sees.{least_of, Looks, Sees}
+use Rattle.missing_call.specs.Sees.{least_of, Looks, OneIn, Sees}
 use Rattle.missing_call.specs.declared.Asked.{Asked}
 use Rattle.missing_call.specs.declared.Seen.{Seen}
 use Rattle.text_names.specs.Names.{Name}
@@ -17,10 +17,10 @@ pub record Walked {A : Type 0} (f : A → List Name) (s t : List ℕ) (a : Asked
   pub rest : Y.rest ≡ W.rest
   pub name : least_of s t a v (joined f Y.value) ≡ least_of s t a w (joined f W.value)
   pub inside : v.end ≤ length s
-  pub within : v.at ≤ length s
+  pub within : OneIn s v.at
 
 -- the table is as it was
-pub looks_on : {s t l : List ℕ} {a : Asked} {w v : Seen} → Looks s t l a w → v.end ≤ length s → v.at ≤ length s → Looks s t l a v
+pub looks_on : {s t l : List ℕ} {a : Asked} {w v : Seen} → Looks s t l a w → v.end ≤ length s → OneIn s v.at → Looks s t l a v
 looks_on k h i = record { index = k.index; bound = k.bound; inside = h; within = i }
 
 -- the least name with those of a row
@@ -32,7 +32,7 @@ module _ {A : Type 0} (f : A → List Name) (s t : List ℕ) (a : Asked) (w : Se
   walked_start k e = record { rest = ap (λ (y : Got (List A)). y.rest) e; name = ap (named f s t a w) e; inside = k.inside; within = k.within }
 
   pub walked_on : {v u : Seen} {Y Z : Got (List A)} {rest : List ℕ} (x : A) (e : ℕ) → Y ≡ cons_got x Z → Sees s rest (least_of s t a v (f x)) u → e ≤ length s →
-      Walked f s t a w W v Y → Walked f s t a w W (record { end = e; some = u.some; at = u.at }) Z
+      Walked f s t a w W v Y → Walked f s t a w W (record { end = e; at = u.at }) Z
   walked_on {v = v} {u = u} {Z = Z} x e split sees h k =
       record {
         rest = sym (ap (λ (y : Got (List A)). y.rest) split) ∙ k.rest;

@@ -1,6 +1,6 @@
 -- The ways through literals, goals and clauses.
 use mathlib.Core.Path.{◌∙◌, ◌≡◌, ap, refl}
-use mathlib.Core.Bool.{◌||◌, Bool, false, true}
+use mathlib.Core.Bool.{◌||◌, false, true}
 use mathlib.Core.List.{[], ◌++◌, ◌∷◌, List}
 use Prim.Native.Nat.{◌≤◌, ℕ}
 use lib.Dec.{eqb}
@@ -10,7 +10,7 @@ use Rattle.missing_call.proofs.Folded.{least_on}
 use Rattle.missing_call.proofs.One.{Called}
 use Rattle.missing_call.specs.Called.{calls_from, clause_calls, goal_calls, said_calls}
 use Rattle.missing_call.specs.Least.{least}
-use Rattle.missing_call.specs.Sees.{least_of, Looks, one_at, Sees, unseen}
+use Rattle.missing_call.specs.Sees.{least_of, Looks, one_at, OneIn, Sees, unseen}
 use Rattle.missing_call.specs.declared.Asked.{Asked}
 use Rattle.missing_call.specs.declared.Seen.{Seen}
 use Rattle.read_clause.specs.Parts.{ClauseIn, part_of}
@@ -31,13 +31,13 @@ module _ (s t : List ℕ) (a : Asked) (w : Seen) (m p b : ℕ) (name : drop m s 
   behind : drop p s ≡ past (drop w.end s)
   behind = blanks ∙ ap skip name
 
-  pub equality-seen : (from e : ℕ) → b ≡ 61 → drop from s ≡ next (drop p s) → drop e s ≡ past (drop from s) → e ≤ length s → w.at ≤ length s → LiteralSeen s t a w (record { end = e; some = w.some; at = w.at })
+  pub equality-seen : (from e : ℕ) → b ≡ 61 → drop from s ≡ next (drop p s) → drop e s ≡ past (drop from s) → e ≤ length s → OneIn s w.at → LiteralSeen s t a w (record { end = e; at = w.at })
   unfolding read_literal read_term least
   equality-seen from e h f g i k =
       rw (← behind, first-at s p, ← is, eq-eqb b 61 h) (record { end = g ∙ ap past (f ∙ ap next behind); inside = i; name = refl; within = k })
 
   pub call-seen : (u : Seen) (g : Span) → (b ≡ 61 → ⊥) → Called s t a w w.end u → Spans s (read_brackets read_term (drop p s)).rest (length (read_brackets read_term (drop p s)).value) true g →
-      LiteralSeen s t a w (record { end = g.end; some = u.some; at = u.at })
+      LiteralSeen s t a w (record { end = g.end; at = u.at })
   unfolding read_literal
   call-seen u g h k v =
       rw (← behind, first-at s p, ← is, ne_eqb b 61 h)
@@ -55,35 +55,41 @@ module _ {s t l : List ℕ} {a : Asked} {w : Seen} (looks : Looks s t l a w) whe
   unfolding joined least
   none_seen = record { end = refl; inside = looks.inside; name = refl; within = looks.within }
 
-  module _ (b : ℕ) (is : b ≡ get_or s w.end 0) (r : Bool) (told : r ≡ (eqb b 46 || eqb b 59)) where
-    pub body-none : r ≡ true → GoalSeen read_body s t a w w
+  module _ (b : ℕ) (is : b ≡ get_or s w.end 0) where
+    pub body-none : (eqb b 46 || eqb b 59) ≡ true → GoalSeen read_body s t a w w
     unfolding read_body
-    body-none m = rw (first-at s w.end, ← is, ← told, m) none_seen
+    body-none m = rw (first-at s w.end, ← is, m) none_seen
 
-    pub body-some : (v : Seen) → r ≡ false → GoalSeen read_goal s t a w v → GoalSeen read_body s t a w v
+    pub body-some : (v : Seen) → (eqb b 46 || eqb b 59) ≡ false → GoalSeen read_goal s t a w v → GoalSeen read_body s t a w v
     unfolding read_body
-    body-some v m k = rw (first-at s w.end, ← is, ← told, m) k
+    body-some v m k = rw (first-at s w.end, ← is, m) k
 
-  pub part_none : (how : ℕ) → how ≡ 0 → GoalSeen (part_of how) s t a w w
-  unfolding part_of
-  part_none how e = rw e none_seen
+-- a goal of a clause is walked over
+abbrev pub PartSeen : List ℕ → List ℕ → Asked → Seen → List (List Said) → Seen → Type 0
+PartSeen s t a w g r = Sees s (drop r.end s) (least_of s t a w (goal_calls g)) r
+
+pub part_none : {s t l : List ℕ} {a : Asked} {w : Seen} → Looks s t l a w → PartSeen s t a w [] w
+part_none looks = none_seen looks
+
+-- one that was read at a place
+pub part_some : (s t : List ℕ) (a : Asked) (w : Seen) {v r : Seen} (read : Reader (List (List Said))) (at : ℕ) → v ≡ record { end = at; at = w.at } → GoalSeen read s t a v r → PartSeen s t a w (read (drop at s)).value r
+part_some s t a w {v} {r} read at e g =
+    let k = (rw e at g) in
+    record { end = refl; inside = k.inside; name = k.name; within = k.within }
 
 -- ---- a clause
 
-module _ (s t : List ℕ) (a : Asked) (w : Seen) (c : ClauseAt) (u g b v x : Seen) where
-  pub clause-seen : ClauseIn s w.end (read_clause (drop w.end s)) c → Called s t a w w.end u →
-      v ≡ record { end = c.guard; some = u.some; at = u.at } → GoalSeen (part_of c.guarded) s t a v g → x ≡ record { end = c.body; some = g.some; at = g.at } → GoalSeen (part_of c.bodied) s t a x b →
-      Sees s (read_clause (drop w.end s)).rest (least_of s t a w (clause_calls (read_clause (drop w.end s)).value)) (record { end = c.next; some = b.some; at = b.at })
-  clause-seen is head e guard f body =
+module _ (s t : List ℕ) (a : Asked) (w : Seen) (c : ClauseAt) (u g b : Seen) where
+  pub clause-seen : ClauseIn s w.end (read_clause (drop w.end s)) c → Called s t a w w.end u → PartSeen s t a u (part_of s c.guard) g → PartSeen s t a g (part_of s c.body) b →
+      Sees s (read_clause (drop w.end s)).rest (least_of s t a w (clause_calls (read_clause (drop w.end s)).value)) (record { end = c.next; at = b.at })
+  clause-seen is head guard body =
       let C = (read_clause (drop w.end s)).value in
-      let G = (part_of c.guarded (drop c.guard s)).value in
-      let B = (part_of c.bodied (drop c.body s)).value in
-      let first : one_at s g.some g.at ≡ least_of s t a u (goal_calls G) = (rw e at guard).name in
-      let second : one_at s b.some b.at ≡ least_of s t a g (goal_calls B) = (rw f at body).name in
+      let G = part_of s c.guard in
+      let B = part_of s c.body in
       record {
         end = is.next;
         inside = is.next_in;
-        name = second ∙ least_on s t a u g (goal_calls G) (goal_calls B) first ∙ least_on s t a w u (front (drop w.end s) ∷ []) (goal_calls G ++ goal_calls B) head.0
+        name = body.name ∙ least_on s t a u g (goal_calls G) (goal_calls B) guard.name ∙ least_on s t a w u (front (drop w.end s) ∷ []) (goal_calls G ++ goal_calls B) head.0
             ∙ ap (λ (y : Name). least_of s t a w (y ∷ (goal_calls G ++ goal_calls B))) is.name
             ∙ ap (λ (y : List (List Said)). least_of s t a w (C.name ∷ (goal_calls y ++ goal_calls B))) is.guard
             ∙ ap (λ (y : List (List Said)). least_of s t a w (C.name ∷ (goal_calls C.guard ++ goal_calls y))) is.body;
@@ -94,13 +100,13 @@ module _ (s t : List ℕ) (a : Asked) (w : Seen) (c : ClauseAt) (u g b v x : See
 
 module _ (s t : List ℕ) (a : Asked) (from left : ℕ) (c m r : Seen) (e : ℕ) where
   pub text-seen : Sees s (lines_for left is_clause read_clause (drop from s)).rest (least_of s t a (unseen from) (joined clause_calls (lines_for left is_clause read_clause (drop from s)).value)) c →
-      drop e s ≡ behind_arrow (drop c.end s) → m ≡ record { end = e; some = c.some; at = c.at } → GoalSeen read_body s t a m r →
-      (one_at s r.some r.at ≡ least_of s t a (unseen from) (calls_from s from left)) × (r.at ≤ length s)
+      drop e s ≡ behind_arrow (drop c.end s) → m ≡ record { end = e; at = c.at } → GoalSeen read_body s t a m r →
+      (one_at s r.at ≡ least_of s t a (unseen from) (calls_from s from left)) × OneIn s r.at
   text-seen lines arrow is body =
       let L = lines_for left is_clause read_clause (drop from s) in
       let N = joined clause_calls L.value in
       let B = goal_calls (read_body (drop e s)).value in
-      let last : one_at s r.some r.at ≡ least_of s t a c B = (rw is at body).name in (
+      let last : one_at s r.at ≡ least_of s t a c B = (rw is at body).name in (
         last ∙ least_on s t a (unseen from) c N B lines.name ∙ ap (λ (y : List ℕ). least_of s t a (unseen from) (N ++ goal_calls (read_body y).value)) (arrow ∙ ap behind_arrow lines.end),
         body.within,
       )

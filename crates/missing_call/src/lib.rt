@@ -4,21 +4,15 @@
 ghost use Rattle.std.specs.Prelude.{[], ◌∷◌, ◌≡◌, ◌≤◌, drop, length, take};
 ghost use Rattle.missing_call.specs.Called.{calls_from, clause_calls, goal_calls, said_calls};
 ghost use Rattle.missing_call.specs.Least.{before, in_class, missing};
-ghost use Rattle.missing_call.specs.Sees.{least_of, Looks, one_at, Sees, unseen};
+ghost use Rattle.missing_call.specs.Sees.{least_of, Looks, one_at, OneIn, Sees, unseen};
 ghost use Rattle.name_index.specs.Index.{chain_of, Indexed};
-ghost use Rattle.read_clause.specs.Parts.{part_of};
+ghost use Rattle.read_clause.specs.Parts.{part_of, PartIn};
 ghost use Rattle.read_names.specs.Tables.{names_at};
 ghost use Rattle.text_names.specs.Bytes.{front};
 ghost use Rattle.text_program.specs.Numbered.{joined};
 ghost use Rattle.text_program.specs.Source.{is_clause, lines_for, read_body, read_clause, read_goal, read_literal, row};
 
-// How a goal is read: there is none, or there is one; else there may be one.
-const NO_GOAL: usize = 0;
-
-const A_GOAL: usize = 1;
-
-// The mark that the goal line begins with.
-const ARROW: usize = 60;
+use read_clause::Part;
 
 // How many classes of chains there are, and how many chains a class has.
 pub const CLASSES: usize = 16;
@@ -30,16 +24,14 @@ const CHAINS_EACH: usize = 32;
 pub struct Asked {
     pub class: usize,
     pub count: usize,
-    pub bounded: bool,
-    pub bound: usize,
+    pub bound: Option<usize>,
 }
 
 // How far the text was walked over, and the least name of a call so far, if there is one.
 #[derive(Clone, Copy)]
 pub struct Seen {
     pub end: usize,
-    pub some: bool,
-    pub at: usize,
+    pub at: Option<usize>,
 }
 
 // ---- one name
@@ -72,25 +64,24 @@ fn before(s: &[u8], p: usize, q: usize) -> bool
 pub fn in_class(class: usize, chain: usize) -> bool
     ensures { result ≡ in_class class chain }
 {
-    basics::or(CLASSES <= class, chain / CHAINS_EACH == class)
+    (CLASSES <= class) | (chain / CHAINS_EACH == class)
 }
 
 // The name at q, which is in a chain, is looked for.
 fn missing(s: &[u8], places: &[usize], links: &[u16], a: Asked, q: usize, chain: usize) -> bool
-    requires { (q ≤ length s.now) × (chain ≡ chain_of (front (drop q s.now))) × Indexed s.now places.now links.now a.count × (a.bound ≤ length s.now) }
-    ensures { result ≡ missing a.class (names_at s.now (take a.count places.now)) (one_at s.now a.bounded a.bound) (front (drop q s.now)) }
+    requires { (q ≤ length s.now) × (chain ≡ chain_of (front (drop q s.now))) × Indexed s.now places.now links.now a.count × OneIn s.now a.bound }
+    ensures { result ≡ missing a.class (names_at s.now (take a.count places.now)) (one_at s.now a.bound) (front (drop q s.now)) }
 {
     if !in_class(a.class, chain) {
         return false;
     }
-    let k = name_index::find(s, places, links, a.count, q, chain);
-    if k < a.count {
+    if name_index::find(s, places, links, a.count, q, chain).is_some() {
         return false;
     }
-    if a.bounded {
-        return before(s, a.bound, q);
+    match a.bound {
+        Some(bound) => before(s, bound, q),
+        None => true,
     }
-    true
 }
 
 // The call of the name at q, which is in a chain.
@@ -104,34 +95,26 @@ fn call(
     chain: usize,
 ) -> Seen
     requires { (q ≤ length s.now) × (chain ≡ chain_of (front (drop q s.now))) × Looks s.now places.now links.now a w }
-    ensures { (one_at s.now result.some result.at ≡ least_of s.now places.now a w (front (drop q s.now) ∷ [])) × (result.at ≤ length s.now) × (result.end ≡ w.end) }
+    ensures { (one_at s.now result.at ≡ least_of s.now places.now a w (front (drop q s.now) ∷ [])) × OneIn s.now result.at × (result.end ≡ w.end) }
 {
     if !missing(s, places, links, a, q, chain) {
         return w;
     }
-    if w.some {
-        if !before(s, q, w.at) {
+    if let Some(least) = w.at {
+        if !before(s, q, least) {
             return w;
         }
     }
-    Seen {
-        end: w.end,
-        some: true,
-        at: q,
-    }
+    Seen { at: Some(q), ..w }
 }
 
 // ---- goals
 
 // What was seen, and the walk is at another place.
 fn moved(w: Seen, end: usize) -> Seen
-    ensures { result ≡ record { end = end; some = w.some; at = w.at } }
+    ensures { result ≡ record { end = end; at = w.at } }
 {
-    Seen {
-        end: end,
-        some: w.some,
-        at: w.at,
-    }
+    Seen { end, ..w }
 }
 
 // A literal.
@@ -156,14 +139,12 @@ fn stage(s: &[u8], places: &[usize], links: &[u16], a: Asked, w: Seen) -> Seen
     ensures { Sees s.now (row read_literal 44 (drop w.end s.now)).rest (least_of s.now places.now a w (joined said_calls (row read_literal 44 (drop w.end s.now)).value)) result }
 {
     let mut v = w;
-    let mut left = s.len() - w.end;
-    while 0 < left {
+    for _ in w.end..s.len() {
         v = literal(s, places, links, a, v);
         if place::byte_at(s, v.end) != read_goal::COMMA {
             return v;
         }
         v = moved(v, text_names::after_mark(s, v.end));
-        left -= 1;
     }
     v
 }
@@ -174,14 +155,12 @@ fn goal(s: &[u8], places: &[usize], links: &[u16], a: Asked, w: Seen) -> Seen
     ensures { Sees s.now (read_goal (drop w.end s.now)).rest (least_of s.now places.now a w (goal_calls (read_goal (drop w.end s.now)).value)) result }
 {
     let mut v = w;
-    let mut left = s.len() - w.end;
-    while 0 < left {
+    for _ in w.end..s.len() {
         v = stage(s, places, links, a, v);
         if place::byte_at(s, v.end) != read_goal::AMPERSAND {
             return v;
         }
         v = moved(v, text_names::after_mark(s, v.end));
-        left -= 1;
     }
     v
 }
@@ -192,24 +171,22 @@ fn body(s: &[u8], places: &[usize], links: &[u16], a: Asked, w: Seen) -> Seen
     ensures { Sees s.now (read_body (drop w.end s.now)).rest (least_of s.now places.now a w (goal_calls (read_body (drop w.end s.now)).value)) result }
 {
     let mark = place::byte_at(s, w.end);
-    if basics::or(mark == read_goal::DOT, mark == read_goal::SEMICOLON) {
+    if (mark == read_goal::DOT) | (mark == read_goal::SEMICOLON) {
         return w;
     }
     goal(s, places, links, a, w)
 }
 
-// A goal, as it is read.
-fn part(s: &[u8], places: &[usize], links: &[u16], a: Asked, w: Seen, how: usize) -> Seen
-    requires { Looks s.now places.now links.now a w }
-    ensures { Sees s.now (part_of how (drop w.end s.now)).rest (least_of s.now places.now a w (goal_calls (part_of how (drop w.end s.now)).value)) result }
+// A goal of a clause where it stands.
+fn part(s: &[u8], places: &[usize], links: &[u16], a: Asked, w: Seen, p: Part) -> Seen
+    requires { Looks s.now places.now links.now a w × PartIn s.now p }
+    ensures { Sees s.now (drop result.end s.now) (least_of s.now places.now a w (goal_calls (part_of s.now p))) result }
 {
-    if how == NO_GOAL {
-        return w;
+    match p {
+        Part::Absent => w,
+        Part::Goal(at) => goal(s, places, links, a, moved(w, at)),
+        Part::Body(at) => body(s, places, links, a, moved(w, at)),
     }
-    if how == A_GOAL {
-        return goal(s, places, links, a, w);
-    }
-    body(s, places, links, a, w)
 }
 
 // ---- clauses
@@ -222,8 +199,8 @@ fn clause(s: &[u8], places: &[usize], links: &[u16], a: Asked, w: Seen) -> Seen
     let c = read_clause::clause(s, w.end);
     let word = name_index::name_at(s, w.end);
     let head = call(s, places, links, a, w, w.end, word.chain);
-    let guard = part(s, places, links, a, moved(head, c.guard), c.guarded);
-    let body = part(s, places, links, a, moved(guard, c.body), c.bodied);
+    let guard = part(s, places, links, a, head, c.guard);
+    let body = part(s, places, links, a, guard, c.body);
     moved(body, c.next)
 }
 
@@ -233,28 +210,32 @@ fn clauses(s: &[u8], places: &[usize], links: &[u16], a: Asked, w: Seen, left: u
     ensures { Sees s.now (lines_for left is_clause read_clause (drop w.end s.now)).rest (least_of s.now places.now a w (joined clause_calls (lines_for left is_clause read_clause (drop w.end s.now)).value)) result }
 {
     let mut v = w;
-    let mut more = left;
-    while 0 < more {
-        if place::byte_at(s, v.end) == ARROW {
+    for _ in 0..left {
+        if place::byte_at(s, v.end) == read_goal::ARROW {
             return v;
         }
         v = clause(s, places, links, a, v);
-        more -= 1;
     }
     v
 }
 
 // Up to `left` clauses from a place on and the goal behind them: the least name of a call that is looked for.
-pub fn least(s: &[u8], places: &[usize], links: &[u16], a: Asked, from: usize, left: usize) -> Seen
+pub fn least(
+    s: &[u8],
+    places: &[usize],
+    links: &[u16],
+    a: Asked,
+    from: usize,
+    left: usize,
+) -> Option<usize>
     requires { Looks s.now places.now links.now a (unseen from) }
-    ensures { (one_at s.now result.some result.at ≡ least_of s.now places.now a (unseen from) (calls_from s.now from left)) × (result.at ≤ length s.now) }
+    ensures { (one_at s.now result ≡ least_of s.now places.now a (unseen from) (calls_from s.now from left)) × OneIn s.now result }
 {
     let w = Seen {
         end: from,
-        some: false,
-        at: 0,
+        at: None,
     };
     let c = clauses(s, places, links, a, w, left);
     let arrow = read_clause::behind_arrow(s, c.end);
-    body(s, places, links, a, moved(c, arrow))
+    body(s, places, links, a, moved(c, arrow)).at
 }

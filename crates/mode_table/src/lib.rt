@@ -29,18 +29,14 @@ pub fn relation(
     requires { (q ≤ length s.now) × (chain ≡ chain_of (front (drop q s.now))) × Moded s.now places.now arities.now links.now lines }
     ensures { Finds (modes_from s.now lines.from) (front (drop q s.now)) result }
 {
-    let count = lines.count;
-    let k = name_index::find(s, places, links, count, q, chain);
-    if k < count {
-        return Entry {
-            number: k,
-            arity: arities[k],
-            known: true,
-        };
-    }
-    Entry {
-        number: count,
-        arity: 0,
-        known: false,
+    match name_index::find(s, places, links, lines.count, q, chain) {
+        Some(number) => Entry {
+            number,
+            arity: Some(arities[number]),
+        },
+        None => Entry {
+            number: lines.count,
+            arity: None,
+        },
     }
 }

@@ -1,4 +1,5 @@
 -- The rows of the processes that a plan makes, and the row that it touches.
+use Rattle.std.specs.Prelude.{Option}
 use mathlib.Core.Path.{◌∙◌, ◌≡◌, ap, refl}
 use mathlib.Core.List.{[], ◌++◌, ◌∷◌, List}
 use Prim.Native.Nat.{suc, zero, ℕ}
@@ -6,7 +7,6 @@ use lib.ListN.{length}
 use Rattle.parlog.specs.Delta.{making}
 use Rattle.parlog.specs.Rules.{Applied, by_rule, first_made}
 use Rattle.parlog.specs.Tables.{procs_of, State}
-use Rattle.parlog.specs.declared.Found.{Found}
 use Rattle.parlog.specs.declared.Move.{Move}
 use Rattle.parlog.specs.declared.Process.{Process}
 use Rattle.rows.proofs.Tables.{procs-none, table-rows}
@@ -21,7 +21,7 @@ module _ (rows : List ℕ) {new : List ℕ} {y : Process} (t : Table rows new (p
       let e : procs_of rows 0 ++ (y ∷ []) ≡ y ∷ [] = rw (procs-none rows) in
       table-rows 1 t (ap length e) ∙ e
 
-  pub one-made : {mv : Move} {x : Process} {nap : Found} {a : Applied} → a ≡ by_rule mv (making x nap (procs_of new 1) 0) → a ≡ by_rule mv (making x nap (y ∷ []) 0)
+  pub one-made : {mv : Move} {x : Process} {nap : Option ℕ} {a : Applied} → a ≡ by_rule mv (making x nap (procs_of new 1) 0) → a ≡ by_rule mv (making x nap (y ∷ []) 0)
   one-made e = rw first-row at e
 
 -- ---- the row that is touched

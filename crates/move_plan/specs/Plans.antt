@@ -1,11 +1,10 @@
 -- What a plan means.
-use Rattle.std.specs.Prelude.{◌≡◌, ◌&&◌, Bool, cond, List, ◌*◌, ◌+◌, ◌<◌, suc, zero, ℕ, leb, get_or, take}
+use Rattle.std.specs.Prelude.{◌≡◌, ◌&&◌, Bool, cond, List, ◌*◌, ◌+◌, ◌<◌, suc, zero, ℕ, leb, get_or, take, Some}
 use Rattle.parlog.specs.Codes.{Mode, mode_code, Tag, tag_code}
 use Rattle.parlog.specs.Delta.{Delta}
 use Rattle.parlog.specs.Rules.{Applied, by_rule, no_rule}
 use Rattle.parlog.specs.Tables.{new_process, number_code, procs_of, row_size, State, vars_in}
 use Rattle.parlog.specs.Unify.{change}
-use Rattle.parlog.specs.declared.Binding.TheVariants.{Bound}
 use Rattle.parlog.specs.declared.Change.{Change}
 use Rattle.parlog.specs.declared.Process.{Process}
 use Rattle.parlog.specs.declared.Spot.{Spot}
@@ -66,7 +65,7 @@ state_in procs n vars m = record { procs = procs_of procs n; vars = vars_in vars
 
 -- a change of one of the first m variables, to a term that a row can hold
 abbrev pub Binds : ℕ → Change → Type 0
-Binds m c = (c.var < m) × (number_code (Bound c.to) < 16777216)
+Binds m c = (c.var < m) × (number_code (Some c.to) < 16777216)
 
 -- the first k changes are such
 abbrev pub Within : ℕ → ℕ → List Change → Type 0

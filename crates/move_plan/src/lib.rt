@@ -8,12 +8,27 @@ ghost use Rattle.parlog.specs.Rules.{by_rule, no_rule};
 ghost use Rattle.parlog.specs.Tables.{goal_spot, procs_of};
 ghost use Rattle.move_plan.specs.Plans.{applied_of, Born, changes_of, fits_in, new_most, Of, touched};
 
-use parlog::{Change, Found, Move, Process, Spot, Term, codes};
+use parlog::{Change, Move, Process, Spot, Term, codes};
 
 // How many new processes a plan has room for, and the bytes of their rows.
 pub const NEW_MOST: usize = 12;
 
 pub const NEW_SIZE: usize = NEW_MOST * codes::ROW_SIZE;
+
+// The notes of a process that waits for no variable.
+const NO_NOTES: [u16; codes::MOST_NOTES as usize] = [0; codes::MOST_NOTES as usize];
+
+// The goal of the image, with nothing named in it.
+const THE_GOAL: Spot = Spot {
+    kind: codes::THE_GOAL,
+    clause: 0,
+    base: 0,
+    stage: 0,
+    literal: 0,
+    block: 0,
+    found: 0,
+    first: 0,
+};
 
 // The bindings that wait, in order.
 #[derive(Clone, Copy)]
@@ -29,7 +44,7 @@ pub struct Plan {
     pub mv: Move,
     pub me: Process,
     pub cut: bool,
-    pub nap: Found,
+    pub nap: Option<usize>,
     pub count: usize,
     pub rows: [u8; NEW_SIZE],
     pub changes: Changes,
@@ -38,11 +53,11 @@ pub struct Plan {
 
 // ---- one process changed
 
-pub fn with_mode(mut x: Process, mode: u8) -> Process
+#[tactic(auto, unfolding(parlog::specs::Delta::with_mode))]
+pub fn with_mode(x: Process, mode: u8) -> Process
     ensures { Of mode_code mode (λ m. with_mode m x) result }
 {
-    x.mode = mode;
-    x
+    Process { mode, ..x }
 }
 
 // Note i of the first `count`; past them, 0.
@@ -50,15 +65,11 @@ fn note_at(notes: [u16; codes::MOST_NOTES as usize], count: u8, i: usize) -> u16
     requires { i < 4 }
     ensures { result ≡ get_or (take count notes) i 0 }
 {
-    let k = count as usize;
-    if i < k {
-        return notes[i];
-    }
-    0
+    if i < usize::from(count) { notes[i] } else { 0 }
 }
 
 // Suspended, noting the first `count` of these.
-pub fn with_notes(mut x: Process, count: u8, notes: [u16; codes::MOST_NOTES as usize]) -> Process
+pub fn with_notes(x: Process, count: u8, notes: [u16; codes::MOST_NOTES as usize]) -> Process
     requires { count ≤ 4 }
     ensures { result ≡ with_notes (take count notes) x }
 {
@@ -68,99 +79,110 @@ pub fn with_notes(mut x: Process, count: u8, notes: [u16; codes::MOST_NOTES as u
         note_at(notes, count, 2),
         note_at(notes, count, 3),
     ];
-    x.mode = codes::SUSPENDED;
-    x.count = count;
-    x.notes = kept;
-    x
+    Process {
+        mode: codes::SUSPENDED,
+        count,
+        notes: kept,
+        ..x
+    }
 }
 
 // Starting again, noting nothing.
-pub fn woken(mut x: Process) -> Process
+#[tactic(auto, unfolding(parlog::specs::Delta::woken))]
+pub fn woken(x: Process) -> Process
     ensures { result ≡ woken x }
 {
-    let notes = [0, 0, 0, 0];
-    x.mode = codes::STARTING;
-    x.count = 0;
-    x.notes = notes;
-    x
+    Process {
+        mode: codes::STARTING,
+        count: 0,
+        notes: NO_NOTES,
+        ..x
+    }
 }
 
-pub fn with_spot(mut x: Process, mode: u8, z: Spot) -> Process
+#[tactic(auto, unfolding(parlog::specs::Delta::with_spot))]
+pub fn with_spot(x: Process, mode: u8, z: Spot) -> Process
     ensures { Of mode_code mode (λ m. with_spot m z x) result }
 {
-    x.mode = mode;
-    x.spot = z;
-    x
+    Process { mode, spot: z, ..x }
 }
 
 // ---- places
 
-pub fn at_stage(mut z: Spot, k: u8) -> Spot
+#[tactic(auto, unfolding(parlog::specs::Delta::at_stage))]
+pub fn at_stage(z: Spot, k: u8) -> Spot
     ensures { result ≡ at_stage k z }
 {
-    z.stage = k;
-    z
+    Spot { stage: k, ..z }
 }
 
-pub fn at_block(mut z: Spot, k: u8) -> Spot
+#[tactic(auto, unfolding(parlog::specs::Delta::at_block))]
+pub fn at_block(z: Spot, k: u8) -> Spot
     ensures { result ≡ at_block k z }
 {
-    z.block = k;
-    z
+    Spot { block: k, ..z }
 }
 
-pub fn with_clause(mut z: Spot, k: u8, v: u16) -> Spot
+#[tactic(auto, unfolding(parlog::specs::Delta::with_clause))]
+pub fn with_clause(z: Spot, k: u8, v: u16) -> Spot
     ensures { result ≡ with_clause k v z }
 {
-    z.found = k;
-    z.first = v;
-    z
+    Spot {
+        found: k,
+        first: v,
+        ..z
+    }
 }
 
 // Literal j of the stage that z names.
-pub fn literal_spot(mut z: Spot, j: u8) -> Spot
+#[tactic(auto, unfolding(parlog::specs::Delta::literal_spot))]
+pub fn literal_spot(z: Spot, j: u8) -> Spot
     ensures { result ≡ literal_spot z j }
 {
-    z.literal = j;
-    z.block = 0;
-    z.found = 0;
-    z.first = 0;
-    z
+    Spot {
+        literal: j,
+        block: 0,
+        found: 0,
+        first: 0,
+        ..z
+    }
 }
 
 // A block for the call that z names.
-pub fn block_spot(mut z: Spot, b: u8) -> Spot
+#[tactic(auto, unfolding(parlog::specs::Delta::block_spot, parlog::specs::Delta::at_block, parlog::specs::Delta::call_spot, parlog::specs::Delta::literal_spot))]
+pub fn block_spot(z: Spot, b: u8) -> Spot
     ensures { result ≡ block_spot z b }
 {
-    z.block = b;
-    z.found = 0;
-    z.first = 0;
-    z
+    Spot {
+        block: b,
+        found: 0,
+        first: 0,
+        ..z
+    }
 }
 
 // A clause for that call, with its first variable.
-pub fn try_spot(mut z: Spot, k: u8, v: u16) -> Spot
+#[tactic(auto, unfolding(parlog::specs::Delta::try_spot, parlog::specs::Delta::with_clause, parlog::specs::Delta::call_spot, parlog::specs::Delta::literal_spot))]
+pub fn try_spot(z: Spot, k: u8, v: u16) -> Spot
     ensures { result ≡ try_spot z k v }
 {
-    z.block = 0;
-    z.found = k;
-    z.first = v;
-    z
+    Spot {
+        block: 0,
+        found: k,
+        first: v,
+        ..z
+    }
 }
 
 // The clause alone.
+#[tactic(auto, unfolding(parlog::specs::Delta::guard_spot, parlog::specs::Delta::with_clause))]
 pub fn guard_spot(k: u8, v: u16) -> Spot
     ensures { result ≡ guard_spot k v }
 {
     Spot {
-        kind: codes::THE_GOAL,
-        clause: 0,
-        base: 0,
-        stage: 0,
-        literal: 0,
-        block: 0,
         found: k,
         first: v,
+        ..THE_GOAL
     }
 }
 
@@ -172,19 +194,15 @@ pub fn goal_spot(kind: u8, k: u8, base: u16) -> Spot
         kind,
         clause: k,
         base,
-        stage: 0,
-        literal: 0,
-        block: 0,
-        found: 0,
-        first: 0,
+        ..THE_GOAL
     }
 }
 
+#[tactic(auto, unfolding(parlog::specs::Tables::new_process))]
 pub fn new_process(tag: u8, mode: u8, parent: usize, z: Spot) -> Process
     requires { parent ≤ 65535 }
     ensures { Born tag mode parent z result }
 {
-    let notes = [0, 0, 0, 0];
     Process {
         tag,
         mode,
@@ -192,7 +210,7 @@ pub fn new_process(tag: u8, mode: u8, parent: usize, z: Spot) -> Process
         count: 0,
         parent: parent as u16,
         spot: z,
-        notes,
+        notes: NO_NOTES,
     }
 }
 
@@ -201,13 +219,17 @@ pub fn new_process(tag: u8, mode: u8, parent: usize, z: Spot) -> Process
 pub fn no_changes() -> Changes
     ensures { result.count ≡ 0 }
 {
-    let c = Change {
+    let unused = Change {
         var: 0,
         to: Term::Const(0),
     };
-    let list = [c, c, c, c];
-    Changes { count: 0, list }
+    Changes {
+        count: 0,
+        list: [unused; codes::MOST_ARITY],
+    }
 }
+
+// Kept, each of the three plans names all its fields: one made from another by `..` would set its rows twice.
 
 // No rule applies.
 pub fn none() -> Plan
@@ -215,17 +237,15 @@ pub fn none() -> Plan
 {
     let z = guard_spot(0, 0);
     let x = new_process(codes::AND_PAR, codes::DORMANT, 0, z);
-    let rows = [0u8; NEW_SIZE];
-    let changes = no_changes();
     Plan {
         acts: false,
         mv: Move::Ready(0),
         me: x,
         cut: false,
-        nap: Found::Nothing,
+        nap: None,
         count: 0,
-        rows,
-        changes,
+        rows: [0; NEW_SIZE],
+        changes: no_changes(),
         fresh: 0,
     }
 }
@@ -234,7 +254,7 @@ pub fn none() -> Plan
 pub fn make(
     mv: Move,
     x: Process,
-    nap: Found,
+    nap: Option<usize>,
     count: usize,
     rows: [u8; NEW_SIZE],
     fresh: usize,
@@ -242,7 +262,6 @@ pub fn make(
     requires { count ≤ new_most }
     ensures { (applied_of result ≡ by_rule mv (making x nap (procs_of rows count) fresh)) × (result.count ≤ new_most) × (result.changes.count ≡ 0) }
 {
-    let changes = no_changes();
     Plan {
         acts: true,
         mv,
@@ -251,13 +270,13 @@ pub fn make(
         nap,
         count,
         rows,
-        changes,
+        changes: no_changes(),
         fresh,
     }
 }
 
 // One new process, and perhaps a child that falls asleep.
-pub fn make_one(mv: Move, x: Process, nap: Found, y: Process) -> Plan
+pub fn make_one(mv: Move, x: Process, nap: Option<usize>, y: Process) -> Plan
     ensures { (applied_of result ≡ by_rule mv (making x nap (y ∷ []) 0)) × (result.count ≤ new_most) × (result.changes.count ≡ 0) }
 {
     let mut new = [0u8; NEW_SIZE];
@@ -269,35 +288,32 @@ pub fn make_one(mv: Move, x: Process, nap: Found, y: Process) -> Plan
 pub fn touched(n: usize, p: usize, k: usize) -> usize
     ensures { result ≡ touched n p k }
 {
-    if k == 0 {
-        return p;
-    }
-    n
+    if k == 0 { p } else { n }
 }
 
 // The mover alone changes.
 pub fn only(mv: Move, x: Process) -> Plan
     ensures { (applied_of result ≡ by_rule mv (only x)) × (result.count ≤ new_most) × (result.changes.count ≡ 0) }
 {
-    let rows = [0u8; NEW_SIZE];
-    make(mv, x, Found::Nothing, 0, rows, 0)
+    make(mv, x, None, 0, [0; NEW_SIZE], 0)
 }
 
 // The mover reports, and binds these.
-pub fn report_with(mv: Move, res: u8, mut x: Process, changes: Changes) -> Plan
+pub fn report_with(mv: Move, res: u8, x: Process, changes: Changes) -> Plan
     ensures { Of result_code res (λ t. by_rule mv (reporting_with t x (changes_of changes))) (applied_of result) × (result.count ≤ new_most) × (result.changes ≡ changes) × (result.fresh ≡ 0) }
 {
-    let rows = [0u8; NEW_SIZE];
-    x.mode = codes::REPORTING;
-    x.result = res;
     Plan {
         acts: true,
         mv,
-        me: x,
+        me: Process {
+            mode: codes::REPORTING,
+            result: res,
+            ..x
+        },
         cut: true,
-        nap: Found::Nothing,
+        nap: None,
         count: 0,
-        rows,
+        rows: [0; NEW_SIZE],
         changes,
         fresh: 0,
     }
@@ -306,8 +322,7 @@ pub fn report_with(mv: Move, res: u8, mut x: Process, changes: Changes) -> Plan
 pub fn report(mv: Move, res: u8, x: Process) -> Plan
     ensures { Of result_code res (λ t. by_rule mv (report t x)) (applied_of result) × (result.count ≤ new_most) × (result.changes.count ≡ 0) }
 {
-    let changes = no_changes();
-    report_with(mv, res, x, changes)
+    report_with(mv, res, x, no_changes())
 }
 
 // With these limits and counts there is room for what the plan makes.
@@ -315,8 +330,5 @@ pub fn fits(procs: usize, vars: usize, n: usize, m: usize, plan: Plan) -> bool
     requires { (n ≤ procs) × (m ≤ vars) }
     ensures { result ≡ fits_in procs vars n m plan }
 {
-    if procs - n < plan.count {
-        return false;
-    }
-    plan.fresh <= vars - m
+    plan.count <= procs - n && plan.fresh <= vars - m
 }

@@ -1,4 +1,6 @@
 -- The ways through the writers.
+use Rattle.parlog.specs.declared.Term.{Term}
+use Rattle.std.specs.Prelude.{Option, None, Some}
 use mathlib.Core.Path.{◌∙◌, ◌≡◌, ap, refl, sym}
 use mathlib.Core.Bool.{◌&&◌, ◌||◌, Bool, false, true}
 use mathlib.Core.List.{[], ◌++◌, ◌∷◌, append_assoc, append-nil, List}
@@ -19,10 +21,7 @@ use Rattle.parlog.specs.Scan.{build}
 use Rattle.parlog.specs.Tables.{at, idle, process_at, procs_of, vars_in}
 use Rattle.parlog.specs.Tree.{below}
 use Rattle.parlog.specs.Unify.{changed}
-use Rattle.parlog.specs.declared.Binding.TheVariants.{Bound, Free}
 use Rattle.parlog.specs.declared.Change.{Change}
-use Rattle.parlog.specs.declared.Found.{Found}
-use Rattle.parlog.specs.declared.Found.TheVariants.{At, Nothing}
 use Rattle.parlog.specs.declared.Process.{Process}
 use Rattle.move_plan.specs.Plans.{changes_of, delta_of, state_in, Within}
 use Rattle.move_write.specs.Writing.{cut_below, napped, procs_after, slept_at, vars_after}
@@ -53,12 +52,12 @@ module _ (l : List ℕ) (n p : ℕ) where
   unfolding slept_at
   sleep-one ex ey t = rw (← ex, ← ey) t
 
-module _ (l : List ℕ) (n : ℕ) {f : Found} where
-  pub nap-none : f ≡ Nothing → Table l l (napped f (procs_of l n))
+module _ (l : List ℕ) (n : ℕ) {f : Option ℕ} where
+  pub nap-none : f ≡ None → Table l l (napped f (procs_of l n))
   unfolding napped
   nap-none e = rw e (table_same l n)
 
-  pub nap-one : {c : ℕ} → f ≡ At c → {m : List ℕ} → Table l m (slept_at (procs_of l n) c) → Table l m (napped f (procs_of l n))
+  pub nap-one : {c : ℕ} → f ≡ Some c → {m : List ℕ} → Table l m (slept_at (procs_of l n) c) → Table l m (napped f (procs_of l n))
   unfolding napped
   nap-one e t = rw e t
 
@@ -67,20 +66,20 @@ unfolding cut_below
 cut-length true ps p = slept-length ps p
 cut-length false ps p = refl
 
-pub nap-length : (f : Found) (ps : List Process) → length (napped f ps) ≡ length ps
+pub nap-length : (f : Option ℕ) (ps : List Process) → length (napped f ps) ≡ length ps
 unfolding napped slept_at
-nap-length Nothing ps = refl
-nap-length (At c) ps = length-set ps c (with_mode dormant (at ps c))
+nap-length None ps = refl
+nap-length (Some c) ps = length-set ps c (with_mode dormant (at ps c))
 
 cut_at : (b : Bool) (ps : List Process) (p i : ℕ) → i < length ps → at (cut_below b ps p) i ≡ asleep (b && below ps p i) (at ps i)
 unfolding cut_below
 cut_at true ps p i h = slept-at ps p i h
 cut_at false ps p i h = refl
 
-nap-at : (f : Found) (ps : List Process) (i : ℕ) → i < length ps → at (napped f ps) i ≡ asleep (is_at f i) (at ps i)
+nap-at : (f : Option ℕ) (ps : List Process) (i : ℕ) → i < length ps → at (napped f ps) i ≡ asleep (is_at f i) (at ps i)
 unfolding napped slept_at
-nap-at Nothing ps i h = refl
-nap-at (At c) ps i h = split (eqb i c)
+nap-at None ps i h = refl
+nap-at (Some c) ps i h = split (eqb i c)
     (λ e. let z : i ≡ c = eqb-true i c e in rw e (rw z (get_or-set_same ps c (with_mode dormant (at ps c)) idle (omega arith))))
     (λ e. rw e (get_or-set_other ps c i (with_mode dormant (at ps c)) idle (eqb-false i c e)))
 
@@ -163,35 +162,32 @@ module _ (l l1 : List ℕ) (m : ℕ) (cs : List Change) (i : ℕ) (h : i < lengt
   so_far : length (changed (vars_in l m) (take i cs)) ≡ m
   so_far = changed-length (vars_in l m) (take i cs) ∙ vars-length l m
 
-  one_more : (c d : Change) → get_or cs i d ≡ c → changed (vars_in l m) (take (i + 1) cs) ≡ set (changed (vars_in l m) (take i cs)) c.var (Bound c.to)
+  one_more : (c d : Change) → get_or cs i d ≡ c → changed (vars_in l m) (take (i + 1) cs) ≡ set (changed (vars_in l m) (take i cs)) c.var (Some c.to)
   unfolding changed
   one_more c d e =
       ap (changed (vars_in l m)) (ap (λ (k : ℕ). take k cs) (add-one i) ∙ take-suc cs i d h)
       ∙ changed-append (vars_in l m) (take i cs) (get_or cs i d ∷ [])
       ∙ rw e
 
-  pub bind-next : (c d : Change) → get_or cs i d ≡ c → {v : ℕ} → v ≡ c.var → {l2 : List ℕ} → Cells m l1 l2 (set (vars_in l1 m) v (Bound c.to)) → Cells m l l2 (changed (vars_in l m) (take (i + 1) cs))
+  pub bind-next : (c d : Change) → get_or cs i d ≡ c → {v : ℕ} → v ≡ c.var → {l2 : List ℕ} → Cells m l1 l2 (set (vars_in l1 m) v (Some c.to)) → Cells m l l2 (changed (vars_in l m) (take (i + 1) cs))
   bind-next c d e {v} ev {l2} w =
       let r : vars_in l1 m ≡ changed (vars_in l m) (take i cs) = cells-rows m t so_far in
-      let s : set (vars_in l1 m) v (Bound c.to) ≡ changed (vars_in l m) (take (i + 1) cs) =
+      let s : set (vars_in l1 m) v (Some c.to) ≡ changed (vars_in l m) (take (i + 1) cs) =
       rw (r, ev) (sym (one_more c d e)) in
       let w' : Cells (length (changed (vars_in l m) (take i cs))) l1 l2 (changed (vars_in l m) (take (i + 1) cs)) = rw so_far (rw s at w) in
       cells-then t w' (omega (arith, so_far, changed-length (vars_in l m) (take (i + 1) cs), vars-length l m))
 
-pub bind-end : (l l1 : List ℕ) (m : ℕ) (cs : List Change) (i k : ℕ) → Cells m l l1 (changed (vars_in l m) (take i cs)) → i ≡ k → Cells m l l1 (changed (vars_in l m) (take k cs))
-bind-end l l1 m cs i k t e = rw (← e) t
-
 pub vars-done : (l l1 l2 : List ℕ) (m : ℕ) (pl : Plan)
-    → Cells m l l1 (vars_in l m ++ replicate pl.fresh Free)
+    → Cells m l l1 (vars_in l m ++ replicate pl.fresh None)
     → Cells (m + pl.fresh) l1 l2 (changed (vars_in l1 (m + pl.fresh)) (take pl.changes.count pl.changes.list))
     → Cells m l l2 (vars_after (vars_in l m) (delta_of pl))
 unfolding vars_after delta_of changes_of
 vars-done l l1 l2 m pl a b =
-    let k : length (vars_in l m ++ replicate pl.fresh Free) ≡ m + pl.fresh =
-    length-append (vars_in l m) (replicate pl.fresh Free) ∙ omega (arith, vars-length l m, length-replicate pl.fresh Free) in
-    let e : vars_in l1 (m + pl.fresh) ≡ vars_in l m ++ replicate pl.fresh Free = cells-rows (m + pl.fresh) a k in
-    let j : length (changed (vars_in l m ++ replicate pl.fresh Free) (take pl.changes.count pl.changes.list)) ≡ m + pl.fresh =
-    changed-length (vars_in l m ++ replicate pl.fresh Free) (take pl.changes.count pl.changes.list) ∙ k in
+    let k : length (vars_in l m ++ replicate pl.fresh None) ≡ m + pl.fresh =
+    length-append (vars_in l m) (replicate pl.fresh None) ∙ omega (arith, vars-length l m, length-replicate {A = Option Term} pl.fresh None) in
+    let e : vars_in l1 (m + pl.fresh) ≡ vars_in l m ++ replicate pl.fresh None = cells-rows (m + pl.fresh) a k in
+    let j : length (changed (vars_in l m ++ replicate pl.fresh None) (take pl.changes.count pl.changes.list)) ≡ m + pl.fresh =
+    changed-length (vars_in l m ++ replicate pl.fresh None) (take pl.changes.count pl.changes.list) ∙ k in
     cells-then a (rw k (rw e at b)) (omega (arith, k, j))
 
 -- ---- both tables

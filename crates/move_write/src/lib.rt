@@ -12,7 +12,7 @@ ghost use Rattle.move_plan.specs.Plans.{delta_of, new_most, state_in, Within};
 ghost use Rattle.move_write.specs.Writing.{cut_below, napped, procs_after, slept_at, vars_after};
 
 use move_plan::Plan;
-use parlog::{Change, Found, codes};
+use parlog::{Change, codes};
 
 // Where `cut` says so, all below p fall asleep.
 fn cut_below(procs: &mut [u8], n: usize, p: usize, cut: bool)
@@ -36,13 +36,13 @@ fn sleep_at(procs: &mut [u8], n: usize, c: usize)
 }
 
 // The child that falls asleep, if there is one.
-fn nap_at(procs: &mut [u8], n: usize, nap: Found)
+fn nap_at(procs: &mut [u8], n: usize, nap: Option<usize>)
     requires { n * row_size ≤ length procs.old }
     ensures { Table procs.old procs.new (napped nap (procs_of procs.old n)) }
 {
     match nap {
-        Found::At(c) => sleep_at(procs, n, c),
-        Found::Nothing => {}
+        Some(c) => sleep_at(procs, n, c),
+        None => {}
     }
 }
 
@@ -51,11 +51,9 @@ fn append_all(procs: &mut [u8], n: usize, rows: [u8; move_plan::NEW_SIZE], k: us
     requires { ((n + k) * row_size ≤ length procs.old) × (k ≤ new_most) }
     ensures { Table procs.old procs.new (procs_of procs.old n ++ procs_of rows k) }
 {
-    let mut i = 0;
-    while i < k {
+    for i in 0..k {
         let x = rows::get(&rows, k, i);
         rows::append(procs, n + i, x);
-        i += 1;
     }
 }
 
@@ -64,13 +62,9 @@ fn bind_all(vars: &mut [u8], m: usize, list: [Change; codes::MOST_ARITY], k: usi
     requires { (m * cell_size ≤ length vars.old) × (k ≤ 4) × Within m k list }
     ensures { Cells m vars.old vars.new (changed (vars_in vars.old m) (take k list)) }
 {
-    let mut i = 0;
-    while i < k {
-        let c = list[i];
+    for c in &list[..k] {
         let v = basics::wide_u32(c.var);
-        let t = c.to;
-        vars::bind(vars, m, v, t);
-        i += 1;
+        vars::bind(vars, m, v, c.to);
     }
 }
 

@@ -1,4 +1,6 @@
 -- The ways through the choice of a rule: a law for each kind of arm.
+use Rattle.parlog.specs.declared.Term.{Term}
+use Rattle.std.specs.Prelude.{Option}
 use mathlib.Core.Path.{◌≡◌}
 use mathlib.Core.Logic.{◌≢◌}
 use mathlib.Core.List.{List}
@@ -14,7 +16,6 @@ use Rattle.parlog.specs.Program.{Program}
 use Rattle.parlog.specs.Rules.{Applied, equate_at, equate_start, input_match_start, match_at, no_rule, rule_in, rule_of, start_rule, stop_rule, wait_rule, wake_rule}
 use Rattle.parlog.specs.Tables.{at, noted, State}
 use Rattle.parlog.specs.Unify.{some_bound}
-use Rattle.parlog.specs.declared.Binding.{Binding}
 use Rattle.parlog.specs.declared.Process.{Process}
 
 -- ---- the last arms
@@ -92,7 +93,7 @@ module _ (pr : Program) (s : State) (p : ℕ) (x : Process) {a : Applied} (e : x
   wakes h q = ruled suspended pr s p x e h q
 
 -- what is asked of row p is asked of the process there
-pub able-there : (pr : Program) (vs : List Binding) (y x : Process) → x ≡ y → Able pr vs y → Able pr vs x
+pub able-there : (pr : Program) (vs : List (Option Term)) (y x : Process) → x ≡ y → Able pr vs y → Able pr vs x
 able-there pr vs y x e h = rw e h
 
 -- and the mode of the process is that of the row

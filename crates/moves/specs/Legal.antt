@@ -1,15 +1,15 @@
 -- What the functions of the rules ask of the process that moves.
-use Rattle.std.specs.Prelude.{◌≡◌, List, ◌<◌, ◌≤◌, ℕ, length}
+use Rattle.parlog.specs.declared.Term.{Term}
+use Rattle.std.specs.Prelude.{◌≡◌, List, ◌<◌, ◌≤◌, ℕ, length, Option}
 use Rattle.move_plan.specs.Plans.{new_most}
 use Rattle.parlog.specs.Program.{Program}
 use Rattle.parlog.specs.Rules.{block_at, members}
 use Rattle.parlog.specs.Tables.{at, State}
-use Rattle.parlog.specs.declared.Binding.{Binding}
 use Rattle.parlog.specs.declared.Process.{Process}
 use Rattle.rules_match.specs.Starts.{EquateThere, MatchThere}
 
 -- of a process x, by the numbers of its tag and mode
-pub record Able (pr : Program) (vs : List Binding) (x : Process) : Type 0 where
+pub record Able (pr : Program) (vs : List (Option Term)) (x : Process) : Type 0 where
   pub tag : x.tag < 9
   pub mode : x.mode < 6
   pub members : (p : ℕ) → length (members pr p x.spot) ≤ new_most

@@ -1,14 +1,14 @@
 // The rule that applies to a process, by its tag and mode: it reads the tables and answers a plan.
 #![tactic(auto)]
 
+ghost use Rattle.parlog.specs.declared.Term.{Term};
 ghost use Rattle.program_index.specs.Indexed.{Indexed};
-ghost use Rattle.std.specs.Prelude.{◌≡◌, ◌≢◌, List, ◌*◌, ◌≤◌, ◌<◌, length};
+ghost use Rattle.std.specs.Prelude.{◌≡◌, ◌≢◌, List, ◌*◌, ◌≤◌, ◌<◌, length, Option};
 ghost use Rattle.children.specs.Telling.{Tells};
 ghost use Rattle.parlog.specs.Codes.{tag_of};
 ghost use Rattle.parlog.specs.Program.{program_of};
 ghost use Rattle.parlog.specs.Rules.{block_at, members, rule_of, start_rule, wait_rule};
 ghost use Rattle.parlog.specs.Tables.{at, cell_size, procs_of, row_size, State, vars_in};
-ghost use Rattle.parlog.specs.declared.Binding.{Binding};
 ghost use Rattle.move_plan.specs.Plans.{applied_of, new_most, state_in, Within};
 ghost use Rattle.moves.specs.Legal.{Able, Legal};
 
@@ -83,7 +83,7 @@ fn wait_rule(
     told: Told,
 ) -> Plan
     requires { (rels ≤ 32) × (clauses ≤ 64) × (n * row_size ≤ length procs.now) × (n ≤ 65535) × (p < n) × (x.tag < 9) × (x.tag ≡ 1 → x.spot.stage < 255) × (x.tag ≡ 3 → x.spot.block < 255) × Tells (procs_of procs.now n) p told × Indexed image.now rels clauses ix.now }
-    ensures { ((vs : List Binding) → applied_of result ≡ wait_rule (tag_of x.tag) (program_of image.now rels clauses) (record { procs = procs_of procs.entry.now n; vars = vs }) p x) × (result.count ≤ new_most) × (result.changes.count ≡ 0) }
+    ensures { ((vs : List (Option Term)) → applied_of result ≡ wait_rule (tag_of x.tag) (program_of image.now rels clauses) (record { procs = procs_of procs.entry.now n; vars = vs }) p x) × (result.count ≤ new_most) × (result.changes.count ≡ 0) }
 {
     let t = x.tag;
     match t {

@@ -11,13 +11,14 @@ use native.Mathlib.Omega.{arith}
 use native.Mathlib.Nat.{mod-lt}
 use native.Mathlib.Numerals.{add-one}
 use Rattle.name_index.specs.Index.{AddsOne, chain_from, chain_of, Indexed, latest}
+use Rattle.std.specs.Prelude.{None, Some}
 use Rattle.parlog.proofs.Bools.{never}
 use Rattle.parlog.proofs.Scans.{below_suc}
 use Rattle.read_names.proofs.Tabled.{add-full, add-known, add-new, names-append, names_fit, names-length}
 use Rattle.read_names.specs.Tables.{names_at}
 use Rattle.text_names.proofs.Looked.{look-front, look-here, look_none, same-is}
 use Rattle.text_names.specs.Bytes.{front}
-use Rattle.text_names.specs.Names.{look, Name, same_name}
+use Rattle.text_names.specs.Names.{FoundAt, look, Name, same_name}
 
 -- ---- chains
 
@@ -122,10 +123,11 @@ module _ (s t l : List ℕ) (n : ℕ) (x : Name) (ix : Indexed s t l n) where
         told ∙ rw (names-get s (take n t) (k - 1) (omega arith), get_or-take n t (k - 1) 0 g, at)
 
     -- it is the name
-    pub left-found : b ≡ true → (k - 1 ≡ look (names_at s (take n t)) x) × (k - 1 ≤ n)
+    pub left-found : b ≡ true → FoundAt (names_at s (take n t)) x (Some (k - 1))
     left-found e =
         let v = left.inside in
         let o = ix.once (k - 1) (omega arith) in
+        let f = names_fit s t n ix.inside in
         (sym o ∙ ap (look (names_at s (take n t))) (same-is (get_or (names_at s (take n t)) (k - 1) []) x (sym here ∙ e)), omega arith)
 
     -- it is another name: the one before it in the chain is next
@@ -145,12 +147,21 @@ module _ (s t l : List ℕ) (n : ℕ) (x : Name) (ix : Indexed s t l n) where
             go false a = let d = eqb-false j (k - 1) a in left.none j (omega arith) i o
 
   -- none is left
-  pub left_end : (k : ℕ) → k ≤ 0 → Left s t n x k → (n ≡ look (names_at s (take n t)) x) × (n ≤ n)
+  pub left_end : (k : ℕ) → k ≤ 0 → Left s t n x k → FoundAt (names_at s (take n t)) x None
   left_end k g left =
       let z = length-take-le n t ix.inside in
       let w = names-length s (take n t) in
       let e = look_none (names_at s (take n t)) x (λ j i o. left.none j (omega arith) (omega arith) o) in
-      (omega arith, omega arith)
+      omega arith
+
+-- ---- what was found
+
+module _ (s t : List ℕ) (n : ℕ) (x : Name) (h : n ≤ length t) where
+  pub some-less : (k : ℕ) → FoundAt (names_at s (take n t)) x (Some k) → k < n
+  some-less k f = let e = names_fit s t n h in let l = f.1 in omega arith
+
+  pub none-look : FoundAt (names_at s (take n t)) x None → n ≡ look (names_at s (take n t)) x
+  none-look f = let e = names_fit s t n h in omega arith
 
 -- ---- a name added
 

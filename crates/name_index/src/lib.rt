@@ -5,7 +5,7 @@ ghost use Rattle.std.specs.Prelude.{◌≡◌, ◌%◌, ◌*◌, ◌+◌, ◌<�
 ghost use Rattle.name_index.specs.Index.{AddsOne, chain_of, Indexed, Spells};
 ghost use Rattle.read_names.specs.Tables.{names_at};
 ghost use Rattle.text_names.specs.Bytes.{front};
-ghost use Rattle.text_names.specs.Names.{look};
+ghost use Rattle.text_names.specs.Names.{FoundAt};
 
 // How many chains there are.
 pub const CHAINS: usize = 512;
@@ -42,34 +42,42 @@ pub fn name_at(s: &[u8], at: usize) -> Word
     requires { at ≤ length s.now }
     ensures { Spells s.now at result }
 {
-    let mut i = at;
     let mut h = 0;
-    while i < s.len() {
+    for i in at..s.len() {
         let b = place::byte_in(s, i);
         if !text_names::is_name(b) {
             return Word { end: i, chain: h };
         }
         h = chained(h, b);
-        i += 1;
     }
-    Word { end: i, chain: h }
+    Word {
+        end: s.len(),
+        chain: h,
+    }
 }
 
-// The number of the name at q, which is in a chain.
-pub fn find(s: &[u8], places: &[usize], links: &[u16], n: usize, q: usize, chain: usize) -> usize
+// The number of the name at q, which is in a chain, among the first n places; only the contract reads n.
+pub fn find(
+    s: &[u8],
+    places: &[usize],
+    links: &[u16],
+    n: usize,
+    q: usize,
+    chain: usize,
+) -> Option<usize>
     requires { (q ≤ length s.now) × (chain ≡ chain_of (front (drop q s.now))) × Indexed s.now places.now links.now n }
-    ensures { (result ≡ look (names_at s.now (take n places.now)) (front (drop q s.now))) × (result ≤ n) }
+    ensures { FoundAt (names_at s.now (take n places.now)) (front (drop q s.now)) result }
 {
     let mut k = basics::wide_u16(links[chain]);
     while 0 < k {
         let i = k - 1;
         let p = read_names::within(s, places[i]);
         if text_names::same_name(s, p, q) {
-            return i;
+            return Some(i);
         }
         k = basics::wide_u16(links[CHAINS + i]);
     }
-    n
+    None
 }
 
 // The name at q among them, if it is new and there is room.
@@ -84,12 +92,8 @@ pub fn add(
     requires { (q ≤ length s.now) × (chain ≡ chain_of (front (drop q s.now))) × Indexed s.now places.old links.old n }
     ensures { AddsOne s.now places.old links.old n (front (drop q s.now)) places.new links.new result }
 {
-    let k = find(s, places, links, n, q, chain);
-    if k < n {
-        return Added {
-            count: n,
-            number: k,
-        };
+    if let Some(number) = find(s, places, links, n, q, chain) {
+        return Added { count: n, number };
     }
     if n < places.len() {
         places[n] = q;
@@ -97,11 +101,11 @@ pub fn add(
         links[chain] = (n + 1) as u16;
         return Added {
             count: n + 1,
-            number: k,
+            number: n,
         };
     }
     Added {
         count: n,
-        number: k,
+        number: n,
     }
 }

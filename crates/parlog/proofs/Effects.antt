@@ -1,4 +1,6 @@
 -- The one change of the tables is what the relation says of it, and nothing else is.
+use Rattle.parlog.specs.declared.Term.{Term}
+use Rattle.std.specs.Prelude.{Option, None}
 use mathlib.Core.Path.{◌∙◌, ◌≡◌, ap, refl, sym}
 use mathlib.Core.Logic.{◌≢◌}
 use mathlib.Core.Bool.{◌&&◌, ◌||◌, Bool, false, true}
@@ -18,8 +20,6 @@ use Rattle.parlog.specs.Scan.{build}
 use Rattle.parlog.specs.Tables.{at, idle, State}
 use Rattle.parlog.specs.Tree.{below}
 use Rattle.parlog.specs.Unify.{changed}
-use Rattle.parlog.specs.declared.Binding.{Binding}
-use Rattle.parlog.specs.declared.Binding.TheVariants.{Free}
 use Rattle.parlog.specs.declared.Change.{Change}
 
 abbrev pub sleeps_in : State → ℕ → Delta → ℕ → Bool
@@ -30,7 +30,7 @@ pub record Agrees (s : State) (p : ℕ) (d : Delta) (Sleeps : ℕ → Type 0) : 
   pub sleeps : (i : ℕ) → i < length s.procs → sleeps_in s p d i ≡ true → Sleeps i
   pub stays : (i : ℕ) → i < length s.procs → sleeps_in s p d i ≡ false → Sleeps i → ⊥
 
-pub changed-length : (vs : List Binding) (cs : List Change) → length (changed vs cs) ≡ length vs
+pub changed-length : (vs : List (Option Term)) (cs : List Change) → length (changed vs cs) ≡ length vs
 changed-length vs cs = (changed-is vs cs).count
 
 module _ (s : State) (p : ℕ) (d : Delta) where
@@ -40,7 +40,7 @@ module _ (s : State) (p : ℕ) (d : Delta) where
 
   pub apply-vars : length (apply s p d).vars ≡ length s.vars + d.fresh
   unfolding apply
-  apply-vars = changed-length (s.vars ++ replicate d.fresh Free) d.changes ∙ simp (length-append, length-replicate)
+  apply-vars = changed-length (s.vars ++ replicate d.fresh None) d.changes ∙ simp (length-append, length-replicate)
 
   pub apply-row : (i : ℕ) → i < length s.procs → me (apply s p d) i ≡ row_after s.procs p d i
   unfolding apply
@@ -77,7 +77,7 @@ module _ (s : State) (p : ℕ) (d : Delta) where
       slept = λ i h q z. apply-other i h q ∙ rw (slept-by i h z);
       kept = λ i h q n. apply-other i h q ∙ rw (kept_by i h q n);
       created = λ j h. apply-new j;
-      bindings = changed-is (s.vars ++ replicate d.fresh Free) d.changes;
+      bindings = changed-is (s.vars ++ replicate d.fresh None) d.changes;
     }
 
     module _ (s' : State) (r : After s p d.me Sleeps d.new d.changes d.fresh s') where

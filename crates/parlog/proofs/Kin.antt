@@ -1,4 +1,5 @@
 -- Children, the latest one, what they report, and what is below: the scans find what the relation says.
+use Rattle.std.specs.Prelude.{Option, Some, None}
 use mathlib.Core.Path.{◌∙◌, ◌≡◌, refl, sym}
 use mathlib.Core.Logic.{◌≢◌}
 use mathlib.Core.Bool.{◌||◌, Bool, cond, false, not, true}
@@ -13,8 +14,6 @@ use Rattle.parlog.specs.Codes.{failure, is_mode, is_result, is_tag, mode_code, r
 use Rattle.parlog.specs.Notions.{above_parent, AllReport, Below, Child, deeper, Hears, is_parent, Latest, LowestReports, me, Nearest, next_below, Reports, SomeReports}
 use Rattle.parlog.specs.Tables.{rank, State}
 use Rattle.parlog.specs.Tree.{all_children, any_child, bad, below, child_done, child_reports, climb, enclosing, good, heard, heard_from, is_child, latest, lowest_child, reports, silent, try_above}
-use Rattle.parlog.specs.declared.Found.{Found}
-use Rattle.parlog.specs.declared.Found.TheVariants.{At, Nothing}
 
 pub record Kin (s : State) : Type 0 where
   pub lower : (i : ℕ) → i < length s.procs → i ≢ 0 → rank s.procs (me s i).parent < rank s.procs i
@@ -47,13 +46,13 @@ not-both s c a b = let z = sym a.result ∙ b.result in omega arith
 module _ (s : State) (p : ℕ) where
   -- ---- the latest child
 
-  pub latest-at : (c : ℕ) → latest s.procs p ≡ At c → Latest s p c
+  pub latest-at : (c : ℕ) → latest s.procs p ≡ Some c → Latest s p c
   unfolding latest
   latest-at c e =
       let r = highest-at (is_child s.procs p) (length s.procs) c e in
       record { child = child-at s p c r.there r.passes; none_higher = λ i d. r.tops i d.there (child-test s p d) }
 
-  pub latest-is : {c : ℕ} → Latest s p c → latest s.procs p ≡ At c
+  pub latest-is : {c : ℕ} → Latest s p c → latest s.procs p ≡ Some c
   unfolding latest
   latest-is {c} l =
       highest-is (is_child s.procs p) (length s.procs) c
@@ -68,9 +67,9 @@ module _ (s : State) (p : ℕ) where
       on d l false true qa qb w = let z : ◌≡◌ {A = ℕ} 0 1 = cc in absurd (omega arith)
       on d l false false qa qb w = let z : ◌≡◌ {A = ℕ} 0 1 = cc in absurd (omega arith)
 
-      go : (f : Found) → latest s.procs p ≡ f → heard_from s.procs f ≡ good c → Hears s p c success
-      go Nothing q w = let z : ◌≡◌ {A = ℕ} 0 1 = cc in absurd (omega arith)
-      go (At d) q w = on d (latest-at d q) (reports success (me s d)) (reports failure (me s d)) refl refl w
+      go : (f : Option ℕ) → latest s.procs p ≡ f → heard_from s.procs f ≡ good c → Hears s p c success
+      go None q w = let z : ◌≡◌ {A = ℕ} 0 1 = cc in absurd (omega arith)
+      go (Some d) q w = on d (latest-at d q) (reports success (me s d)) (reports failure (me s d)) refl refl w
 
   pub heard-bad : (c : ℕ) → heard s.procs p ≡ bad c → Hears s p c failure
   unfolding heard heard_from
@@ -81,9 +80,9 @@ module _ (s : State) (p : ℕ) where
       on d l false true qa qb w = let z : d ≡ c = cc in rw (← z) (record { latest = l; reports = reports-at s d failure qb })
       on d l false false qa qb w = let z : ◌≡◌ {A = ℕ} 0 1 = cc in absurd (omega arith)
 
-      go : (f : Found) → latest s.procs p ≡ f → heard_from s.procs f ≡ bad c → Hears s p c failure
-      go Nothing q w = let z : ◌≡◌ {A = ℕ} 0 1 = cc in absurd (omega arith)
-      go (At d) q w = on d (latest-at d q) (reports success (me s d)) (reports failure (me s d)) refl refl w
+      go : (f : Option ℕ) → latest s.procs p ≡ f → heard_from s.procs f ≡ bad c → Hears s p c failure
+      go None q w = let z : ◌≡◌ {A = ℕ} 0 1 = cc in absurd (omega arith)
+      go (Some d) q w = on d (latest-at d q) (reports success (me s d)) (reports failure (me s d)) refl refl w
 
   pub hears-good : {c : ℕ} → Hears s p c success → heard s.procs p ≡ good c
   unfolding heard heard_from
@@ -131,7 +130,7 @@ module _ (s : State) (p : ℕ) where
   pub all-fail : AllReport s p failure → SomeReports s p success → ⊥
   all-fail q a = not-both s a.which a.reports (q a.which a.child)
 
-  pub lowest-child-at : (r : Result) (c : ℕ) → lowest_child r s.procs p ≡ At c → LowestReports s p c r
+  pub lowest-child-at : (r : Result) (c : ℕ) → lowest_child r s.procs p ≡ Some c → LowestReports s p c r
   unfolding lowest_child child_reports
   lowest-child-at r c e =
       let q = lowest-at (child_reports r s.procs p) (length s.procs) c e in
@@ -142,7 +141,7 @@ module _ (s : State) (p : ℕ) where
         none_lower = λ i d w. q.least i d.there (true-and (is_child s.procs p i) (reports r (me s i)) (child-test s p d) (reports-test s i r w));
       }
 
-  pub lowest-child-is : (r : Result) {c : ℕ} → LowestReports s p c r → lowest_child r s.procs p ≡ At c
+  pub lowest-child-is : (r : Result) {c : ℕ} → LowestReports s p c r → lowest_child r s.procs p ≡ Some c
   unfolding lowest_child child_reports
   lowest-child-is r {c} q =
       lowest-is (child_reports r s.procs p) (length s.procs) c
@@ -152,13 +151,13 @@ module _ (s : State) (p : ℕ) where
         least = λ i h e. let a = and-true (is_child s.procs p i) (reports r (me s i)) e in q.none_lower i (child-at s p i h a.0) (reports-at s i r a.1);
       })
 
-  pub lowest-child-none : (r : Result) → lowest_child r s.procs p ≡ Nothing → SomeReports s p r → ⊥
+  pub lowest-child-none : (r : Result) → lowest_child r s.procs p ≡ None → SomeReports s p r → ⊥
   unfolding lowest_child child_reports
   lowest-child-none r e q =
       never (sym (lowest-none (child_reports r s.procs p) (length s.procs) q.which e q.child.there)
       ∙ true-and (is_child s.procs p q.which) (reports r (me s q.which)) (child-test s p q.child) (reports-test s q.which r q.reports))
 
-  pub no-lowest-child : (r : Result) → (SomeReports s p r → ⊥) → lowest_child r s.procs p ≡ Nothing
+  pub no-lowest-child : (r : Result) → (SomeReports s p r → ⊥) → lowest_child r s.procs p ≡ None
   unfolding lowest_child child_reports
   no-lowest-child r n =
       lowest-nothing (child_reports r s.procs p) (length s.procs)
@@ -199,16 +198,16 @@ module _ (s : State) (p : ℕ) where
 
 module _ (s : State) (k : Kin s) where
   near-from : (n i c : ℕ) → i < length s.procs → i ≢ 0 → (b : Bool) → is_tag try_clause (me s (me s i).parent).tag ≡ b
-      → (try_above n s.procs (me s i).parent ≡ At c → Nearest s (me s i).parent c) → cond b (At (me s i).parent) (try_above n s.procs (me s i).parent) ≡ At c → Nearest s i c
+      → (try_above n s.procs (me s i).parent ≡ Some c → Nearest s (me s i).parent c) → cond b (Some (me s i).parent) (try_above n s.procs (me s i).parent) ≡ Some c → Nearest s i c
   near-from n i c h o true q back e =
       let z : (me s i).parent ≡ c = cc in
       rw (← z) (is_parent (record { there = h; other = o; parent = refl }) (eqb-true (me s (me s i).parent).tag (tag_code try_clause) q))
   near-from n i c h o false q back e = above_parent (record { there = h; other = o; parent = refl }) (eqb-false (me s (me s i).parent).tag (tag_code try_clause) q) (back e)
 
-  nothing-at : {X : Type 0} {c : ℕ} → Nothing ≡ At c → X
+  nothing-at : {X : Type 0} {c : ℕ} → None ≡ Some c → X
   nothing-at e = let z : ◌≡◌ {A = ℕ} 0 1 = cc in absurd (omega arith)
 
-  near_by : (n i c : ℕ) → i < length s.procs → try_above n s.procs i ≡ At c → Nearest s i c
+  near_by : (n i c : ℕ) → i < length s.procs → try_above n s.procs i ≡ Some c → Nearest s i c
   unfolding try_above
   near_by zero i c h e = nothing-at e
   near_by (suc n) i c h e = split (eqb i 0)
@@ -216,11 +215,11 @@ module _ (s : State) (k : Kin s) where
       (λ q. let o : i ≢ 0 = eqb-false i 0 q in
       near-from n i c h o (is_tag try_clause (me s (me s i).parent).tag) refl (near_by n (me s i).parent c (omega (arith, k.lower i h o))) (rw q at e))
 
-  pub nearest-at : (i c : ℕ) → i < length s.procs → enclosing s.procs i ≡ At c → Nearest s i c
+  pub nearest-at : (i c : ℕ) → i < length s.procs → enclosing s.procs i ≡ Some c → Nearest s i c
   unfolding enclosing
   nearest-at i c h e = near_by (length s.procs) i c h e
 
-  near-is : (n : ℕ) {i c : ℕ} → Nearest s i c → i ≤ n → try_above n s.procs i ≡ At c
+  near-is : (n : ℕ) {i c : ℕ} → Nearest s i c → i ≤ n → try_above n s.procs i ≡ Some c
   unfolding try_above
   near-is zero {i} (is_parent c t) h = absurd (c.other (omega arith))
   near-is (suc n) {i} (is_parent c t) h = rw (ne_eqb i 0 c.other, c.parent, t)
@@ -229,6 +228,6 @@ module _ (s : State) (k : Kin s) where
       rw (ne_eqb i 0 c.other, c.parent, ne_eqb (me s j).tag (tag_code try_clause) t)
       (near-is n r (let w = k.lower i c.there c.other in let z = c.parent in omega arith))
 
-  pub nearest-is : {i c : ℕ} → i < length s.procs → Nearest s i c → enclosing s.procs i ≡ At c
+  pub nearest-is : {i c : ℕ} → i < length s.procs → Nearest s i c → enclosing s.procs i ≡ Some c
   unfolding enclosing
   nearest-is h r = near-is (length s.procs) r (omega arith)

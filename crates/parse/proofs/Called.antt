@@ -1,4 +1,6 @@
 -- The ways through a parse.
+use Rattle.parlog.specs.Answer.{Answer}
+use Rattle.std.specs.Prelude.{Err, Ok}
 use mathlib.Core.Path.{◌∙◌, ◌≡◌, ap, refl, sym}
 use mathlib.Core.Bool.{◌&&◌, ◌||◌, Bool, false, not, true}
 use mathlib.Core.List.{[], ◌++◌, ◌∷◌, append_assoc, List}
@@ -26,13 +28,11 @@ use Rattle.lay_text.specs.declared.To.{To}
 use Rattle.parlog.proofs.Bools.{and-true, or-false}
 use Rattle.parlog.specs.Load.{after, long, nothing_read, refusal}
 use Rattle.parlog.specs.Tables.{written}
-use Rattle.parlog.specs.declared.Loaded.TheVariants.{Accepted, Refused}
 use Rattle.parlog.specs.declared.Refusal.{Refusal}
 use Rattle.parse.specs.Says.{fitted, fitted_by, ParseSays, Tells}
 use Rattle.read_names.proofs.Tabled.{adds_then, names-length, sorted-append}
 use Rattle.read_names.specs.Tables.{Adds, mode_names, modes_from, names_at, sorted}
 use Rattle.spell.specs.Stuck.{spelling_of}
-use Rattle.spell.specs.declared.Spelt.TheVariants.{Right, Stuck}
 use Rattle.text_names.proofs.Added.{adds-length}
 use Rattle.text_names.specs.Bytes.{skip}
 use Rattle.text_names.specs.Entries.{entries}
@@ -42,8 +42,6 @@ use Rattle.text_program.specs.Encoded.{program_bytes}
 use Rattle.text_program.specs.Numbered.{clause_terms, constant_names, goal_terms, joined, lowers, program_in, relation_names}
 use Rattle.text_program.specs.Parsing.{all_of, clause_declared, declared, fitting, goal_declared, image_in, literal_declared, names_in, not_long, ParseCall, parse_call, records_in, sourced, unread}
 use Rattle.text_program.specs.Source.{behind_arrow, calls, equals, is_clause, is_mode_line, lines, ModeLine, read_body, read_clause, read_mode_line, Said, SaidClause, Source, source_of}
-use Rattle.text_program.specs.declared.Parsed.{Parsed}
-use Rattle.text_program.specs.declared.Parsed.TheVariants.{Read}
 use Rattle.text_taken.proofs.Low.{low-image}
 use Rattle.text_taken.proofs.Taken.{ask-taken, clauses-taken, image-long, modes-taken, terms-few}
 
@@ -85,7 +83,7 @@ measured-at bs e v = v.place ∙ rw e (ap capped (zero-add (length bs)))
 
 module _ {image names i n1 n2 : List ℕ} {w e f g : To} {ok : Bool} (bs ks ls : List ℕ) where
   pub room : (x y : ℕ) (short : Bool) → w.at ≡ 0 → x ≡ capped (length bs) → y ≡ capped (length (ks ++ ls)) → short ≡ (ltb (length image) x || ltb (length names) y) → short ≡ false → length image < most → length names < most →
-      Writes image w bs ok i e → Writes names w ks true n1 f → Writes n1 f ls true n2 g → record { answer = Read e.at g.at; image = i; names = n2 } ≡ fitted image names bs (ks ++ ls)
+      Writes image w bs ok i e → Writes names w ks true n1 f → Writes n1 f ls true n2 g → record { answer = Ok (e.at, g.at); image = i; names = n2 } ≡ fitted image names bs (ks ++ ls)
   unfolding fitted
   room x y short z p q h s l k a b c =
       let u = or-false (ltb (length image) x) (ltb (length names) y) (sym h ∙ s) in
@@ -200,7 +198,7 @@ module _ (s : List ℕ) (m c : ℕ) (g : List (List Said)) (a : drop m s ≡ ski
     pub not-declared : not known ≡ true → unread image names (refusal 17 0) ≡ sourced image names (declared (source_of s)) (source_of s)
     not-declared h = rw (source_told, sym known-told ∙ not-true known h)
 
-    pub judged-refused : (r : Refusal) → not known ≡ false → relations_judged (mode_names (modes_from s m)) (clauses_behind_modes s m) (modes_of (modes_from s m)) 0 nothing_read ≡ Refused r → unread image names r ≡ sourced image names (declared (source_of s)) (source_of s)
+    pub judged-refused : (r : Refusal) → not known ≡ false → relations_judged (mode_names (modes_from s m)) (clauses_behind_modes s m) (modes_of (modes_from s m)) 0 nothing_read ≡ Err r → unread image names r ≡ sourced image names (declared (source_of s)) (source_of s)
     judged-refused r h e =
         let k = sym known-told ∙ not-false known h in
         rw (source_told, k, sym (records-told k) ∙ e)
@@ -219,7 +217,7 @@ module _ (s : List ℕ) (m c : ℕ) (g : List (List Said)) (a : drop m s ≡ ski
   unfolding declared
   declared-parts e = and-true (all_of (clause_declared (mode_names (modes_from s m))) (clauses_from s c)) (goal_declared (mode_names (modes_from s m)) g) e
 
-  pub taken_at : (r k : ℕ) → relations_judged (mode_names (modes_from s m)) (clauses_behind_modes s m) (modes_of (modes_from s m)) 0 nothing_read ≡ Accepted r k → TakenAt
+  pub taken_at : (r k : ℕ) → relations_judged (mode_names (modes_from s m)) (clauses_behind_modes s m) (modes_of (modes_from s m)) 0 nothing_read ≡ Ok (r, k) → TakenAt
   taken_at r k e =
       let t = modes-taken (mode_names (modes_from s m)) (clauses_behind_modes s m) r k (modes_from s m) 0 nothing_read refl (omega arith) e in
       let t1 = t.1 in
@@ -257,7 +255,7 @@ module _ (s : List ℕ) (m c : ℕ) (g : List (List Said)) (a : drop m s ≡ ski
   not-long bs h = le-ltb 32768 (length bs) (omega arith)
 
   pub judged-taken : (image names : List ℕ) (known x y : Bool) → known ≡ (x && y) → x ≡ all_of (clause_fits false (modes_from s m)) (clauses_from s c) → y ≡ goal_fits false (modes_from s m) g → not known ≡ false → (r k : ℕ) →
-      relations_judged (mode_names (modes_from s m)) (clauses_behind_modes s m) (modes_of (modes_from s m)) 0 nothing_read ≡ Accepted r k →
+      relations_judged (mode_names (modes_from s m)) (clauses_behind_modes s m) (modes_of (modes_from s m)) 0 nothing_read ≡ Ok (r, k) →
       fitted image names (lows (image_with (modes_from s m) (constants_in s c g) (clauses_from s c) g)) (entries (mode_names (modes_from s m)) ++ entries (constants_in s c g)) ≡ sourced image names (declared (source_of s)) (source_of s)
   judged-taken image names known x y is xs ys h r k e =
       let o = sym (known-told image names known x y is xs ys) ∙ not-false known h in
@@ -267,14 +265,14 @@ module _ (s : List ℕ) (m c : ℕ) (g : List (List Said)) (a : drop m s ≡ ski
       rw (source_told, o, sym (records-told o) ∙ e, t.low o)
       (fitted-fitting image names source_at bs es image-told names-told (not-long bs t.short))
 
-pub parse-spelled : (image names s : List ℕ) {x : Parsed} {i n : List ℕ} → spelling_of s ≡ Right → Tells (sourced image names (declared (source_of s)) (source_of s)) x i n → ParseSays image names s x i n
+pub parse-spelled : (image names s : List ℕ) {x : Answer (ℕ × ℕ)} {i n : List ℕ} → spelling_of s ≡ Ok tt → Tells (sourced image names (declared (source_of s)) (source_of s)) x i n → ParseSays image names s x i n
 unfolding parse_call
 parse-spelled image names s e v = rw e v
 
-pub parse-stuck : (image names s : List ℕ) (i : ℕ) → spelling_of s ≡ Stuck i → unread image names (refusal 16 i) ≡ parse_call image names s
+pub parse-stuck : (image names s : List ℕ) (i : ℕ) → spelling_of s ≡ Err i → unread image names (refusal 16 i) ≡ parse_call image names s
 unfolding parse_call
 parse-stuck image names s i e = rw e
 
 -- a parse has one answer and leaves one pair of rows
-pub parse-once : (image names s : List ℕ) {a b : Parsed} {i j n o : List ℕ} → ParseSays image names s a i n → ParseSays image names s b j o → (a ≡ b) × (i ≡ j) × (n ≡ o)
+pub parse-once : (image names s : List ℕ) {a b : Answer (ℕ × ℕ)} {i j n o : List ℕ} → ParseSays image names s a i n → ParseSays image names s b j o → (a ≡ b) × (i ≡ j) × (n ≡ o)
 parse-once image names s f g = (f.answers ∙ sym g.answers, f.imaged ∙ sym g.imaged, f.named ∙ sym g.named)

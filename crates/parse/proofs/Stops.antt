@@ -1,4 +1,6 @@
 -- The ways through a parse that takes its text in one pass.
+use Rattle.std.specs.Prelude.{Err, Ok}
+use Rattle.parlog.specs.Answer.{Answer}
 use mathlib.Core.Path.{◌∙◌, ◌≡◌, ap, refl, sym}
 use mathlib.Core.Bool.{◌&&◌, ◌||◌, and_assoc, Bool, false, not, true}
 use mathlib.Core.List.{[], ◌++◌, append_assoc, List}
@@ -24,16 +26,15 @@ use Rattle.mode_table.specs.declared.Lines.{Lines}
 use Rattle.name_index.specs.Index.{Indexed}
 use Rattle.parlog.proofs.Bools.{or-none}
 use Rattle.parlog.specs.Load.{after, nothing_read, refusal}
-use Rattle.parlog.specs.declared.Loaded.{Loaded}
-use Rattle.parlog.specs.declared.Loaded.TheVariants.{Refused}
 use Rattle.parlog.specs.declared.Progress.{Progress}
+use Rattle.parlog.specs.declared.Refusal.{Refusal}
 use Rattle.parse.proofs.Called.{constants_in, constants-room, constants-told, judged-refused, judged-taken, not-declared, taken_at}
 use Rattle.parse.specs.Says.{fitted}
-use Rattle.parse.specs.Ways.{ask_number, Behind, offset_of, stop_as}
+use Rattle.parse.specs.Ways.{ask_tested, Behind, stop_as}
 use Rattle.read_names.specs.Tables.{mode_names, modes_from, names_at}
 use Rattle.take_clause.specs.TakesClause.{TakesAsk}
 use Rattle.take_clause.specs.declared.Taken.{Taken}
-use Rattle.take_modes.specs.TakesModes.{said_by, TakesModes}
+use Rattle.take_modes.specs.TakesModes.{ModesRefused, ModesTaken, said_by}
 use Rattle.take_modes.specs.declared.Modes.{Modes}
 use Rattle.take_term.proofs.Laws.{adds-room, extends-refl, extends-then, lows-length}
 use Rattle.take_term.specs.Takes.{Extends}
@@ -63,7 +64,7 @@ pub stop-no : (d : Bool) (number at : ℕ) → d ≡ false → refusal 17 0 ≡ 
 stop-no d number at h = rw h
 
 -- no clause is left over
-refused-by : (n at : ℕ) (x : Loaded) → (n ≡ 0 → ⊥) → said_by n at x ≡ Refused (refusal n at)
+refused-by : (n at : ℕ) (x : Answer (ℕ × ℕ)) → (n ≡ 0 → ⊥) → said_by n at x ≡ Err (refusal n at)
 refused-by zero at x h = absurd (h refl)
 refused-by (suc n) at x h = refl
 
@@ -72,35 +73,33 @@ abbrev goal_at : List ℕ → ℕ → List (List Said)
 goal_at s c = (read_body (behind_arrow (lines is_clause read_clause (drop c s)).rest)).value
 
 -- the tests of all records
-abbrev judged_in : List ℕ → ℕ → Loaded
+abbrev judged_in : List ℕ → ℕ → Answer (ℕ × ℕ)
 judged_in s m = relations_judged (mode_names (modes_from s m)) (clauses_behind_modes s m) (modes_of (modes_from s m)) 0 nothing_read
 
 module _ (s : List ℕ) (m c : ℕ) (a : drop m s ≡ skip s) (b : drop c s ≡ (lines is_mode_line read_mode_line (drop m s)).rest) (image names : List ℕ) where
-  stop-tells : (d : Bool) (number at : ℕ) → d ≡ declared_in s m (lines is_clause read_clause (drop c s)) → judged_in s m ≡ Refused (refusal number at) → unread image names (stop_as d number at) ≡ sourced image names (declared (source_of s)) (source_of s)
+  stop-tells : (d : Bool) (number at : ℕ) → d ≡ declared_in s m (lines is_clause read_clause (drop c s)) → judged_in s m ≡ Err (refusal number at) → unread image names (stop_as d number at) ≡ sourced image names (declared (source_of s)) (source_of s)
   stop-tells true number at e f = judged-refused s m c (goal_at s c) a b refl image names true _ _ e refl refl (refusal number at) refl f
   stop-tells false number at e f = not-declared s m c (goal_at s c) a b refl image names false _ _ e refl refl refl
 
   -- a mode line is refused
-  pub stop-modes : {o p t u l : List ℕ} {r : Modes} (d : Bool) → TakesModes s m o p t u l r → (r.number ≡ 0 → ⊥) → d ≡ declared_behind s m →
-      unread image names (stop_as d r.number r.at) ≡ sourced image names (declared (source_of s)) (source_of s)
-  stop-modes {r = r} d t h e =
-      stop-tells d r.number r.at (e ∙ ap (λ (y : List ℕ). declared_in s m (lines is_clause read_clause y)) (sym b)) (t.said (clauses_behind_modes s m) ∙ refused-by r.number r.at _ h)
+  pub stop-modes : {o p : List ℕ} {f : Refusal} (d : Bool) → ModesRefused s m o p f → d ≡ declared_behind s m → unread image names (stop_as d f.number f.offset) ≡ sourced image names (declared (source_of s)) (source_of s)
+  stop-modes {f = f} d t e = stop-tells d f.number f.offset (e ∙ ap (λ (y : List ℕ). declared_in s m (lines is_clause read_clause y)) (sym b)) (t.said (clauses_behind_modes s m))
 
 -- no mode line is refused
-pub behind-modes : {s o p t u l : List ℕ} {m : ℕ} {r : Modes} → TakesModes s m o p t u l r → r.number ≡ 0 → drop m s ≡ skip s → m ≤ length s → length o ≡ 12800 → Behind s p r.lines r.rest r.at r.known
-behind-modes {s} {o} {p} {m = m} {r = r} t none a i z =
+pub behind-modes : {s o p t u l : List ℕ} {m : ℕ} {r : Modes} → ModesTaken s m o p t u l r → drop m s ≡ skip s → m ≤ length s → length o ≡ 12800 → Behind s p r.lines r.rest r.at r.known
+behind-modes {s} {o} {p} {m = m} {r = r} t a i z =
     record {
       start = o;
       size = z;
-      row = rw t.from (t.bytes none);
-      place = rw t.from (t.place none);
-      said = λ next. rw t.from (t.said next ∙ rw none refl);
+      row = rw t.from t.bytes;
+      place = rw t.from t.place;
+      said = λ next. rw t.from (t.said next);
       opening = t.opening;
       near = t.near;
       from = rw t.from a;
       from_in = rw t.from i;
       rest_in = t.inside;
-      rest = rw t.from (t.rest none);
+      rest = rw t.from t.rest;
     }
 
 -- and a name that is in no table has no mode line
@@ -116,11 +115,17 @@ all-declared {s} {t} {w = w} m =
 
 -- ---- all is right
 
-ask-all : (d f i : Bool) → ask_number d f i ≡ 0 → (d ≡ true) × (f ≡ true) × (i ≡ true)
-ask-all true true true e = (refl, refl, refl)
-ask-all true true false e = absurd (omega arith)
-ask-all true false i e = absurd (omega arith)
-ask-all false f i e = absurd (omega arith)
+err-same : {A : Type 0} {a b : Refusal} → ◌≡◌ {A = Answer A} (Err a) (Err b) → a ≡ b
+err-same e = cc
+
+never-ok : {A X : Type 0} {a : Refusal} {x : A} → ◌≡◌ {A = Answer A} (Err a) (Ok x) → X
+never-ok e = absurd (let z : ◌≡◌ {A = ℕ} 0 1 = cc in omega arith)
+
+ask-all : (d f i : Bool) (at : ℕ) → ask_tested d f i at ≡ Ok tt → (d ≡ true) × (f ≡ true) × (i ≡ true)
+ask-all true true true at e = (refl, refl, refl)
+ask-all true true false at e = never-ok e
+ask-all true false i at e = never-ok e
+ask-all false f i at e = never-ok e
 
 not-of : (x : Bool) → x ≡ true → not x ≡ false
 not-of x e = rw e
@@ -186,21 +191,20 @@ module _ {s o : List ℕ} {w : Lines} {begin at : ℕ} {g : Progress} (b : Behin
         known_is = known ∙ rw (c.all none, k.declared) refl
 
         -- the goal is refused, or a call has no mode line
-        pub ask-refused : (number : ℕ) → number ≡ ask_number d x.right x.fits → (number ≡ 0 → ⊥) → unread image names (refusal number (offset_of number r.at)) ≡ sourced image names (declared (source_of s)) (source_of s)
-        unfolding offset_of
-        ask-refused number e h = go d x.right x.fits known_is k.right k.fits e
+        pub ask-refused : (z : Refusal) → ask_tested d x.right x.fits r.at ≡ Err z → unread image names z ≡ sourced image names (declared (source_of s)) (source_of s)
+        ask-refused z e = go d x.right x.fits known_is k.right k.fits e
           where
             go : (d f i : Bool) → d ≡ (all_of (clause_fits false (modes_from s w.from)) (clauses_from s begin) && goal_fits false (modes_from s w.from) (read_body (drop q s)).value) →
-                f ≡ ask_right (read_body (drop q s)).value → i ≡ goal_fits true (modes_from s w.from) (read_body (drop q s)).value → number ≡ ask_number d f i →
-                unread image names (refusal number (offset_of number r.at)) ≡ sourced image names (declared (source_of s)) (source_of s)
-            go false f i e1 e2 e3 e4 = rw e4 (not-declared s w.from begin (read_body (drop q s)).value b.from b.rest (sym goal-is) image names false _ _ e1 refl refl refl)
+                f ≡ ask_right (read_body (drop q s)).value → i ≡ goal_fits true (modes_from s w.from) (read_body (drop q s)).value → ask_tested d f i r.at ≡ Err z →
+                unread image names z ≡ sourced image names (declared (source_of s)) (source_of s)
+            go false f i e1 e2 e3 e4 = rw (← err-same e4) (not-declared s w.from begin (read_body (drop q s)).value b.from b.rest (sym goal-is) image names false _ _ e1 refl refl refl)
             go true false i e1 e2 e3 e4 =
-                rw e4 (judged-refused s w.from begin (read_body (drop q s)).value b.from b.rest (sym goal-is) image names true _ _ e1 refl refl (refusal 4 r.at) refl
+                rw (← err-same e4) (judged-refused s w.from begin (read_body (drop q s)).value b.from b.rest (sym goal-is) image names true _ _ e1 refl refl (refusal 4 r.at) refl
                 (all-judged ∙ sym (ask-wrong (modes_from s w.from) r.known (read_body (drop q s)).value r.at c.counted false e2 refl)))
             go true true false e1 e2 e3 e4 =
-                rw e4 (judged-refused s w.from begin (read_body (drop q s)).value b.from b.rest (sym goal-is) image names true _ _ e1 refl refl (refusal 5 r.at) refl
+                rw (← err-same e4) (judged-refused s w.from begin (read_body (drop q s)).value b.from b.rest (sym goal-is) image names true _ _ e1 refl refl (refusal 5 r.at) refl
                 (all-judged ∙ sym (ask-lost (modes_from s w.from) r.known (read_body (drop q s)).value r.at c.counted true e2 false e3 refl refl)))
-            go true true true e1 e2 e3 e4 = absurd (h e4)
+            go true true true e1 e2 e3 e4 = never-ok (sym e4)
 
         -- all is right, so the row has the image and the table has the constants
         pub record Whole : Type 0 where
@@ -208,10 +212,10 @@ module _ {s o : List ℕ} {w : Lines} {begin at : ℕ} {g : Progress} (b : Behin
           pub in_row : x.at ≤ length p'
           pub in_table : x.consts ≤ length u'
 
-        pub all-taken : ask_number d x.right x.fits ≡ 0 → length t ≡ 4385 → Whole
+        pub all-taken : ask_tested d x.right x.fits r.at ≡ Ok tt → length t ≡ 4385 → Whole
         unfolding image_with
         all-taken e long =
-            let f = ask-all d x.right x.fits e in
+            let f = ask-all d x.right x.fits r.at e in
             let m = w.from in
             let ms = modes_from s m in
             let G = (read_body (drop q s)).value in

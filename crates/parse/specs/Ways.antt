@@ -1,5 +1,6 @@
 -- The ways through a parse: what is known behind the mode lines, and which refusal is told.
-use Rattle.std.specs.Prelude.{◌≡◌, Bool, cond, false, true, List, ◌≤◌, ℕ, eqb, drop, length}
+use Rattle.parlog.specs.Answer.{Answer}
+use Rattle.std.specs.Prelude.{◌≡◌, Bool, false, true, List, ◌≤◌, ℕ, drop, length, Err, Ok, ⊤}
 use Rattle.judge_image.specs.Judged.{relations_judged}
 use Rattle.judge_lines.specs.Whole.{Opening}
 use Rattle.lay.specs.Lay.{laid}
@@ -7,7 +8,6 @@ use Rattle.lay_lines.specs.Lines.{modes_of}
 use Rattle.lay_literal.specs.Lows.{lows}
 use Rattle.mode_table.specs.declared.Lines.{Lines}
 use Rattle.parlog.specs.Load.{nothing_read, refusal}
-use Rattle.parlog.specs.declared.Loaded.{Loaded}
 use Rattle.parlog.specs.declared.Progress.{Progress}
 use Rattle.parlog.specs.declared.Refusal.{Refusal}
 use Rattle.read_names.specs.Tables.{mode_names, modes_from}
@@ -21,16 +21,12 @@ abbrev pub stop_as : Bool → ℕ → ℕ → Refusal
 stop_as true number at = refusal number at
 stop_as false number at = refusal 17 0
 
--- 17, 4, 5 or none for the goal
-abbrev pub ask_number : Bool → Bool → Bool → ℕ
-ask_number false right fits = 17
-ask_number true false fits = 4
-ask_number true true false = 5
-ask_number true true true = 0
-
--- 17 is told without a place
-unfoldable pub offset_of : ℕ → ℕ → ℕ
-offset_of number at = cond (eqb number 17) 0 at
+-- 17, 4, 5 or none for the goal at a place; 17 is told without it
+abbrev pub ask_tested : Bool → Bool → Bool → ℕ → Answer ⊤
+ask_tested false right fits at = Err (refusal 17 0)
+ask_tested true false fits at = Err (refusal 4 at)
+ask_tested true true false at = Err (refusal 5 at)
+ask_tested true true true at = Ok tt
 
 -- the mode lines of a text are taken into row o, up to a place, and this is known behind them; the clauses begin at another place
 pub record Behind (s o : List ℕ) (w : Lines) (begin at : ℕ) (g : Progress) : Type 0 where
@@ -38,7 +34,7 @@ pub record Behind (s o : List ℕ) (w : Lines) (begin at : ℕ) (g : Progress) :
   pub size : length start ≡ 12800
   pub row : o ≡ laid start 0 (lows (joined relation_bytes (modes_of (modes_from s w.from))))
   pub place : at ≡ length (joined relation_bytes (modes_of (modes_from s w.from)))
-  pub said : (next : ℕ → Progress → Loaded) → relations_judged (mode_names (modes_from s w.from)) next (modes_of (modes_from s w.from)) 0 nothing_read ≡ next at g
+  pub said : (next : ℕ → Progress → Answer (ℕ × ℕ)) → relations_judged (mode_names (modes_from s w.from)) next (modes_of (modes_from s w.from)) 0 nothing_read ≡ next at g
   pub opening : Opening g
   pub near : at ≤ 16384
   pub from : drop w.from s ≡ skip s

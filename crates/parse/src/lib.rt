@@ -1,23 +1,20 @@
 // The call that reads a clause text: its image and its names in two lent rows, or a refusal that changes nothing.
 #![tactic(auto)]
 
-ghost use Rattle.std.specs.Prelude.{◌++◌, ◌≡◌, ◌<◌, ◌≤◌, length, take};
+ghost use Rattle.std.specs.Prelude.{◌++◌, ◌≡◌, ◌<◌, ◌≤◌, length, Err};
 ghost use Rattle.mode_table.specs.Moded.{Moded};
 ghost use Rattle.name_index.specs.Index.{Indexed};
 ghost use Rattle.parlog.specs.Load.{refusal};
 ghost use Rattle.parse.specs.Says.{fitted, ParseSays, Tells};
-ghost use Rattle.parse.specs.Ways.{ask_number, Behind, offset_of, stop_as};
+ghost use Rattle.parse.specs.Ways.{ask_tested, Behind, stop_as};
 ghost use Rattle.read_names.specs.Tables.{mode_names, modes_from, names_at};
 ghost use Rattle.text_names.specs.Entries.{entries};
 ghost use Rattle.text_program.specs.Parsing.{declared, sourced};
 ghost use Rattle.text_program.specs.Source.{source_of};
-ghost use Rattle.text_program.specs.declared.Parsed.TheVariants.{Unread};
 
 use lay_text::To;
 use mode_table::Lines;
-use parlog::{Progress, Refusal, codes};
-use spell::Spelt;
-use text_program::Parsed;
+use parlog::{Answer, Progress, Refusal, codes};
 
 // 16, TEXT.
 const TEXT: u8 = 16;
@@ -32,22 +29,16 @@ const IMAGE: usize = 12800;
 const CONSTANTS: usize = 4385;
 
 // Their chains.
-const CONSTANT_LINKS: usize = 4897;
+const CONSTANT_LINKS: usize = name_index::CHAINS + CONSTANTS;
 
-// How many relations an image may have.
-const RELATIONS: usize = 32;
-
-// Their chains.
-const RELATION_LINKS: usize = 544;
+// The chains of relations.
+const RELATION_LINKS: usize = name_index::CHAINS + codes::MOST_RELATIONS;
 
 // A refusal with its number and its place.
-fn unread(number: u8, offset: usize) -> Parsed
-    ensures { result ≡ Unread (refusal number offset) }
+fn unread(number: u8, offset: usize) -> Answer<(usize, usize)>
+    ensures { result ≡ Err (refusal number offset) }
 {
-    Parsed::Unread(Refusal {
-        number: number,
-        offset: offset,
-    })
+    Err(Refusal { number, offset })
 }
 
 // How long a row is.
@@ -67,7 +58,7 @@ fn write(
     m: usize,
     bytes: &[u8],
     consts: &[usize],
-) -> Parsed
+) -> Answer<(usize, usize)>
     requires { m ≤ length s.now }
     ensures { Tells (fitted image.old names.old bytes.now (entries (mode_names (modes_from s.now m)) ++ entries (names_at s.now consts.now))) result image.new names.new }
 {
@@ -78,60 +69,46 @@ fn write(
     let mut unseen = [0u8; 1];
     let a = lay_names::mode_names(&mut unseen, start, s, m);
     let b = lay_names::table_names(&mut unseen, a, s, consts);
-    let short = basics::or(i < size, j < b.at);
+    let short = (i < size) | (j < b.at);
     if short {
         return unread(codes::ROOM, 0);
     }
     let e = lay_text::word(image, start, bytes);
     let f = lay_names::mode_names(names, start, s, m);
     let g = lay_names::table_names(names, f, s, consts);
-    Parsed::Read(e.at, g.at)
-}
-
-// The same with the first n bytes of a row and the first k places of a table.
-fn write_by(
-    image: &mut [u8],
-    names: &mut [u8],
-    s: &[u8],
-    m: usize,
-    out: &[u8],
-    n: usize,
-    table: &[usize],
-    k: usize,
-) -> Parsed
-    requires { (m ≤ length s.now) × (n ≤ length out.now) × (k ≤ length table.now) }
-    ensures { Tells (fitted image.old names.old (take n out.now) (entries (mode_names (modes_from s.now m)) ++ entries (names_at s.now (take k table.now)))) result image.new names.new }
-{
-    let bytes = &out[..n];
-    let consts = &table[..k];
-    write(image, names, s, m, bytes, consts)
+    Ok((e.at, g.at))
 }
 
 // ---- what is refused
 
-// 17 before 4 and 5 of the goal; 0 where all is right.
-fn ask_number(known: bool, right: bool, fits: bool) -> u8
-    ensures { result ≡ ask_number known right fits }
+// 17 before 4 and 5 of the goal, whose record is at a place; 17 is told without one.
+fn test_ask(known: bool, right: bool, fits: bool, at: usize) -> Answer<()>
+    ensures { result ≡ ask_tested known right fits at }
 {
     if !known {
-        return UNDECLARED;
+        return Err(Refusal {
+            number: UNDECLARED,
+            offset: 0,
+        });
     }
     if !right {
-        return codes::BODY;
+        return Err(Refusal {
+            number: codes::BODY,
+            offset: at,
+        });
     }
-    if fits { 0 } else { codes::NAME }
-}
-
-// The place that is told with a number: none with 17.
-fn offset_of(number: u8, at: usize) -> usize
-    ensures { result ≡ offset_of number at }
-{
-    if number == UNDECLARED { 0 } else { at }
+    if !fits {
+        return Err(Refusal {
+            number: codes::NAME,
+            offset: at,
+        });
+    }
+    Ok(())
 }
 
 // A refusal with its number and its place, unless a call has no mode line.
-fn stopped(declared: bool, number: u8, at: usize) -> Parsed
-    ensures { result ≡ Unread (stop_as declared number at) }
+fn stopped(declared: bool, number: u8, at: usize) -> Answer<(usize, usize)>
+    ensures { result ≡ Err (stop_as declared number at) }
 {
     if declared {
         return unread(number, at);
@@ -156,7 +133,7 @@ fn clauses(
     begin: usize,
     at: usize,
     known: Progress,
-) -> Parsed
+) -> Answer<(usize, usize)>
     requires { Behind s.now out.old lines begin at known × Indexed s.now consts.old links.old 0 × Moded s.now rels.now arities.now chains.now lines × (length consts.old ≡ 4385) }
     ensures { Tells (sourced image.old names.old (declared (source_of s.now)) (source_of s.now)) result image.new names.new }
 {
@@ -173,60 +150,64 @@ fn clauses(
             r.end,
             r.left,
         );
-        return stopped(basics::and(r.declared, behind), r.number, r.at);
+        return stopped(r.declared & behind, r.number, r.at);
     }
     let q = read_clause::behind_arrow(s, r.end);
     let a = take_clause::ask(
         s, rels, arities, chains, lines, out, consts, links, q, r.at, r.consts,
     );
-    let number = ask_number(basics::and(r.declared, a.declared), a.right, a.fits);
-    if number != 0 {
-        return unread(number, offset_of(number, r.at));
-    }
-    write_by(image, names, s, lines.from, out, a.at, consts, a.consts)
+    test_ask(r.declared & a.declared, a.right, a.fits, r.at)?;
+    write(
+        image,
+        names,
+        s,
+        lines.from,
+        &out[..a.at],
+        &consts[..a.consts],
+    )
 }
 
 // A text that is spelled right.
-fn spelled(image: &mut [u8], names: &mut [u8], s: &[u8]) -> Parsed
+fn spelled(image: &mut [u8], names: &mut [u8], s: &[u8]) -> Answer<(usize, usize)>
     ensures { Tells (sourced image.old names.old (declared (source_of s.now)) (source_of s.now)) result image.new names.new }
 {
     let m = text_names::skip_blanks(s, 0);
     let mut out = [0u8; IMAGE];
     let mut consts = [0; CONSTANTS];
     let mut links = [0u16; CONSTANT_LINKS];
-    let mut rels = [0; RELATIONS];
-    let mut arities = [0; RELATIONS];
+    let mut rels = [0; codes::MOST_RELATIONS];
+    let mut arities = [0; codes::MOST_RELATIONS];
     let mut chains = [0u16; RELATION_LINKS];
-    let t = take_modes::mode_lines(s, m, &mut out, &mut rels, &mut arities, &mut chains);
-    if t.number != 0 {
-        // No constant is numbered here, so that their table is free for the names of relations.
-        let behind = declared_calls::declared_behind(s, m, &mut consts, &mut links);
-        return stopped(behind, t.number, t.at);
+    match take_modes::mode_lines(s, m, &mut out, &mut rels, &mut arities, &mut chains) {
+        Err(refused) => {
+            // No constant is numbered here, so that their table is free for the names of relations.
+            let behind = declared_calls::declared_behind(s, m, &mut consts, &mut links);
+            stopped(behind, refused.number, refused.offset)
+        }
+        Ok(t) => clauses(
+            image,
+            names,
+            s,
+            &rels,
+            &arities,
+            &chains,
+            t.lines,
+            &mut out,
+            &mut consts,
+            &mut links,
+            t.rest,
+            t.at,
+            t.known,
+        ),
     }
-    clauses(
-        image,
-        names,
-        s,
-        &rels,
-        &arities,
-        &chains,
-        t.lines,
-        &mut out,
-        &mut consts,
-        &mut links,
-        t.rest,
-        t.at,
-        t.known,
-    )
 }
 
 // The image and the names of a text, in two lent rows.
-pub fn parse(image: &mut [u8], names: &mut [u8], text: &[u8]) -> Parsed
+pub fn parse(image: &mut [u8], names: &mut [u8], text: &[u8]) -> Answer<(usize, usize)>
     ensures { ParseSays image.old names.old text.now result image.new names.new }
 {
-    let spelt = spell::spelling(text);
-    match spelt {
-        Spelt::Right => spelled(image, names, text),
-        Spelt::Stuck(i) => unread(TEXT, i),
+    match spell::spelling(text) {
+        Ok(()) => spelled(image, names, text),
+        Err(i) => unread(TEXT, i),
     }
 }

@@ -3,7 +3,6 @@ use mathlib.Core.Path.{◌≡◌}
 use mathlib.Core.List.{List}
 use Prim.Native.Nat.{◌+◌, ◌-◌, ◌<◌, ◌≤◌, suc, zero, ℕ}
 use native.Mathlib.Omega.{arith}
-use Rattle.parlog.proofs.Along.{along-more}
 use Rattle.parlog.specs.Image.{byte_at, goal_end, literal_end, literals_end, stage_end, stages_end}
 use Rattle.parlog.specs.Scan.{along}
 
@@ -15,12 +14,13 @@ module _ (next : ℕ → ℕ) (up : (x : ℕ) → x ≤ next x) where
   along-grows zero at = omega arith
   along-grows (suc n) at = let a = up at in let b = along-grows n (next at) in omega arith
 
-  -- the first item of a row that ends inside ends inside, and so does the rest
-  pub first-in : (n at to : ℕ) → 0 < n → along next n at ≤ to → next at ≤ to
-  first-in n at to h l = let e = along-more next n at h in let g = along-grows (n - 1) (next at) in omega arith
+  -- of n items the first k are behind: where the rest ends inside, so does its first item, and so does what follows
+  pub rest_in : (n k at to : ℕ) → k < n → along next (n - k) at ≤ to → along next (n - (k + 1)) (next at) ≤ to
+  unfolding along
+  rest_in n k at to h l = let e : n - k ≡ suc (n - (k + 1)) = omega arith in rw e at l
 
-  pub rest_in : (n at to : ℕ) → 0 < n → along next n at ≤ to → along next (n - 1) (next at) ≤ to
-  rest_in n at to h l = let e = along-more next n at h in omega arith
+  pub first-in : (n k at to : ℕ) → k < n → along next (n - k) at ≤ to → next at ≤ to
+  first-in n k at to h l = let r = rest_in n k at to h l in let g = along-grows (n - (k + 1)) (next at) in omega arith
 
 -- ---- literals, stages, goals
 
@@ -37,10 +37,6 @@ stage-up s at = let h = stage-grows s at in omega arith
 pub goal-grows : (s : List ℕ) (at : ℕ) → at + 1 ≤ goal_end s at
 unfolding goal_end
 goal-grows s at = along-grows (stage_end s) (stage-up s) (byte_at s at) (at + 1)
-
--- no goal ends at 0
-pub goal-after : (s : List ℕ) (at : ℕ) → 0 < goal_end s at
-goal-after s at = let h = goal-grows s at in omega arith
 
 module _ (s : List ℕ) (at k to : ℕ) (e : k ≡ byte_at s at) where
   -- the literals of a stage that ends inside, the stages of a goal that does

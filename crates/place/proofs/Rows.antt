@@ -1,39 +1,50 @@
 -- One turn of a row that is read to its end, and what the end says of the tests.
-use mathlib.Core.Path.{◌≡◌, refl}
-use mathlib.Core.Bool.{Bool, cond, false, true}
-use Prim.Native.Nat.{◌-◌, ◌<◌, suc, zero, ℕ}
-use lib.Dec.{ltb}
-use borrow.Author.Tests.{lt-ltb}
+use Rattle.std.specs.Prelude.{Some, None}
+use Rattle.std.specs.Bool.{then_some}
+use Rattle.std.specs.Option.{is_some}
+use Rattle.std.proofs.lemmas.Option.{none-some}
+use mathlib.Core.Path.{◌≡◌, refl, sym}
+use mathlib.Core.Bool.{Bool, false, true}
+use Prim.Native.Nat.{◌+◌, ◌-◌, ◌<◌, ◌≤◌, suc, ℕ}
 use native.Mathlib.Omega.{arith}
-use Rattle.parlog.proofs.Along.{less_one}
 use Rattle.parlog.specs.Scan.{along, each}
 use Rattle.place.specs.Reading.{row}
 
-module _ (ok : ℕ → Bool) (next : ℕ → ℕ) where
-  pub row-none : (n at : ℕ) → n ≡ 0 → row ok next n at ≡ at
+-- of n items the first k are behind
+module _ (ok : ℕ → Bool) (next : ℕ → ℕ) (n k at : ℕ) where
+  pub row-none : n ≤ k → row ok next (n - k) at ≡ Some at
   unfolding each along
-  row-none n at e = rw e
+  row-none h = let e : n - k ≡ 0 = omega arith in rw e
 
-  pub row_more : (n at : ℕ) → 0 < n → ok at ≡ true → row ok next n at ≡ row ok next (n - 1) (next at)
+  pub row_more : k < n → ok at ≡ true → row ok next (n - k) at ≡ row ok next (n - (k + 1)) (next at)
   unfolding each along
-  row_more zero at h e = absurd (omega arith)
-  row_more (suc n) at h e = rw (e, less_one)
+  row_more h t = let e : n - k ≡ suc (n - (k + 1)) = omega arith in rw (e, t)
 
-  pub row-stop : (n at : ℕ) → 0 < n → ok at ≡ false → row ok next n at ≡ 0
+  pub row-stop : k < n → ok at ≡ false → row ok next (n - k) at ≡ None
   unfolding each along
-  row-stop zero at h e = absurd (omega arith)
-  row-stop (suc n) at h e = rw e
+  row-stop h t = let e : n - k ≡ suc (n - (k + 1)) = omega arith in rw (e, t)
 
--- an end that is none is of a row with a fault
-pub row-fault : (b : Bool) (e r : ℕ) → 0 < e → r ≡ cond b e 0 → r ≡ 0 → b ≡ false
-row-fault true e r h q z = absurd (omega arith)
-row-fault false e r h q z = refl
+  pub each_none : n ≤ k → each ok next (n - k) at ≡ true
+  unfolding each
+  each_none h = let e : n - k ≡ 0 = omega arith in rw e
 
-pub row-right : (b : Bool) (e r : ℕ) → r ≡ cond b e 0 → (r ≡ 0 → ⊥) → (b ≡ true) × (r ≡ e)
-row-right true e r q z = (refl, q)
-row-right false e r q z = absurd (z q)
+  pub each_more : k < n → ok at ≡ true → each ok next (n - k) at ≡ each ok next (n - (k + 1)) (next at)
+  unfolding each
+  each_more h t = let e : n - k ≡ suc (n - (k + 1)) = omega arith in rw (e, t)
 
--- an end is some where the test holds
-pub row-some : (b : Bool) (e r : ℕ) → 0 < e → r ≡ cond b e 0 → ltb 0 r ≡ b
-row-some true e r h q = rw q (lt-ltb 0 e h)
-row-some false e r h q = rw q
+  pub each-stop : k < n → ok at ≡ false → each ok next (n - k) at ≡ false
+  unfolding each
+  each-stop h t = let e : n - k ≡ suc (n - (k + 1)) = omega arith in rw (e, t)
+
+-- a row that has an end passes its tests, and one that has none doesn't
+pub row-right : (b : Bool) (e r : ℕ) → Some r ≡ then_some b e → (b ≡ true) × (r ≡ e)
+row-right true e r q = (refl, cc)
+row-right false e r q = absurd (none-some r (sym q))
+
+pub row-fault : (b : Bool) (e : ℕ) → None ≡ then_some b e → b ≡ false
+row-fault true e q = absurd (none-some e q)
+row-fault false e q = refl
+
+pub row-some : (b : Bool) (e : ℕ) → is_some (then_some b e) ≡ b
+row-some true e = refl
+row-some false e = refl

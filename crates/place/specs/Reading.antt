@@ -1,7 +1,8 @@
--- Reading a row of items to its end, where 0 is the place of a row with a fault.
-use Rattle.std.specs.Prelude.{Bool, cond, ℕ}
+-- Reading a row of items to its end, where a row with a fault has none.
+use Rattle.std.specs.Prelude.{Bool, ℕ, Option}
+use Rattle.std.specs.Bool.{then_some}
 use Rattle.parlog.specs.Scan.{along, each}
 
--- the place after n items that all pass the test, else 0
-abbrev pub row : (ℕ → Bool) → (ℕ → ℕ) → ℕ → ℕ → ℕ
-row ok next n at = cond (each ok next n at) (along next n at) 0
+-- the place after n items, if they all pass the test
+abbrev pub row : (ℕ → Bool) → (ℕ → ℕ) → ℕ → ℕ → Option ℕ
+row ok next n at = then_some (each ok next n at) (along next n at)

@@ -10,7 +10,7 @@ use parlog::{Term, codes};
 pub fn byte_at(s: &[u8], i: usize) -> usize
     ensures { (result ≡ byte_at s.now i) × (result ≤ 255) }
 {
-    if i < s.len() { s[i] as usize } else { 0 }
+    if i < s.len() { byte_in(s, i) } else { 0 }
 }
 
 // Two bytes, little-endian; the usual case takes one test of the length.
@@ -18,9 +18,8 @@ pub fn word_at(s: &[u8], i: usize) -> usize
     requires { i ≤ 4294967296 }
     ensures { (result ≡ word_at s.now i) × (result ≤ 65535) }
 {
-    let next = i + 1;
-    if next < s.len() {
-        basics::wide(s[i]) + 256 * basics::wide(s[next])
+    if i + 1 < s.len() {
+        word_in(s, i)
     } else {
         byte_at(s, i)
     }
@@ -31,15 +30,15 @@ pub fn byte_in(s: &[u8], i: usize) -> usize
     requires { i < length s.now }
     ensures { (result ≡ byte_at s.now i) × (result ≤ 255) }
 {
-    basics::wide(s[i])
+    usize::from(s[i])
 }
 
 // The same, of bytes that are there: no test.
 pub fn word_in(s: &[u8], i: usize) -> usize
-    requires { (i ≤ 4294967296) × (i + 1 < length s.now) }
+    requires { i + 1 < length s.now }
     ensures { (result ≡ word_at s.now i) × (result ≤ 65535) }
 {
-    basics::wide(s[i]) + 256 * basics::wide(s[i + 1])
+    usize::from(u16::from_le_bytes([s[i], s[i + 1]]))
 }
 
 // The term that a number is.
@@ -77,10 +76,8 @@ pub fn literals_end(s: &[u8], n: usize, from: usize) -> usize
     ensures { (result ≡ literals_end s.now n from) × (result ≤ from + 512 * n) }
 {
     let mut at = from;
-    let mut left = n;
-    while 0 < left {
+    for _ in 0..n {
         at = at + codes::LITERAL_TERMS + codes::TERM_SIZE * byte_at(s, at + codes::LITERAL_ARITY);
-        left -= 1;
     }
     at
 }
@@ -100,10 +97,8 @@ pub fn stages_end(s: &[u8], n: usize, from: usize) -> usize
     ensures { (result ≡ stages_end s.now n from) × (result ≤ from + 130561 * n) }
 {
     let mut at = from;
-    let mut left = n;
-    while 0 < left {
+    for _ in 0..n {
         at = stage_end(s, at);
-        left -= 1;
     }
     at
 }

@@ -1,57 +1,63 @@
 // The call that writes the text of an image into a lent row.
 #![tactic(auto)]
 
-ghost use Rattle.std.specs.Prelude.{◌≡◌, ◌≤◌};
+ghost use Rattle.std.specs.Prelude.{◌≡◌, ◌≤◌, Err};
 ghost use Rattle.parlog.specs.Load.{refusal};
 ghost use Rattle.parlog.specs.Program.{program_of};
 ghost use Rattle.print.specs.Says.{PrintSays, Tells};
 ghost use Rattle.text_program.specs.Printing.{nameable, program_named, program_text};
-ghost use Rattle.text_program.specs.declared.Printed.TheVariants.{Unwritten};
 
-use lay_text::To;
-use parlog::{Loaded, Refusal, codes};
-use text_program::Printed;
+use entry_table::Names;
+use lay_text::{To, Writer};
+use parlog::{Answer, Refusal, codes};
+use write_goal::Source;
 
 // 17, UNDECLARED.
 const UNDECLARED: u8 = 17;
 
 // A refusal without a place.
-fn unwritten(number: u8) -> Printed
-    ensures { result ≡ Unwritten (refusal number 0) }
+fn unwritten(number: u8) -> Answer<usize>
+    ensures { result ≡ Err (refusal number 0) }
 {
-    Printed::Unwritten(Refusal {
-        number: number,
-        offset: 0,
-    })
+    Err(Refusal { number, offset: 0 })
 }
 
 // The text of an accepted image: measured over a byte that nobody sees, then written.
-fn accepted(text: &mut [u8], image: &[u8], names: &[u8], r: usize, c: usize) -> Printed
+fn accepted<'a>(
+    text: &mut [u8],
+    image: &'a [u8],
+    names: &'a [u8],
+    r: usize,
+    c: usize,
+) -> Answer<usize>
     requires { (r ≤ 32) × (c ≤ 64) }
     ensures { Tells (nameable text.old (program_named names.now (program_of image.now r c)) (program_text names.now (program_of image.now r c))) result text.new }
 {
-    let w = To { at: 0, named: true };
     let mut table = [0usize; entry_table::PLACES];
-    let noted = entry_table::fill(&mut table, names);
+    let source = Source {
+        image,
+        names: Names::new(&mut table, names),
+        relations: r,
+    };
     let mut unseen = [0u8; 1];
-    let m = write_text::lines(&mut unseen, w, image, names, &table, noted, r, c);
-    if !m.named {
+    let mut measured = Writer::new(&mut unseen);
+    write_text::lines(&mut measured, &source, c);
+    let To { at, named } = measured.to;
+    if !named {
         return unwritten(UNDECLARED);
     }
-    if text.len() < m.at {
+    if text.len() < at {
         return unwritten(codes::ROOM);
     }
-    let e = write_text::lines(text, w, image, names, &table, noted, r, c);
-    Printed::Wrote(e.at)
+    let mut writer = Writer::new(text);
+    write_text::lines(&mut writer, &source, c);
+    Ok(writer.to.at)
 }
 
 // The text of an image, with the names of a names row.
-pub fn print(image: &[u8], names: &[u8], text: &mut [u8]) -> Printed
+pub fn print(image: &[u8], names: &[u8], text: &mut [u8]) -> Answer<usize>
     ensures { PrintSays image.now names.now text.old result text.new }
 {
-    let loaded = load::load(image);
-    match loaded {
-        Loaded::Accepted(r, c) => accepted(text, image, names, r, c),
-        Loaded::Refused(f) => Printed::Unwritten(f),
-    }
+    let (r, c) = load::load(image)?;
+    accepted(text, image, names, r, c)
 }

@@ -70,8 +70,8 @@ fn block_scan(
     let mut count = 0;
     let mut size = 0;
     let mut clause = 255;
-    let mut k = from_of(s, rels, clauses, ix, q);
-    while k < to {
+    let from = from_of(s, rels, clauses, ix, q);
+    for k in from..to {
         let at = program_index::record_at(s, rels, clauses, ix, rels + k);
         let rel = place::byte_at(s, at + codes::CLAUSE_RELATION);
         let mark = place::byte_at(s, at + codes::CLAUSE_MARK);
@@ -81,7 +81,6 @@ fn block_scan(
         clause = program_clause::found(there, size, j, k, clause);
         size = program_clause::more(there, size);
         own = rel == q;
-        k += 1;
     }
     Blocks {
         count,

@@ -114,12 +114,10 @@ pub fn outs_of(s: &[u8], n: usize, at: usize, j: usize) -> Outs
 {
     let mut count = 0;
     let mut number = 0;
-    let mut k = 0;
-    while k < n {
+    for k in 0..n {
         let out = place::byte_at(s, at + k) != 0;
         number = found(out, count, j, k, number);
         count = more(out, count);
-        k += 1;
     }
     Outs { count, number }
 }

@@ -1,6 +1,6 @@
 -- Stages and literals at their places: one law for each way through their reads.
 use mathlib.Core.Path.{◌∙◌, ◌≡◌, ap, sym}
-use mathlib.Core.List.{[], List}
+use mathlib.Core.List.{[], ◌∷◌, List}
 use Prim.Native.Nat.{◌+◌, ◌<◌, ◌≤◌, ℕ}
 use lib.ListN.{get_or, length}
 use native.Mathlib.Omega.{arith}
@@ -59,6 +59,6 @@ pub lit-here : (s : List ℕ) (from : ℕ) {rel n : ℕ} {a b c d : Term} → re
     → b ≡ get_or (list_of (term_at s) term_end n (from + 2)) 1 (Const 0)
     → c ≡ get_or (list_of (term_at s) term_end n (from + 2)) 2 (Const 0)
     → d ≡ get_or (list_of (term_at s) term_end n (from + 2)) 3 (Const 0)
-    → record { rel = rel; arity = n; a = a; b = b; c = c; d = d } ≡ shown (literal_of s from)
+    → record { rel = rel; arity = n; args = a ∷ b ∷ c ∷ d ∷ [] } ≡ shown (literal_of s from)
 unfolding shown literal_of
 lit-here s from er en ea eb ec ed = rw (ea, eb, ec, ed, er, en, list_length)

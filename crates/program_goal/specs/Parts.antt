@@ -1,5 +1,5 @@
 -- A literal as the reads hand it on, and a goal where it stands.
-use Rattle.std.specs.Prelude.{◌&&◌, Bool, cond, false, true, [], List, ◌+◌, ◌≤◌, suc, zero, ℕ, eqb, ltb, get_or, length}
+use Rattle.std.specs.Prelude.{◌&&◌, Bool, cond, false, true, [], ◌∷◌, List, ◌+◌, ◌≤◌, suc, zero, ℕ, eqb, ltb, get_or, length}
 use Rattle.parlog.specs.Codes.{equate, or_par, tag_code}
 use Rattle.parlog.specs.Image.{byte_at, equality, mode_end, record_end, stage_end, term_at, term_end}
 use Rattle.parlog.specs.Program.{before, clause_at, Goal, Literal, modes_at, modes_of, out_count, outputs, Program, stage_of}
@@ -8,15 +8,12 @@ use Rattle.parlog.specs.declared.Term.TheVariants.{Const}
 use Rattle.program_goal.specs.declared.Home.{Home}
 use Rattle.program_goal.specs.declared.Lit.{Lit}
 
--- a literal as a struct: relation, arity, and the four arguments that it may have
+-- a literal as a struct: relation, arity, and the arguments that it may have, in four places
 unfoldable pub shown : Literal → Lit
 shown l = record {
   rel = l.rel;
   arity = length l.args;
-  a = get_or l.args 0 (Const 0);
-  b = get_or l.args 1 (Const 0);
-  c = get_or l.args 2 (Const 0);
-  d = get_or l.args 3 (Const 0);
+  args = get_or l.args 0 (Const 0) ∷ get_or l.args 1 (Const 0) ∷ get_or l.args 2 (Const 0) ∷ get_or l.args 3 (Const 0) ∷ [];
 }
 
 -- n stages at a place

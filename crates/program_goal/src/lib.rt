@@ -11,15 +11,12 @@ ghost use Rattle.program_goal.specs.Parts.{shown, front, goal_in, Near, stages_o
 use parlog::{Spot, Term, codes};
 use program_clause::Outs;
 
-// A literal: its relation, its arity, and the four arguments that it may have.
+// A literal: its relation, its arity, and the arguments that it may have, those past its arity 0.
 #[derive(Clone, Copy)]
 pub struct Lit {
     pub rel: usize,
     pub arity: usize,
-    pub a: Term,
-    pub b: Term,
-    pub c: Term,
-    pub d: Term,
+    pub args: [Term; codes::MOST_ARITY],
 }
 
 // ---- literals in the image
@@ -31,10 +28,7 @@ fn none() -> Lit
     Lit {
         rel: codes::EQUALITY,
         arity: 0,
-        a: Term::Const(0),
-        b: Term::Const(0),
-        c: Term::Const(0),
-        d: Term::Const(0),
+        args: [Term::Const(0); codes::MOST_ARITY],
     }
 }
 
@@ -53,10 +47,7 @@ fn literal_here(s: &[u8], at: usize) -> Lit
     Lit {
         rel,
         arity: n,
-        a,
-        b,
-        c,
-        d,
+        args: [a, b, c, d],
     }
 }
 
@@ -85,10 +76,7 @@ fn equation(t: Term, v: usize) -> Lit
     Lit {
         rel: codes::EQUALITY,
         arity: 2,
-        a: t,
-        b: Term::Var(v as u32),
-        c: Term::Const(0),
-        d: Term::Const(0),
+        args: [t, Term::Var(v as u32), Term::Const(0), Term::Const(0)],
     }
 }
 

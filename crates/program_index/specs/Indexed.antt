@@ -1,9 +1,8 @@
 -- The index of an image: what stands where in a row of words.
-use Rattle.std.specs.Prelude.{◌≡◌, false, List, ◌+◌, ◌<◌, ◌≤◌, ℕ, eqb, get_or, length}
+use Rattle.parlog.specs.Answer.{Answer}
+use Rattle.std.specs.Prelude.{◌≡◌, false, List, ◌+◌, ◌<◌, ◌≤◌, ℕ, eqb, get_or, length, Err, Ok}
 use Rattle.parlog.specs.Image.{body_at, record_at}
 use Rattle.parlog.specs.Program.{block_count, clause_at, modes_at, Program, program_of, vars_of}
-use Rattle.parlog.specs.declared.Loaded.{Loaded}
-use Rattle.parlog.specs.declared.Loaded.TheVariants.{Accepted, Refused}
 
 -- ---- its parts: a word for each record from 0 on, then a word for each clause, then a word for each relation
 
@@ -62,6 +61,6 @@ pub record Indexed (s : List ℕ) (r c : ℕ) (ix : List ℕ) : Type 0 where
   pub heads : Headed (program_of s r c)
 
 -- that of an image that is accepted
-abbrev pub IndexedOf : Loaded → List ℕ → List ℕ → Type 0
-IndexedOf (Refused r) s ix = Unit {0}
-IndexedOf (Accepted r c) s ix = Indexed s r c ix
+abbrev pub IndexedOf : Answer (ℕ × ℕ) → List ℕ → List ℕ → Type 0
+IndexedOf (Err r) s ix = Unit {0}
+IndexedOf (Ok (r, c)) s ix = Indexed s r c ix

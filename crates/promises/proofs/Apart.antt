@@ -1,4 +1,5 @@
 -- What unifying binds was unbound before, each variable once; so the variables of its changes are exactly those newly bound.
+use Rattle.std.specs.Prelude.{Option, None, Some}
 use mathlib.Core.Path.{◌∙◌, ◌≡◌, refl, sym}
 use mathlib.Core.Logic.{◌≢◌}
 use mathlib.Core.List.{[], ◌++◌, ◌∷◌, List}
@@ -14,8 +15,6 @@ use Rattle.parlog.specs.Listed.{Among, at_head, further}
 use Rattle.parlog.specs.Notions.{all_done, Changed, higher_left, higher_right, Leads, Meets, one_done, onward, same_constant, same_variable, to_left, to_right, unbound, Unifies}
 use Rattle.parlog.specs.Tables.{binding_of}
 use Rattle.parlog.specs.Unify.{changed}
-use Rattle.parlog.specs.declared.Binding.{Binding}
-use Rattle.parlog.specs.declared.Binding.TheVariants.{Bound, Free}
 use Rattle.parlog.specs.declared.Change.{Change}
 use Rattle.parlog.specs.declared.Pair.{Pair}
 use Rattle.parlog.specs.declared.Term.{Term}
@@ -29,22 +28,22 @@ Under n [] = Unit {0}
 Under n (c ∷ cs) = (c.var < n) × Under n cs
 
 -- each is unbound, and none comes again
-abbrev pub Apart : List Binding → List Change → Type 0
+abbrev pub Apart : List (Option Term) → List Change → Type 0
 Apart vs [] = Unit {0}
-Apart vs (c ∷ cs) = (binding_of vs c.var ≡ Free) × ((i : ℕ) → i < length cs → (get_or cs i no_change).var ≢ c.var) × Apart vs cs
+Apart vs (c ∷ cs) = (binding_of vs c.var ≡ None) × ((i : ℕ) → i < length cs → (get_or cs i no_change).var ≢ c.var) × Apart vs cs
 
 -- ---- one pair
 
-leads-free : {vs : List Binding} {t : Term} {v : ℕ} → Leads vs t (Var v) → binding_of vs v ≡ Free
+leads-free : {vs : List (Option Term)} {t : Term} {v : ℕ} → Leads vs t (Var v) → binding_of vs v ≡ None
 leads-free (unbound e) = e
 leads-free (onward e l) = leads-free l
 
 -- what two values bind: nothing, or one variable that was unbound
-data MetOne (vs : List Binding) : List Change → Type 0 where
+data MetOne (vs : List (Option Term)) : List Change → Type 0 where
   met-none : MetOne vs []
-  met-one : {c : Change} → binding_of vs c.var ≡ Free → MetOne vs (c ∷ [])
+  met-one : {c : Change} → binding_of vs c.var ≡ None → MetOne vs (c ∷ [])
 
-met : {vs : List Binding} {x y a b : Term} {bs : List Change} → Leads vs x a → Leads vs y b → Meets a b bs → MetOne vs bs
+met : {vs : List (Option Term)} {x y a b : Term} {bs : List Change} → Leads vs x a → Leads vs y b → Meets a b bs → MetOne vs bs
 met l r same_constant = met-none
 met l r same_variable = met-none
 met l r to_left = met-one (leads-free r)
@@ -52,14 +51,14 @@ met l r to_right = met-one (leads-free l)
 met l r (higher_left h) = met-one (leads-free l)
 met l r (higher_right h) = met-one (leads-free r)
 
-free_bound : {b : Binding} {t : Term} → b ≡ Bound t → b ≡ Free → ⊥
+free_bound : {b : Option Term} {t : Term} → b ≡ Some t → b ≡ None → ⊥
 free_bound p q = let z : ◌≡◌ {A = ℕ} 0 1 = cc in omega arith
 
-module _ {vs ws : List Binding} {c : Change} (a : Changed vs (c ∷ []) ws) (h : c.var < length vs) where
-  now-bound : binding_of ws c.var ≡ Bound c.to
+module _ {vs ws : List (Option Term)} {c : Change} (a : Changed vs (c ∷ []) ws) (h : c.var < length vs) where
+  now-bound : binding_of ws c.var ≡ Some c.to
   now-bound = a.bound c.var 0 h (omega arith) refl (λ k x y. absurd (omega arith))
 
-  other-var : (v : ℕ) → binding_of ws v ≡ Free → v ≢ c.var
+  other-var : (v : ℕ) → binding_of ws v ≡ None → v ≢ c.var
   other-var v e q = free_bound now-bound (rw q at e)
 
   as_before : (v : ℕ) → v ≢ c.var → binding_of ws v ≡ binding_of vs v
@@ -82,11 +81,11 @@ module _ {vs ws : List Binding} {c : Change} (a : Changed vs (c ∷ []) ws) (h :
 
 -- ---- all pairs
 
-then-apart : {vs ws : List Binding} {bs : List Change} (cs : List Change) → MetOne vs bs → Changed vs bs ws → (Under (length ws) cs → Apart ws cs) → Under (length vs) (bs ++ cs) → Apart vs (bs ++ cs)
+then-apart : {vs ws : List (Option Term)} {bs : List Change} (cs : List Change) → MetOne vs bs → Changed vs bs ws → (Under (length ws) cs → Apart ws cs) → Under (length vs) (bs ++ cs) → Apart vs (bs ++ cs)
 then-apart {vs} {ws} cs met-none a go u = let e : ws ≡ vs = unfold changed in changed-only a in rw e at (go (rw a.count u))
 then-apart cs (met-one f) a go u = let r = apart-later a u.0 cs (go (rw a.count u.1)) in (f, r.0, r.1)
 
-pub apart : {vs : List Binding} {es : List Pair} {cs : List Change} → Unifies vs es cs → Under (length vs) cs → Apart vs cs
+pub apart : {vs : List (Option Term)} {es : List Pair} {cs : List Change} → Unifies vs es cs → Under (length vs) cs → Apart vs cs
 apart all_done u = tt
 apart (one_done {cs = cs} l r m a rest) u = then-apart cs (met l r m) a (λ h. apart rest h) u
 
@@ -97,12 +96,12 @@ under_at n [] u i h = absurd (not-suc-le-zero h)
 under_at n (c ∷ cs) u zero h = u.0
 under_at n (c ∷ cs) u (suc i) h = under_at n cs u.1 i (le_of_suc-le-suc h)
 
-apart-free : (vs : List Binding) (cs : List Change) → Apart vs cs → (i : ℕ) → i < length cs → binding_of vs (get_or cs i no_change).var ≡ Free
+apart-free : (vs : List (Option Term)) (cs : List Change) → Apart vs cs → (i : ℕ) → i < length cs → binding_of vs (get_or cs i no_change).var ≡ None
 apart-free vs [] x i h = absurd (not-suc-le-zero h)
 apart-free vs (c ∷ cs) x zero h = x.0
 apart-free vs (c ∷ cs) x (suc i) h = apart-free vs cs x.2 i (le_of_suc-le-suc h)
 
-apart-once : (vs : List Binding) (cs : List Change) → Apart vs cs → (i j : ℕ) → i < j → j < length cs → (get_or cs j no_change).var ≢ (get_or cs i no_change).var
+apart-once : (vs : List (Option Term)) (cs : List Change) → Apart vs cs → (i j : ℕ) → i < j → j < length cs → (get_or cs j no_change).var ≢ (get_or cs i no_change).var
 apart-once vs [] x i j l h = absurd (not-suc-le-zero h)
 apart-once vs (c ∷ cs) x i zero l h = absurd (not-suc-le-zero l)
 apart-once vs (c ∷ cs) x zero (suc j) l h = x.1 j (le_of_suc-le-suc h)
@@ -125,14 +124,14 @@ sought (c ∷ cs) v = split (eqb c.var v) (λ e. is-there (rw (eqb-true c.var v 
         among n f zero h = n
         among n f (suc i) h = f i (le_of_suc-le-suc h)
 
-module _ (vs : List Binding) (cs : List Change) (u : Under (length vs) cs) (x : Apart vs cs) where
+module _ (vs : List (Option Term)) (cs : List Change) (u : Under (length vs) cs) (x : Apart vs cs) where
   at-var : (i : ℕ) → get_or (vars_bound cs) i 0 ≡ (get_or cs i no_change).var
   at-var i = get_or-map (λ c. c.var) cs i no_change
 
   many : length (vars_bound cs) ≡ length cs
   many = length-map cs (λ c. c.var)
 
-  becomes-bound : (i : ℕ) → i < length cs → binding_of (changed vs cs) (get_or cs i no_change).var ≡ Bound (get_or cs i no_change).to
+  becomes-bound : (i : ℕ) → i < length cs → binding_of (changed vs cs) (get_or cs i no_change).var ≡ Some (get_or cs i no_change).to
   becomes-bound i h = (changed-is vs cs).bound (get_or cs i no_change).var i (under_at (length vs) cs u i h) h refl (λ k l g. apart-once vs cs x i k l g)
 
   pub newly-bound : NewlyBound vs (changed vs cs) (vars_bound cs)
@@ -143,6 +142,6 @@ module _ (vs : List Binding) (cs : List Change) (u : Under (length vs) cs) (x : 
     once = λ i j l h e. apart-once vs cs x i j l (rw many at h) (sym (at-var j) ∙ sym e ∙ at-var i);
   }
     where
-      found : (v : ℕ) → binding_of vs v ≡ Free → binding_of (changed vs cs) v ≢ Free → Sought cs v → Among v (vars_bound cs)
+      found : (v : ℕ) → binding_of vs v ≡ None → binding_of (changed vs cs) v ≢ None → Sought cs v → Among v (vars_bound cs)
       found v f b (is-there a) = a
       found v f b (is-not n) = absurd (b ((changed-is vs cs).kept v n ∙ f))

@@ -1,4 +1,6 @@
 -- Bytes that came from a start are let in by every call and hold tables that a run reaches; written over them, these change nothing.
+use Rattle.parlog.specs.declared.Term.{Term}
+use Rattle.std.specs.Prelude.{None, Option}
 use mathlib.Core.Path.{◌∙◌, ◌≡◌}
 use mathlib.Core.Bool.{true}
 use mathlib.Core.List.{List}
@@ -13,7 +15,6 @@ use Rattle.parlog.specs.Limits.{Limits, Usable}
 use Rattle.parlog.specs.Program.{Program, program_of}
 use Rattle.parlog.specs.TableRules.{full_size}
 use Rattle.parlog.specs.Tables.{cell_size, fresh, fresh_tables, head_size, Lent, lent, put_tables, row_size, started_lent, Tables, tables_in, zeros}
-use Rattle.parlog.specs.declared.Binding.TheVariants.{Free}
 use Rattle.promises.proofs.Demand2.{begun-at, demand-2-start, goal-few}
 use Rattle.promises.proofs.Entry.{let-ok, let-tables}
 use Rattle.promises.proofs.Keeping.{Goes, goes_none, goes-run, goes_step, goes-supply, goes_then, goes_twice, kept-start, later-by}
@@ -35,7 +36,7 @@ module _ (lim : Limits) (usable : Usable lim) (pr : Program) (few : pr.goal_vars
 
   few-cells : length (fresh_tables pr).state.vars * cell_size ≤ length (zeros (lim.vars * cell_size))
   unfolding fresh_tables fresh
-  few-cells = omega (arith, zeros-length (lim.vars * cell_size), length-replicate pr.goal_vars Free, usable.goal-vars, few)
+  few-cells = omega (arith, zeros-length (lim.vars * cell_size), length-replicate {A = Option Term} pr.goal_vars None, usable.goal-vars, few)
 
   started-twice : put_tables (started_lent lim pr) (fresh_tables pr) ≡ started_lent lim pr
   unfolding started_lent

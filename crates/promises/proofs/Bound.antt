@@ -1,5 +1,7 @@
 -- Request 1: the calls that tell the variables bound are refused as the plain ones, then for the row; else they are the plain calls, and what they tell is exactly
 -- what was bound, in the unifier's order.
+use Rattle.parlog.specs.Answer.{Answer}
+use Rattle.std.specs.Prelude.{Option, Ok, Some, None, Err}
 use mathlib.Core.Path.{◌∙◌, ◌≡◌, ap, refl}
 use mathlib.Core.Logic.{◌≢◌}
 use mathlib.Core.Bool.{true}
@@ -33,11 +35,7 @@ use Rattle.parlog.specs.Run.{Stepping, turn_for}
 use Rattle.parlog.specs.TableRules.{state_ok}
 use Rattle.parlog.specs.Tables.{Lent, put_tables, State, tables_in}
 use Rattle.parlog.specs.declared.Change.{Change}
-use Rattle.parlog.specs.declared.Found.{Found}
-use Rattle.parlog.specs.declared.Found.TheVariants.{At, Nothing}
 use Rattle.parlog.specs.declared.Move.{Move}
-use Rattle.parlog.specs.declared.Stepped.{Stepped}
-use Rattle.parlog.specs.declared.Stepped.TheVariants.{Moved, Unmoved}
 use Rattle.promises.proofs.Demand1.{a-refusal, Answered, no-refusal, refuses-by, step-as, step-numbered, step-refused, turn-numbered, turn-refused, turn_step, turn-there}
 use Rattle.promises.proofs.Demand2.{demand-2-step, image-sane}
 use Rattle.promises.proofs.Entry.{away, Door, door, enter-let, inside, let-in-same, let-ok}
@@ -66,7 +64,7 @@ row-holds row vs fit e =
 -- ---- a step
 
 module _ (lim : Limits) (s : List ℕ) (l : Lent) (row : List ℕ) (p : ℕ) where
-  plainly : {n o : ℕ} → StepRefused lim s l p n o → step_bound_call lim s l row p ≡ record { answer = Unmoved (refusal n o); lent = l; row = row }
+  plainly : {n o : ℕ} → StepRefused lim s l p n o → step_bound_call lim s l row p ≡ record { answer = Err (refusal n o); lent = l; row = row }
   unfolding step_bound_call
   plainly y = rw (step-refused lim s l p y)
 
@@ -83,19 +81,19 @@ module _ (lim : Limits) (s : List ℕ) (l : Lent) (row : List ℕ) (p : ℕ) whe
     there : p < length (state_in l).procs
     there = can-here pr (state_in l) p (move-can lim pr (state_in l) ok p (record { rule = m; after = s'; holds = x }))
 
-    made-call : step_call lim s l p ≡ record { answer = Moved m; lent = put_tables l (after_step (tables_in l) p s') }
+    made-call : step_call lim s l p ≡ record { answer = Ok m; lent = put_tables l (after_step (tables_in l) p s') }
     made-call = step-as lim s l p i (step-makes lim pr (tables_in l) (let-ok lim s l i) p there x f)
 
-    tells-call : step_bound_call lim s l row p ≡ tell_in (Unmoved (refusal 11 0)) (Moved m) (put_tables l (after_step (tables_in l) p s')) l row (bound_bytes told)
+    tells-call : step_bound_call lim s l row p ≡ tell_in (Err (refusal 11 0)) (Ok m) (put_tables l (after_step (tables_in l) p s')) l row (bound_bytes told)
     unfolding step_bound_call
     tells-call = rw (made-call, enter-let lim s l i)
 
-    short-call : length row < bytes_for (length told) → step_bound_call lim s l row p ≡ record { answer = Unmoved (refusal 11 0); lent = l; row = row }
+    short-call : length row < bytes_for (length told) → step_bound_call lim s l row p ≡ record { answer = Err (refusal 11 0); lent = l; row = row }
     short-call h = tells-call ∙ tell-short _ _ _ l row (bound_bytes told) (rw (bytes-length told) h)
 
     told-call : bytes_for (length told) ≤ length row
-        → step_bound_call lim s l row p ≡ record { answer = Moved m; lent = put_tables l (after_step (tables_in l) p s'); row = laid row 0 (bound_bytes told) }
-    told-call h = tells-call ∙ tell-fits (Unmoved (refusal 11 0)) (Moved m) (put_tables l (after_step (tables_in l) p s')) l row (bound_bytes told) (rw (bytes-length told) h)
+        → step_bound_call lim s l row p ≡ record { answer = Ok m; lent = put_tables l (after_step (tables_in l) p s'); row = laid row 0 (bound_bytes told) }
+    told-call h = tells-call ∙ tell-fits (Err (refusal 11 0)) (Ok m) (put_tables l (after_step (tables_in l) p s')) l row (bound_bytes told) (rw (bytes-length told) h)
 
     -- what the rule binds, by the relation
     abbrev Binds : List Change → Type 0
@@ -118,15 +116,15 @@ module _ (lim : Limits) (s : List ℕ) (l : Lent) (row : List ℕ) (p : ℕ) whe
         let q = binds-once pr (state_in l) (state-good lim pr (state_in l) ok) p b.1.1 y in
         ap length b.1.0 ∙ vars-many b.0 ∙ ap length q
 
-  refused-call : {n o : ℕ} → StepBoundRefused lim s l row p n o → step_bound_call lim s l row p ≡ record { answer = Unmoved (refusal n o); lent = l; row = row }
+  refused-call : {n o : ℕ} → StepBoundRefused lim s l row p n o → step_bound_call lim s l row p ≡ record { answer = Err (refusal n o); lent = l; row = row }
   refused-call (as_step y) = plainly y
   refused-call (untold_step u) = short-call u.inside u.holds u.fits (rw (told-many u.inside u.holds u.fits u.binds) u.short)
 
-  data StepView : RowCall Stepped → Type 0 where
-    view-refused : {n o : ℕ} → StepBoundRefused lim s l row p n o → StepView (record { answer = Unmoved (refusal n o); lent = l; row = row })
+  data StepView : RowCall (Answer Move) → Type 0 where
+    view-refused : {n o : ℕ} → StepBoundRefused lim s l row p n o → StepView (record { answer = Err (refusal n o); lent = l; row = row })
     view-told : {r c : ℕ} (i : LetIn lim s l r c) {m : Move} {s' : State} → Rule (program_of s r c) (state_in l) p m s' → Fits lim s'
         → bytes_for (length (step_binds (program_of s r c) (tables_in l) p)) ≤ length row
-        → StepView (record { answer = Moved m; lent = put_tables l (after_step (tables_in l) p s'); row = laid row 0 (bound_bytes (step_binds (program_of s r c) (tables_in l) p)) })
+        → StepView (record { answer = Ok m; lent = put_tables l (after_step (tables_in l) p s'); row = laid row 0 (bound_bytes (step_binds (program_of s r c) (tables_in l) p)) })
 
   step-view : StepView (step_bound_call lim s l row p)
   step-view = go (door lim s l)
@@ -172,7 +170,7 @@ module _ (lim : Limits) (s : List ℕ) (l : Lent) (row : List ℕ) (p : ℕ) whe
     bound-word : (n o : ℕ) → StepBoundRefused lim s l row p n o → w ≡ word (refused_as (refusal n o))
     bound-word n o y = let e = refused-call {n = n} {o = o} y in meets.contract.answer ∙ rw e
 
-    bound-answered : {x : RowCall Stepped} → StepView x → step_bound_call lim s l row p ≡ x → Answered (StepBoundRefused lim s l row p) w
+    bound-answered : {x : RowCall (Answer Move)} → StepView x → step_bound_call lim s l row p ≡ x → Answered (StepBoundRefused lim s l row p) w
     bound-answered (view-refused y) e = a-refusal y
     bound-answered (view-told i {m} x f g) e = no-refusal (moved_told w m (meets.contract.answer ∙ rw e)).accepted
 
@@ -187,7 +185,7 @@ module _ (lim : Limits) (s : List ℕ) (l : Lent) (row : List ℕ) (p : ℕ) whe
     }
 
     -- an outcome of the plain call, where that leaves the same answer and tables
-    same_step : {a : Stepped} {k : Lent} {q : List ℕ} → step_bound_call lim s l row p ≡ record { answer = a; lent = k; row = q } → step_call lim s l p ≡ record { answer = a; lent = k } → StepMeets lim s l p w l'
+    same_step : {a : Answer Move} {k : Lent} {q : List ℕ} → step_bound_call lim s l row p ≡ record { answer = a; lent = k; row = q } → step_call lim s l p ≡ record { answer = a; lent = k } → StepMeets lim s l p w l'
     same_step e d =
         record { contract = record { answer = meets.contract.answer ∙ rw (e, d); head = meets.contract.head ∙ rw (e, d); procs = meets.contract.procs ∙ rw (e, d); vars = meets.contract.vars ∙ rw (e, d) } }
 
@@ -195,7 +193,7 @@ module _ (lim : Limits) (s : List ℕ) (l : Lent) (row : List ℕ) (p : ℕ) whe
     pub plain_step : (StepUntold lim s l row p → ⊥) → StepMeets lim s l p w l'
     plain_step n = go step-view refl
       where
-        go : {x : RowCall Stepped} → StepView x → step_bound_call lim s l row p ≡ x → StepMeets lim s l p w l'
+        go : {x : RowCall (Answer Move)} → StepView x → step_bound_call lim s l row p ≡ x → StepMeets lim s l p w l'
         go (view-refused (as_step y)) e = same_step e (step-refused lim s l p y)
         go (view-refused (untold_step u)) e = absurd (n u)
         go (view-told i x f g) e = same_step e (made-call i x f)
@@ -219,14 +217,14 @@ module _ (lim : Limits) (s : List ℕ) (l : Lent) (row : List ℕ) (p : ℕ) whe
     pub demand-2-step-bound : {r c : ℕ} → LetIn lim s l r c → refusal_in w ≡ 0 → StepTold lim (program_of s r c) l row p w l' row'
     demand-2-step-bound {r} {c} j z = go step-view refl
       where
-        go : {x : RowCall Stepped} → StepView x → step_bound_call lim s l row p ≡ x → StepTold lim (program_of s r c) l row p w l' row'
+        go : {x : RowCall (Answer Move)} → StepView x → step_bound_call lim s l row p ≡ x → StepTold lim (program_of s r c) l row p w l' row'
         go (view-refused y) e = let b = demand-1-step-bound.by in let a = (b.given y).0 in let d = (b.numbered y).0 in absurd (omega arith)
         go (view-told i x f g) e = let q = let-in-same i j in rw (q.0, q.1) at (told-so i x f g)
 
 -- ---- a turn
 
 module _ (lim : Limits) (s : List ℕ) (l : Lent) (row : List ℕ) where
-  turn-plainly : {n o : ℕ} → TurnRefused lim s l n o → turn_bound_call lim s l row ≡ record { answer = Unmoved (refusal n o); lent = l; row = row }
+  turn-plainly : {n o : ℕ} → TurnRefused lim s l n o → turn_bound_call lim s l row ≡ record { answer = Err (refusal n o); lent = l; row = row }
   unfolding turn_bound_call
   turn-plainly y = rw (turn-refused lim s l y)
 
@@ -239,7 +237,7 @@ module _ (lim : Limits) (s : List ℕ) (l : Lent) (row : List ℕ) where
   unfolding turn_bound_call step_bound_call
   turn-bound-step i u = rw (turn_step lim s l i u, enter-let lim s l i, turn-tells i u)
 
-  turn-refused-call : {n o : ℕ} → TurnBoundRefused lim s l row n o → turn_bound_call lim s l row ≡ record { answer = Unmoved (refusal n o); lent = l; row = row }
+  turn-refused-call : {n o : ℕ} → TurnBoundRefused lim s l row n o → turn_bound_call lim s l row ≡ record { answer = Err (refusal n o); lent = l; row = row }
   turn-refused-call (as_turn y) = turn-plainly y
   turn-refused-call (untold_turn u) = turn-bound-step u.step.inside u.turn ∙ refused-call lim s l row u.process (untold_step u.step)
 
@@ -268,9 +266,9 @@ module _ (lim : Limits) (s : List ℕ) (l : Lent) (row : List ℕ) where
         as-whose i p u (a-refusal (as_step (no_room_for j h n))) = let q = let-in-same j i in a-refusal (as_turn (no_room_in_turn i u (rw (q.0, q.1) at n)))
         as-whose i p u (a-refusal (untold_step y)) = let q = let-in-same y.inside i in a-refusal (untold_turn (record { process = p; step = y; turn = rw (q.0, q.1) u }))
 
-        by : {r c : ℕ} (i : LetIn lim s l r c) (f : Found) → turn_for (program_of s r c) (tables_in l) ≡ f → Answered (TurnBoundRefused lim s l row) w
-        by {r} {c} i Nothing e = a-refusal (as_turn (nobody i (turn-none lim (program_of s r c) (tables_in l) (let-ok lim s l i) e)))
-        by {r} {c} i (At p) e =
+        by : {r c : ℕ} (i : LetIn lim s l r c) (f : Option ℕ) → turn_for (program_of s r c) (tables_in l) ≡ f → Answered (TurnBoundRefused lim s l row) w
+        by {r} {c} i None e = a-refusal (as_turn (nobody i (turn-none lim (program_of s r c) (tables_in l) (let-ok lim s l i) e)))
+        by {r} {c} i (Some p) e =
             let u = turn-of lim (program_of s r c) (tables_in l) (let-ok lim s l i) p e in
             as-whose i p u (step-bound-answered lim s l row p w l' row' (turn-bound-meets i u))
 
@@ -295,9 +293,9 @@ module _ (lim : Limits) (s : List ℕ) (l : Lent) (row : List ℕ) where
             let d = turn-refused lim s l y in
             record { contract = record { answer = meets.contract.answer ∙ rw (e, d); head = meets.contract.head ∙ rw (e, d); procs = meets.contract.procs ∙ rw (e, d); vars = meets.contract.vars ∙ rw (e, d) } }
 
-        by : {r c : ℕ} (i : LetIn lim s l r c) (f : Found) → turn_for (program_of s r c) (tables_in l) ≡ f → TurnMeets lim s l w l'
-        by {r} {c} i Nothing e = refused-so (nobody i (turn-none lim (program_of s r c) (tables_in l) (let-ok lim s l i) e))
-        by {r} {c} i (At p) e =
+        by : {r c : ℕ} (i : LetIn lim s l r c) (f : Option ℕ) → turn_for (program_of s r c) (tables_in l) ≡ f → TurnMeets lim s l w l'
+        by {r} {c} i None e = refused-so (nobody i (turn-none lim (program_of s r c) (tables_in l) (let-ok lim s l i) e))
+        by {r} {c} i (Some p) e =
             let u = turn-of lim (program_of s r c) (tables_in l) (let-ok lim s l i) p e in
             let a = plain_step lim s l row p w l' row' (turn-bound-meets i u) (λ y. let q = let-in-same y.inside i in n (record { process = p; step = y; turn = rw (q.0, q.1) u })) in
             let d = turn_step lim s l i u in

@@ -1,4 +1,6 @@
 -- Request 1, a supply: refused as the plain one, then for the row; else the plain one, and the variable that takes the binding is told. And what follows for all three calls.
+use Rattle.parlog.specs.Answer.{Answer}
+use Rattle.std.specs.Prelude.{Option, None, Ok, Err, Some}
 use mathlib.Core.Path.{◌∙◌, ◌≡◌, ap, refl, subst, sym}
 use mathlib.Core.Logic.{◌≢◌}
 use mathlib.Core.List.{[], ◌∷◌, List}
@@ -26,10 +28,6 @@ use Rattle.parlog.specs.Numbers.{Numbers, refused_as, word}
 use Rattle.parlog.specs.Program.{program_of}
 use Rattle.parlog.specs.Run.{supplied, Supplying}
 use Rattle.parlog.specs.Tables.{binding_of, Lent, put_tables, Tables, tables_in}
-use Rattle.parlog.specs.declared.Binding.{Binding}
-use Rattle.parlog.specs.declared.Binding.TheVariants.{Bound, Free}
-use Rattle.parlog.specs.declared.Supplied.{Supplied}
-use Rattle.parlog.specs.declared.Supplied.TheVariants.{Given, Ungiven}
 use Rattle.parlog.specs.declared.Term.{Term}
 use Rattle.parlog.specs.declared.Term.TheVariants.{Var}
 use Rattle.promises.proofs.Bound.{demand-1-step-bound, demand-1-turn-bound, kept_of, plain_step, plain_turn, row-holds}
@@ -45,48 +43,48 @@ use Rattle.promises.specs.Reach.{Later, then_step, then_supply, then_turn}
 use Rattle.promises.specs.Refusals.{has_constant, LetIn, no_constant, no_variable, state_in, supply_away, SupplyRefused}
 
 -- where a variable leads is no higher
-lower : (vs : List Binding) → Falling vs → {t : Term} {u : ℕ} → Leads vs t (Var u) → (x : ℕ) → t ≡ Var x → u ≤ x
+lower : (vs : List (Option Term)) → Falling vs → {t : Term} {u : ℕ} → Leads vs t (Var u) → (x : ℕ) → t ≡ Var x → u ≤ x
 lower vs fall (unbound {v} e) x q = let z : v ≡ x = cc in omega arith
 lower vs fall {u = u} (onward {v} {t} e d) x q = by t e (λ j f. lower vs fall d j f) d
   where
-    by : (y : Term) → binding_of vs v ≡ Bound y → ((j : ℕ) → y ≡ Var j → u ≤ j) → Leads vs y (Var u) → u ≤ x
+    by : (y : Term) → binding_of vs v ≡ Some y → ((j : ℕ) → y ≡ Var j → u ≤ j) → Leads vs y (Var u) → u ≤ x
     by (Rattle.parlog.specs.declared.Term.TheVariants.Const _) b rec g = elim g [ ]
     by (Var j) b rec g = let z : v ≡ x = cc in let h = rec j refl in let f = fall v j b in omega arith
 
 -- one variable is bound
-given-newly : (l l' : Lent) (u k : ℕ) → tables_in l' ≡ supplied (tables_in l) u k → u < length (state_in l).vars → binding_of (state_in l).vars u ≡ Free
+given-newly : (l l' : Lent) (u k : ℕ) → tables_in l' ≡ supplied (tables_in l) u k → u < length (state_in l).vars → binding_of (state_in l).vars u ≡ None
     → NewlyBound (state_in l).vars (state_in l').vars (u ∷ [])
 unfolding supplied
 given-newly l l' u k e h f =
-    subst (λ (x : List Binding). NewlyBound (state_in l).vars x (u ∷ [])) (sym (ap (λ (t : Tables). t.state.vars) e)) (supply-binds (state_in l).vars u k h f)
+    subst (λ (x : List (Option Term)). NewlyBound (state_in l).vars x (u ∷ [])) (sym (ap (λ (t : Tables). t.state.vars) e)) (supply-binds (state_in l).vars u k h f)
 
 module _ (lim : Limits) (s : List ℕ) (l : Lent) (row : List ℕ) (v k : ℕ) where
-  supply-plainly : {n o : ℕ} → SupplyRefused lim s l v k n o → supply_bound_call lim s l row v k ≡ record { answer = Ungiven (refusal n o); lent = l; row = row }
+  supply-plainly : {n o : ℕ} → SupplyRefused lim s l v k n o → supply_bound_call lim s l row v k ≡ record { answer = Err (refusal n o); lent = l; row = row }
   unfolding supply_bound_call
   supply-plainly y = rw (supply-refused lim s l v k y)
 
   module _ {r c : ℕ} (i : LetIn lim s l r c) (h : v < (program_of s r c).goal_vars) (g : k ≤ 32767) {u : ℕ} (x : Leads (state_in l).vars (Var v) (Var u)) where
-    given-call : supply_call lim s l v k ≡ record { answer = Given u; lent = put_tables l (supplied (tables_in l) u k) }
+    given-call : supply_call lim s l v k ≡ record { answer = Ok u; lent = put_tables l (supplied (tables_in l) u k) }
     given-call = supply-as lim s l v k i (supply-gives lim (program_of s r c) (tables_in l) (let-ok lim s l i) v k h g x)
 
-    supply-call : supply_bound_call lim s l row v k ≡ tell_in (Ungiven (refusal 11 0)) (Given u) (put_tables l (supplied (tables_in l) u k)) l row (bound_bytes (u ∷ []))
+    supply-call : supply_bound_call lim s l row v k ≡ tell_in (Err (refusal 11 0)) (Ok u) (put_tables l (supplied (tables_in l) u k)) l row (bound_bytes (u ∷ []))
     unfolding supply_bound_call
     supply-call = rw given-call
 
-    supply-short : length row < bytes_for 1 → supply_bound_call lim s l row v k ≡ record { answer = Ungiven (refusal 11 0); lent = l; row = row }
+    supply-short : length row < bytes_for 1 → supply_bound_call lim s l row v k ≡ record { answer = Err (refusal 11 0); lent = l; row = row }
     supply-short e = supply-call ∙ tell-short _ _ _ l row (bound_bytes (u ∷ [])) (rw (bytes-length (u ∷ [])) e)
 
-    supply-fits-in : bytes_for 1 ≤ length row → supply_bound_call lim s l row v k ≡ record { answer = Given u; lent = put_tables l (supplied (tables_in l) u k); row = laid row 0 (bound_bytes (u ∷ [])) }
-    supply-fits-in e = supply-call ∙ tell-fits (Ungiven (refusal 11 0)) (Given u) (put_tables l (supplied (tables_in l) u k)) l row (bound_bytes (u ∷ [])) (rw (bytes-length (u ∷ [])) e)
+    supply-fits-in : bytes_for 1 ≤ length row → supply_bound_call lim s l row v k ≡ record { answer = Ok u; lent = put_tables l (supplied (tables_in l) u k); row = laid row 0 (bound_bytes (u ∷ [])) }
+    supply-fits-in e = supply-call ∙ tell-fits (Err (refusal 11 0)) (Ok u) (put_tables l (supplied (tables_in l) u k)) l row (bound_bytes (u ∷ [])) (rw (bytes-length (u ∷ [])) e)
 
-  supply-refused-call : {n o : ℕ} → SupplyBoundRefused lim s l row v k n o → supply_bound_call lim s l row v k ≡ record { answer = Ungiven (refusal n o); lent = l; row = row }
+  supply-refused-call : {n o : ℕ} → SupplyBoundRefused lim s l row v k n o → supply_bound_call lim s l row v k ≡ record { answer = Err (refusal n o); lent = l; row = row }
   supply-refused-call (as_supply y) = supply-plainly y
   supply-refused-call (untold_supply y) = supply-short y.inside y.variable y.constant y.value y.short
 
-  data SupplyView : RowCall Supplied → Type 0 where
-    view-ungiven : {n o : ℕ} → SupplyBoundRefused lim s l row v k n o → SupplyView (record { answer = Ungiven (refusal n o); lent = l; row = row })
+  data SupplyView : RowCall (Answer ℕ) → Type 0 where
+    view-ungiven : {n o : ℕ} → SupplyBoundRefused lim s l row v k n o → SupplyView (record { answer = Err (refusal n o); lent = l; row = row })
     view-given : {r c u : ℕ} (i : LetIn lim s l r c) → v < (program_of s r c).goal_vars → k ≤ 32767 → Leads (state_in l).vars (Var v) (Var u) → bytes_for 1 ≤ length row
-        → SupplyView (record { answer = Given u; lent = put_tables l (supplied (tables_in l) u k); row = laid row 0 (bound_bytes (u ∷ [])) })
+        → SupplyView (record { answer = Ok u; lent = put_tables l (supplied (tables_in l) u k); row = laid row 0 (bound_bytes (u ∷ [])) })
 
   supply-view : SupplyView (supply_bound_call lim s l row v k)
   supply-view = go (door lim s l)
@@ -118,7 +116,7 @@ module _ (lim : Limits) (s : List ℕ) (l : Lent) (row : List ℕ) (v k : ℕ) w
     supply-bound-answered : Answered (SupplyBoundRefused lim s l row v k) w
     supply-bound-answered = go supply-view refl
       where
-        go : {x : RowCall Supplied} → SupplyView x → supply_bound_call lim s l row v k ≡ x → Answered (SupplyBoundRefused lim s l row v k) w
+        go : {x : RowCall (Answer ℕ)} → SupplyView x → supply_bound_call lim s l row v k ≡ x → Answered (SupplyBoundRefused lim s l row v k) w
         go (view-ungiven y) e = a-refusal y
         go (view-given {u = u} i h g x f) e = no-refusal (given-told w u (meets.contract.answer ∙ rw e))
 
@@ -129,7 +127,7 @@ module _ (lim : Limits) (s : List ℕ) (l : Lent) (row : List ℕ) (v k : ℕ) w
       row_kept = kept_of w supply-bound-answered (λ n o y. let e = supply-refused-call {n = n} {o = o} y in meets.contract.row ∙ rw e);
     }
 
-    same-supply : {a : Supplied} {m : Lent} {q : List ℕ} → supply_bound_call lim s l row v k ≡ record { answer = a; lent = m; row = q } → supply_call lim s l v k ≡ record { answer = a; lent = m } → SupplyMeets lim s l v k w l'
+    same-supply : {a : Answer ℕ} {m : Lent} {q : List ℕ} → supply_bound_call lim s l row v k ≡ record { answer = a; lent = m; row = q } → supply_call lim s l v k ≡ record { answer = a; lent = m } → SupplyMeets lim s l v k w l'
     same-supply e d =
         record { contract = record { answer = meets.contract.answer ∙ rw (e, d); head = meets.contract.head ∙ rw (e, d); procs = meets.contract.procs ∙ rw (e, d); vars = meets.contract.vars ∙ rw (e, d) } }
 
@@ -137,7 +135,7 @@ module _ (lim : Limits) (s : List ℕ) (l : Lent) (row : List ℕ) (v k : ℕ) w
     pub plain-supply : (SupplyUntold lim s l row v k → ⊥) → SupplyMeets lim s l v k w l'
     plain-supply n = go supply-view refl
       where
-        go : {x : RowCall Supplied} → SupplyView x → supply_bound_call lim s l row v k ≡ x → SupplyMeets lim s l v k w l'
+        go : {x : RowCall (Answer ℕ)} → SupplyView x → supply_bound_call lim s l row v k ≡ x → SupplyMeets lim s l v k w l'
         go (view-ungiven (as_supply y)) e = same-supply e (supply-refused lim s l v k y)
         go (view-ungiven (untold_supply u)) e = absurd (n u)
         go (view-given i h g x f) e = same-supply e (given-call i h g x)
@@ -146,7 +144,7 @@ module _ (lim : Limits) (s : List ℕ) (l : Lent) (row : List ℕ) (v k : ℕ) w
         → SupplyTold l row v k w l' row'
     given_so {r} {c} {u} i h g x f z =
         let e = supply-fits-in i h g x f in
-        let vs : List Binding = (state_in l).vars in
+        let vs : List (Option Term) = (state_in l).vars in
         let ok = tables-state lim (program_of s r c) (tables_in l) (let-ok lim s l i) in
         let fall = (state-good lim (program_of s r c) (state_in l) ok).falls in
         let y = demand-2-supply lim s l i v k w l' (same-supply e (given-call i h g x)) z in
@@ -163,7 +161,7 @@ module _ (lim : Limits) (s : List ℕ) (l : Lent) (row : List ℕ) (v k : ℕ) w
     pub demand-2-supply-bound : {r c : ℕ} → LetIn lim s l r c → refusal_in w ≡ 0 → SupplyTold l row v k w l' row'
     demand-2-supply-bound j z = go supply-view refl
       where
-        go : {x : RowCall Supplied} → SupplyView x → supply_bound_call lim s l row v k ≡ x → SupplyTold l row v k w l' row'
+        go : {x : RowCall (Answer ℕ)} → SupplyView x → supply_bound_call lim s l row v k ≡ x → SupplyTold l row v k w l' row'
         go (view-ungiven y) e = let b = demand-1-supply-bound.by in let a = (b.given y).0 in let d = (b.numbered y).0 in absurd (omega arith)
         go (view-given i h g x f) e = given_so i h g x f z
 

@@ -1,4 +1,7 @@
 -- Demand 1: a word is a refusal exactly where docs/MACHINE.md has one, with its number and its offset, and a refusal leaves every lent byte as it was.
+use Rattle.parlog.specs.declared.Term.{Term}
+use Rattle.std.specs.Prelude.{Option, Some, Ok, Err, None}
+use Rattle.parlog.specs.Answer.{Answer}
 use mathlib.Core.Path.{◌∙◌, ◌≡◌, ap, refl, sym}
 use mathlib.Core.Logic.{◌≢◌}
 use mathlib.Core.Bool.{true}
@@ -21,17 +24,7 @@ use Rattle.parlog.specs.Run.{Looking, Running, run_tables, Stepping, step_tables
 use Rattle.parlog.specs.TableRules.{full_size}
 use Rattle.parlog.specs.Tables.{cell_size, Lent, proc_count, started_lent, Tables, tables_in, written}
 use Rattle.parlog.specs.Unify.{value}
-use Rattle.parlog.specs.declared.Binding.{Binding}
-use Rattle.parlog.specs.declared.Found.{Found}
-use Rattle.parlog.specs.declared.Found.TheVariants.{At, Nothing}
-use Rattle.parlog.specs.declared.Loaded.{Loaded}
-use Rattle.parlog.specs.declared.Loaded.TheVariants.{Accepted, Refused}
-use Rattle.parlog.specs.declared.Ran.TheVariants.{Unrun}
-use Rattle.parlog.specs.declared.Started.TheVariants.{Begun, Unstarted}
-use Rattle.parlog.specs.declared.Stepped.TheVariants.{Unmoved}
-use Rattle.parlog.specs.declared.Supplied.TheVariants.{Ungiven}
 use Rattle.parlog.specs.declared.Term.TheVariants.{Var}
-use Rattle.parlog.specs.declared.Valued.TheVariants.{Unvalued}
 use Rattle.promises.proofs.Entry.{away, away-numbered, bad-is, Door, door, inside, let-in-same, let-ok, run-let, run-turned, step-let, step-turned, supply-let, supply-turned, turn-let, turn-turned, value-let, value-turned, values-let, values-turned}
 use Rattle.promises.proofs.Giving.{is-constant, is-taken, look-sees, look-twelve, not_there, Offer, offer, supply-fourteen, supply-thirteen, supply-twelve, too_large}
 use Rattle.promises.proofs.Loaded.{accepted-few}
@@ -44,7 +37,6 @@ use Rattle.refusals.proofs.RuledExactly.{sizes-exactly}
 use Rattle.refusals.proofs.Tests.{refuted, refutes}
 use Rattle.refusals.specs.Right.{RightImage}
 use Rattle.values.specs.Values.{gathered, values_bytes, values_call}
-use Rattle.values.specs.declared.Gathered.TheVariants.{Ungathered, Values}
 
 -- ---- from the reasons to the word
 
@@ -86,9 +78,9 @@ module _ (s : List ℕ) (w : ℕ) (meets : LoadMeets s w) where
   pub demand-1-load : RefusesBy 14 (BadImage s) w
   demand-1-load = refuses-by w (λ n o b. bad-numbered b) (omega arith) (λ n o b. meets.contract ∙ rw (bad-is b)) (go (load_of s) refl)
     where
-      go : (a : Loaded) → load_of s ≡ a → Answered (BadImage s) w
-      go (Refused f) e = a-refusal ((refused-exactly s).0 e)
-      go (Accepted r c) e = no-refusal (load-counts ((accepted-right s).0 e)).0
+      go : (a : Answer (ℕ × ℕ)) → load_of s ≡ a → Answered (BadImage s) w
+      go (Err f) e = a-refusal ((refused-exactly s).0 e)
+      go (Ok (r, c)) e = no-refusal (load-counts ((accepted-right s).0 e)).0
 
 -- ---- start
 
@@ -97,25 +89,25 @@ start-numbered (start_image b) = bad-numbered b
 start-numbered (start_sizes e h) = (omega arith, omega arith)
 
 module _ (lim : Limits) (s : List ℕ) (l : Lent) where
-  pub start-refused : {n o : ℕ} → StartRefused lim s l n o → start_call lim s l ≡ record { answer = Unstarted (refusal n o); lent = l }
+  pub start-refused : {n o : ℕ} → StartRefused lim s l n o → start_call lim s l ≡ record { answer = Err (refusal n o); lent = l }
   unfolding start_call
   start-refused (start_image b) = rw (bad-is b)
   start-refused (start_sizes a h) = rw ((accepted-right s).1 a, refutes (full_size lim l) (sizes-exactly lim l) h)
 
-  pub start-begun : {r c : ℕ} → load_of s ≡ Accepted r c → full_size lim l ≡ true → start_call lim s l ≡ record { answer = Begun; lent = started_lent lim (program_of s r c) }
+  pub start-begun : {r c : ℕ} → load_of s ≡ Ok (r, c) → full_size lim l ≡ true → start_call lim s l ≡ record { answer = Ok tt; lent = started_lent lim (program_of s r c) }
   unfolding start_call
   start-begun e h = rw (e, h)
 
   pub data Start : Type 0 where
     is-refused : {n o : ℕ} → StartRefused lim s l n o → Start
-    is-begun : {r c : ℕ} → load_of s ≡ Accepted r c → full_size lim l ≡ true → Start
+    is-begun : {r c : ℕ} → load_of s ≡ Ok (r, c) → full_size lim l ≡ true → Start
 
   pub starting-so : Start
   starting-so = go (load_of s) refl
     where
-      go : (a : Loaded) → load_of s ≡ a → Start
-      go (Refused f) e = is-refused (start_image ((refused-exactly s).0 e))
-      go (Accepted r c) e = split (full_size lim l) (λ h. is-begun e h) (λ h. is-refused (start_sizes ((accepted-right s).0 e) (refuted (sizes-exactly lim l) h)))
+      go : (a : Answer (ℕ × ℕ)) → load_of s ≡ a → Start
+      go (Err f) e = is-refused (start_image ((refused-exactly s).0 e))
+      go (Ok (r, c)) e = split (full_size lim l) (λ h. is-begun e h) (λ h. is-refused (start_sizes ((accepted-right s).0 e) (refuted (sizes-exactly lim l) h)))
 
   module _ (w : ℕ) (l' : Lent) (meets : StartMeets lim s l w l') where
     start_word : (n o : ℕ) → StartRefused lim s l n o → w ≡ word (refused_as (refusal n o))
@@ -143,7 +135,7 @@ module _ (lim : Limits) (s : List ℕ) (l : Lent) (p : ℕ) where
   pub step-as : {r c : ℕ} → LetIn lim s l r c → {a : Stepping} → step_tables lim (program_of s r c) (tables_in l) p ≡ a → step_call lim s l p ≡ step_answer a l
   step-as i e = step-let lim s l i p ∙ ap (λ (x : Stepping). step_answer x l) e
 
-  pub step-refused : {n o : ℕ} → StepRefused lim s l p n o → step_call lim s l p ≡ record { answer = Unmoved (refusal n o); lent = l }
+  pub step-refused : {n o : ℕ} → StepRefused lim s l p n o → step_call lim s l p ≡ record { answer = Err (refusal n o); lent = l }
   step-refused (step_away a) = step-turned lim s l a p
   step-refused (no_process i h) = step-as i (step-nine lim _ (tables_in l) (let-ok lim s l i) p (rw (count-procs l) h))
   step-refused (no_rule_for i h n) = step-as i (step-ten lim _ (tables_in l) (let-ok lim s l i) p (rw (count-procs l) h) n)
@@ -180,7 +172,7 @@ module _ (lim : Limits) (s : List ℕ) (l : Lent) where
   pub turn-as : {r c : ℕ} → LetIn lim s l r c → {a : Stepping} → turn_tables lim (program_of s r c) (tables_in l) ≡ a → turn_call lim s l ≡ step_answer a l
   turn-as i e = turn-let lim s l i ∙ ap (λ (x : Stepping). step_answer x l) e
 
-  turn-nobody : {r c : ℕ} → LetIn lim s l r c → turn_for (program_of s r c) (tables_in l) ≡ Nothing → turn_tables lim (program_of s r c) (tables_in l) ≡ unmade 10
+  turn-nobody : {r c : ℕ} → LetIn lim s l r c → turn_for (program_of s r c) (tables_in l) ≡ None → turn_tables lim (program_of s r c) (tables_in l) ≡ unmade 10
   unfolding turn_tables turn_to
   turn-nobody i e = rw e
 
@@ -195,7 +187,7 @@ module _ (lim : Limits) (s : List ℕ) (l : Lent) where
       let ok = let-ok lim s l i in
       rw (← count-procs l) (can-here pr (state_in l) p (move-can lim pr (state_in l) (tables-state lim pr (tables_in l) ok) p (turn-moves lim pr (tables_in l) ok u)))
 
-  pub turn-refused : {n o : ℕ} → TurnRefused lim s l n o → turn_call lim s l ≡ record { answer = Unmoved (refusal n o); lent = l }
+  pub turn-refused : {n o : ℕ} → TurnRefused lim s l n o → turn_call lim s l ≡ record { answer = Err (refusal n o); lent = l }
   turn-refused (turn_away a) = turn-turned lim s l a
   turn-refused (nobody {r} {c} i h) = turn-as i (turn-nobody i (none-turn lim (program_of s r c) (tables_in l) (let-ok lim s l i) h))
   turn-refused (no_room_in_turn i u n) = turn_step i u ∙ step-refused lim s l _ (no_room_for i (turn-there i u) n)
@@ -222,9 +214,9 @@ module _ (lim : Limits) (s : List ℕ) (l : Lent) where
             absurd (n (rw (q.0, q.1) (turn-moves lim (program_of s r c) t (let-ok lim s l i) u)))
         go p u (a-refusal (no_room_for j h n)) = let q = let-in-same j i in a-refusal (no_room_in_turn i u (rw (q.0, q.1) at n))
 
-        by : (f : Found) → turn_for (program_of s r c) t ≡ f → Answered (TurnRefused lim s l) w
-        by Nothing e = a-refusal (nobody i (turn-none lim (program_of s r c) t (let-ok lim s l i) e))
-        by (At p) e = let u = turn-of lim (program_of s r c) t (let-ok lim s l i) p e in go p u (step-answered lim s l p w l' (turn-meets-step i u) (inside i))
+        by : (f : Option ℕ) → turn_for (program_of s r c) t ≡ f → Answered (TurnRefused lim s l) w
+        by None e = a-refusal (nobody i (turn-none lim (program_of s r c) t (let-ok lim s l i) e))
+        by (Some p) e = let u = turn-of lim (program_of s r c) t (let-ok lim s l i) p e in go p u (step-answered lim s l p w l' (turn-meets-step i u) (inside i))
 
     turn-word : (n o : ℕ) → TurnRefused lim s l n o → w ≡ word (refused_as (refusal n o))
     turn-word n o y = let e = turn-refused {n = n} {o = o} y in meets.contract.answer ∙ rw e
@@ -241,7 +233,7 @@ run-numbered : {lim : Limits} {s : List ℕ} {l : Lent} {n o : ℕ} → RunRefus
 run-numbered (run_away a) = let b = away-numbered a in (b.0, omega (arith, b.1))
 
 module _ (lim : Limits) (s : List ℕ) (l : Lent) (limit : ℕ) where
-  pub run-refused : {n o : ℕ} → RunRefused lim s l n o → run_call lim s l limit ≡ record { answer = Unrun (refusal n o); lent = l }
+  pub run-refused : {n o : ℕ} → RunRefused lim s l n o → run_call lim s l limit ≡ record { answer = Err (refusal n o); lent = l }
   run-refused (run_away a) = run-turned lim s l a limit
 
   module _ (w : ℕ) (l' : Lent) (meets : RunMeets lim s l limit w l') where
@@ -272,7 +264,7 @@ module _ (lim : Limits) (s : List ℕ) (l : Lent) (v k : ℕ) where
   pub supply-as : {r c : ℕ} → LetIn lim s l r c → {a : Supplying} → supply_tables (program_of s r c) (tables_in l) v k ≡ a → supply_call lim s l v k ≡ supply_answer a l
   supply-as i e = supply-let lim s l i v k ∙ ap (λ (x : Supplying). supply_answer x l) e
 
-  pub supply-refused : {n o : ℕ} → SupplyRefused lim s l v k n o → supply_call lim s l v k ≡ record { answer = Ungiven (refusal n o); lent = l }
+  pub supply-refused : {n o : ℕ} → SupplyRefused lim s l v k n o → supply_call lim s l v k ≡ record { answer = Err (refusal n o); lent = l }
   supply-refused (supply_away a) = supply-turned lim s l a v k
   supply-refused (no_variable i h) = supply-as i (supply-twelve lim _ (tables_in l) (let-ok lim s l i) v k h)
   supply-refused (no_constant i h g) = supply-as i (supply-fourteen lim _ (tables_in l) (let-ok lim s l i) v k h g)
@@ -308,7 +300,7 @@ module _ (lim : Limits) (s : List ℕ) (l : Lent) (v : ℕ) where
   pub value_as : {r c : ℕ} → LetIn lim s l r c → {a : Looking} → value_tables (program_of s r c) (tables_in l) v ≡ a → value_call lim s l v ≡ value_answer a
   value_as i e = value-let lim s l i v ∙ ap (λ (x : Looking). value_answer x) e
 
-  pub value-refused : {n o : ℕ} → ValueRefused lim s l v n o → value_call lim s l v ≡ Unvalued (refusal n o)
+  pub value-refused : {n o : ℕ} → ValueRefused lim s l v n o → value_call lim s l v ≡ Err (refusal n o)
   value-refused (value_away a) = value-turned lim s l a v
   value-refused (no_variable_seen i h) = value_as i (look-twelve lim _ (tables_in l) (let-ok lim s l i) v h)
 
@@ -331,17 +323,17 @@ values-numbered : {lim : Limits} {s : List ℕ} {l : Lent} {row : List ℕ} {n o
 values-numbered (values_away a) = let b = away-numbered a in (b.0, omega (arith, b.1))
 values-numbered (row_short i h) = (omega arith, omega arith)
 
-module _ (n : ℕ) (vs : List Binding) (row : List ℕ) where
-  pub gathered-short : length row < n * cell_size → gathered n vs row ≡ record { answer = Ungathered (refusal 11 0); row = row }
+module _ (n : ℕ) (vs : List (Option Term)) (row : List ℕ) where
+  pub gathered-short : length row < n * cell_size → gathered n vs row ≡ record { answer = Err (refusal 11 0); row = row }
   unfolding gathered
   gathered-short h = rw (lt-leb (n * cell_size) (length row) h)
 
-  pub gathered-all : n * cell_size ≤ length row → gathered n vs row ≡ record { answer = Values n; row = written (values_bytes vs n) row }
+  pub gathered-all : n * cell_size ≤ length row → gathered n vs row ≡ record { answer = Ok n; row = written (values_bytes vs n) row }
   unfolding gathered
   gathered-all h = rw (le-leb (n * cell_size) (length row) h)
 
 module _ (lim : Limits) (s : List ℕ) (l : Lent) (row : List ℕ) where
-  pub values-refused : {n o : ℕ} → ValuesRefused lim s l row n o → values_call lim s l row ≡ record { answer = Ungathered (refusal n o); row = row }
+  pub values-refused : {n o : ℕ} → ValuesRefused lim s l row n o → values_call lim s l row ≡ record { answer = Err (refusal n o); row = row }
   values-refused (values_away a) = values-turned lim s l a row
   values-refused (row_short i h) = values-let lim s l i row ∙ gathered-short _ (state_in l).vars row h
 

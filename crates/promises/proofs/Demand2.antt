@@ -1,4 +1,6 @@
 -- Demand 2: a step, by number or by turn, is exactly the move of the rules; a supply binds, a look tells, a start begins.
+use Rattle.parlog.proofs.Answered.{ok-both}
+use Rattle.std.specs.Prelude.{Some, Ok}
 use mathlib.Core.Path.{◌∙◌, ◌≡◌, ap, refl, sym}
 use mathlib.Core.Logic.{inl, inr}
 use mathlib.Core.Bool.{true}
@@ -20,8 +22,6 @@ use Rattle.parlog.specs.Run.{made, Stepping, step_tables, supplied, Supplying, s
 use Rattle.parlog.specs.Sane.{Sane}
 use Rattle.parlog.specs.TableRules.{state_ok, tables_ok}
 use Rattle.parlog.specs.Tables.{binding_bytes, cell_size, fresh_tables, Lent, number_code, proc_count, process_bytes, put_tables, rows_bytes, row_size, sort_code, started_lent, State, Tables, tables_in, written}
-use Rattle.parlog.specs.declared.Binding.TheVariants.{Bound}
-use Rattle.parlog.specs.declared.Loaded.TheVariants.{Accepted}
 use Rattle.parlog.specs.declared.Move.{Move}
 use Rattle.parlog.specs.declared.Term.{Term}
 use Rattle.parlog.specs.declared.Term.TheVariants.{Const, Var}
@@ -164,11 +164,11 @@ module _ (lim : Limits) (s : List ℕ) (l : Lent) {r c : ℕ} (i : LetIn lim s l
           number = values-number (state_in l).vars pr.goal_vars row v h ∙ rw (← e) (number-told a.to);
         }
       where
-        sort-told : (t : Term) → sort_code (Bound t) ≡ (term_numbers t).a
+        sort-told : (t : Term) → sort_code (Some t) ≡ (term_numbers t).a
         sort-told (Const c) = refl
         sort-told (Var u) = refl
 
-        number-told : (t : Term) → number_code (Bound t) ≡ (term_numbers t).c
+        number-told : (t : Term) → number_code (Some t) ≡ (term_numbers t).c
         number-told (Const c) = refl
         number-told (Var u) = refl
 
@@ -190,7 +190,7 @@ module _ (lim : Limits) (s : List ℕ) (l : Lent) {r c : ℕ} (i : LetIn lim s l
 
 -- ---- a start
 
-module _ (s : List ℕ) {r c : ℕ} (e : load_of s ≡ Accepted r c) where
+module _ (s : List ℕ) {r c : ℕ} (e : load_of s ≡ Ok (r, c)) where
   pub goal-few : (program_of s r c).goal_vars ≤ 255
   goal-few = omega (arith, (accepted-few s e).2)
 
@@ -209,13 +209,13 @@ demand-2-start lim usable s l w l' meets z = go (starting-so lim s l)
         record { relations = r; clauses = c; image = (accepted-right s).0 e; read = rw k (started-read lim usable (program_of s r c) (goal-few s e)); bytes = k }
 
 -- the same, for the counts that a load of the image tells
-pub begun-at : (lim : Limits) → Usable lim → (s : List ℕ) (l : Lent) (w : ℕ) (l' : Lent) → StartMeets lim s l w l' → refusal_in w ≡ 0 → {r c : ℕ} → load_of s ≡ Accepted r c
+pub begun-at : (lim : Limits) → Usable lim → (s : List ℕ) (l : Lent) (w : ℕ) (l' : Lent) → StartMeets lim s l w l' → refusal_in w ≡ 0 → {r c : ℕ} → load_of s ≡ Ok (r, c)
     → (tables_in l' ≡ fresh_tables (program_of s r c)) × (l' ≡ started_lent lim (program_of s r c))
 begun-at lim usable s l w l' meets z {r} {c} e =
     let b = demand-2-start lim usable s l w l' meets z in
-    let q : Accepted b.relations b.clauses ≡ Accepted r c = sym ((accepted-right s).1 b.image) ∙ e in
-    let x : b.relations ≡ r = cc in
-    let y : b.clauses ≡ c = cc in
+    let q = ok-both (sym ((accepted-right s).1 b.image) ∙ e) in
+    let x : b.relations ≡ r = q.0 in
+    let y : b.clauses ≡ c = q.1 in
     (rw (x, y) at b.read, rw (x, y) at b.bytes)
 
 -- ---- bytes past what a call writes

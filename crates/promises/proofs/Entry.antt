@@ -1,4 +1,7 @@
 -- What each call does where it is turned away and where it is let in.
+use Rattle.parlog.proofs.Answered.{ok-both}
+use Rattle.std.specs.Prelude.{Ok, Err}
+use Rattle.parlog.specs.Answer.{Answer}
 use mathlib.Core.Path.{◌∙◌, ◌≡◌, refl, sym}
 use mathlib.Core.Bool.{Bool, false, true}
 use mathlib.Core.List.{List}
@@ -12,13 +15,7 @@ use Rattle.parlog.specs.Program.{program_of}
 use Rattle.parlog.specs.Run.{step_tables, supply_tables, turn_tables, value_tables}
 use Rattle.parlog.specs.TableRules.{full_size, lent_ok, tables_ok}
 use Rattle.parlog.specs.Tables.{Lent, put_tables, Tables, tables_in}
-use Rattle.parlog.specs.declared.Loaded.{Loaded}
-use Rattle.parlog.specs.declared.Loaded.TheVariants.{Accepted, Refused}
-use Rattle.parlog.specs.declared.Ran.TheVariants.{Unrun}
 use Rattle.parlog.specs.declared.Refusal.{Refusal}
-use Rattle.parlog.specs.declared.Stepped.TheVariants.{Unmoved}
-use Rattle.parlog.specs.declared.Supplied.TheVariants.{Ungiven}
-use Rattle.parlog.specs.declared.Valued.TheVariants.{Unvalued}
 use Rattle.promises.proofs.Fours.{Fours}
 use Rattle.promises.specs.Moves.{Holds}
 use Rattle.promises.specs.Refusals.{BadImage, for_image, for_tables, LetIn, TurnedAway}
@@ -26,22 +23,20 @@ use Rattle.refusals.proofs.Exactly.{accepted-right, refused-exactly, refused-num
 use Rattle.refusals.proofs.RuledExactly.{lent-exactly, ruled-exactly, sizes-exactly}
 use Rattle.refusals.proofs.Tests.{refuted, refutes}
 use Rattle.replay.specs.Replay.{replay_call, replay_tested}
-use Rattle.replay.specs.declared.Replayed.TheVariants.{Unreplayed}
 use Rattle.trace.specs.Trace.{trace_tested}
 use Rattle.values.specs.Values.{gathered, values_call}
-use Rattle.values.specs.declared.Gathered.TheVariants.{Ungathered}
 
 -- ---- the tests and the facts
 
 -- a bad image is refused so
-pub bad-is : {s : List ℕ} {n o : ℕ} → BadImage s n o → load_of s ≡ Refused (refusal n o)
+pub bad-is : {s : List ℕ} {n o : ℕ} → BadImage s n o → load_of s ≡ Err (refusal n o)
 bad-is {s} b = (refused-exactly s).1 b
 
 module _ {lim : Limits} {s : List ℕ} {l : Lent} {r c : ℕ} where
-  pub let_by : load_of s ≡ Accepted r c → lent_ok lim (program_of s r c) l ≡ true → LetIn lim s l r c
+  pub let_by : load_of s ≡ Ok (r, c) → lent_ok lim (program_of s r c) l ≡ true → LetIn lim s l r c
   let_by e h = record { image = (accepted-right s).0 e; tables = (lent-exactly lim (program_of s r c) l).0 h }
 
-  pub let-image : LetIn lim s l r c → load_of s ≡ Accepted r c
+  pub let-image : LetIn lim s l r c → load_of s ≡ Ok (r, c)
   let-image i = (accepted-right s).1 i.image
 
   pub let-tables : LetIn lim s l r c → lent_ok lim (program_of s r c) l ≡ true
@@ -58,13 +53,13 @@ module _ (lim : Limits) (s : List ℕ) (l : Lent) where
   unfolding enter
   entering = go (load_of s) refl
     where
-      on : (r c : ℕ) → load_of s ≡ Accepted r c → (b : Bool) → lent_ok lim (program_of s r c) l ≡ b → Entering lim s l (enter_by b (program_of s r c) l)
+      on : (r c : ℕ) → load_of s ≡ Ok (r, c) → (b : Bool) → lent_ok lim (program_of s r c) l ≡ b → Entering lim s l (enter_by b (program_of s r c) l)
       on r c e true h = is-let (let_by e h)
       on r c e false h = is_turned {f = refusal 8 0} (for_tables ((accepted-right s).0 e) (refuted (lent-exactly lim (program_of s r c) l) h))
 
-      go : (a : Loaded) → load_of s ≡ a → Entering lim s l (enter_loaded a lim s l)
-      go (Refused f) e = is_turned (for_image ((refused-exactly s).0 e))
-      go (Accepted r c) e = on r c e (lent_ok lim (program_of s r c) l) refl
+      go : (a : Answer (ℕ × ℕ)) → load_of s ≡ a → Entering lim s l (enter_loaded a lim s l)
+      go (Err f) e = is_turned (for_image ((refused-exactly s).0 e))
+      go (Ok (r, c)) e = on r c e (lent_ok lim (program_of s r c) l) refl
 
   pub enter-away : {n o : ℕ} → TurnedAway lim s l n o → enter lim s l ≡ turned_away (refusal n o)
   unfolding enter
@@ -88,11 +83,7 @@ module _ (lim : Limits) (s : List ℕ) (l : Lent) where
       go (is-let i) = inside i
 
 pub let-in-same : {lim : Limits} {s : List ℕ} {l l' : Lent} {r c r' c' : ℕ} → LetIn lim s l r c → LetIn lim s l' r' c' → (r ≡ r') × (c ≡ c')
-let-in-same {r = r} {c} {r'} {c'} a b =
-    let e : Accepted r c ≡ Accepted r' c' = sym (let-image a) ∙ let-image b in
-    let x : r ≡ r' = cc in
-    let y : c ≡ c' = cc in
-    (x, y)
+let-in-same a b = ok-both (sym (let-image a) ∙ let-image b)
 
 pub away-numbered : {lim : Limits} {s : List ℕ} {l : Lent} {n o : ℕ} → TurnedAway lim s l n o → (1 ≤ n) × (n ≤ 8)
 away-numbered (for_image b) = let a = refused-number b in (a.0, omega (arith, a.1))
@@ -102,31 +93,31 @@ away-numbered (for_tables e h) = (omega arith, omega arith)
 
 module _ (lim : Limits) (s : List ℕ) (l : Lent) where
   module _ {n o : ℕ} (a : TurnedAway lim s l n o) where
-    pub step-turned : (p : ℕ) → step_call lim s l p ≡ record { answer = Unmoved (refusal n o); lent = l }
+    pub step-turned : (p : ℕ) → step_call lim s l p ≡ record { answer = Err (refusal n o); lent = l }
     unfolding step_call
     step-turned p = rw (enter-away lim s l a)
 
-    pub turn-turned : turn_call lim s l ≡ record { answer = Unmoved (refusal n o); lent = l }
+    pub turn-turned : turn_call lim s l ≡ record { answer = Err (refusal n o); lent = l }
     unfolding turn_call
     turn-turned = rw (enter-away lim s l a)
 
-    pub run-turned : (limit : ℕ) → run_call lim s l limit ≡ record { answer = Unrun (refusal n o); lent = l }
+    pub run-turned : (limit : ℕ) → run_call lim s l limit ≡ record { answer = Err (refusal n o); lent = l }
     unfolding run_call
     run-turned limit = rw (enter-away lim s l a)
 
-    pub supply-turned : (v k : ℕ) → supply_call lim s l v k ≡ record { answer = Ungiven (refusal n o); lent = l }
+    pub supply-turned : (v k : ℕ) → supply_call lim s l v k ≡ record { answer = Err (refusal n o); lent = l }
     unfolding supply_call
     supply-turned v k = rw (enter-away lim s l a)
 
-    pub value-turned : (v : ℕ) → value_call lim s l v ≡ Unvalued (refusal n o)
+    pub value-turned : (v : ℕ) → value_call lim s l v ≡ Err (refusal n o)
     unfolding value_call
     value-turned v = rw (enter-away lim s l a)
 
-    pub values-turned : (row : List ℕ) → values_call lim s l row ≡ record { answer = Ungathered (refusal n o); row = row }
+    pub values-turned : (row : List ℕ) → values_call lim s l row ≡ record { answer = Err (refusal n o); row = row }
     unfolding values_call
     values-turned row = rw (enter-away lim s l a)
 
-    pub replay-turned : (x : List ℕ) → replay_call lim s l x ≡ record { answer = Unreplayed (refusal n o); lent = l }
+    pub replay-turned : (x : List ℕ) → replay_call lim s l x ≡ record { answer = Err (refusal n o); lent = l }
     unfolding replay_call
     replay-turned x = rw (enter-away lim s l a)
 

@@ -1,5 +1,6 @@
 -- ROOM is final: who lacks room lacks it after every further call, or is dormant by then. Another's move leaves the row of a process and
 -- the child that it hears as they were, a supply binds only; so its rule wants as many rows as before, and no fewer are in use.
+use Rattle.std.specs.Prelude.{Option, Some, None}
 use mathlib.Core.Path.{◌∙◌, ◌≡◌, ap, refl, subst, sym}
 use mathlib.Core.Logic.{◌≢◌, ◌⊎◌, inl, inr, ⊎_elim}
 use mathlib.Core.Bool.{◌&&◌, Bool, false, true}
@@ -35,8 +36,6 @@ use Rattle.parlog.specs.TableRules.{state_ok, tables_ok}
 use Rattle.parlog.specs.Tables.{Lent, noted, put_tables, State, Tables, tables_in}
 use Rattle.parlog.specs.Tree.{bad, below, good, Heard, heard, silent}
 use Rattle.parlog.specs.Unify.{binds, change, Decided, fails, some_bound, suspends}
-use Rattle.parlog.specs.declared.Found.{Found}
-use Rattle.parlog.specs.declared.Found.TheVariants.{At, Nothing}
 use Rattle.parlog.specs.declared.Move.{Move}
 use Rattle.parlog.specs.declared.Process.{Process}
 use Rattle.parlog.specs.declared.Term.TheVariants.{Const}
@@ -128,11 +127,11 @@ module _ (pr : Program) (s u : State) (p : ℕ) (x : Process) where
   try-wants false true o = nothing-new refl refl
   try-wants false false o = nothing-new refl refl
 
-  commit-wants : (f : Found) (b : Bool) (o : Applied) → Wants (or_search_wait f b s p x) o
+  commit-wants : (f : Option ℕ) (b : Bool) (o : Applied) → Wants (or_search_wait f b s p x) o
   unfolding new_in fresh_in or_search_wait
-  commit-wants (At c) b o = nothing-new refl refl
-  commit-wants Nothing true o = nothing-new refl refl
-  commit-wants Nothing false o = nothing-new refl refl
+  commit-wants (Some c) b o = nothing-new refl refl
+  commit-wants None true o = nothing-new refl refl
+  commit-wants None false o = nothing-new refl refl
 
   next-wants : (h : Heard) (o : Applied) → Wants (and_seq_wait h p x) o
   unfolding new_in fresh_in and_seq_wait
@@ -290,9 +289,9 @@ module _ (pr : Program) (s : State) (kin : Kin s) (q : ℕ) (m : Move) (d : Delt
 
   module _ (awake : sleeps_in s q d p ≡ false) where
     -- the mover's sleeping child is none of p's
-    other-nap : (k : ℕ) → Child s p k → (f : Found) → d.nap ≡ f → is_at f k ≡ false
-    other-nap k ch Nothing w = refl
-    other-nap k ch (At x) w = not_so (eqb k x) (λ t. n (sym ch.parent ∙ rw (← eqb-true k x t) at (fi.napped x w).0.parent))
+    other-nap : (k : ℕ) → Child s p k → (f : Option ℕ) → d.nap ≡ f → is_at f k ≡ false
+    other-nap k ch None w = refl
+    other-nap k ch (Some x) w = not_so (eqb k x) (λ t. n (sym ch.parent ∙ rw (← eqb-true k x t) at (fi.napped x w).0.parent))
 
     child-on : {k : ℕ} {r : Result} → Hears s p k r → me next k ≡ me s k
     child-on {k} h =

@@ -1,4 +1,5 @@
 -- Every process has four notes, as its row does: in the tables that bytes hold, and after every move and supply.
+use Rattle.std.specs.Prelude.{Option, Some, None}
 use mathlib.Core.Path.{◌≡◌, refl}
 use mathlib.Core.Bool.{◌&&◌, ◌||◌, Bool, false, true}
 use mathlib.Core.List.{[], ◌++◌, ◌∷◌, List}
@@ -22,8 +23,6 @@ use Rattle.parlog.specs.Tables.{at, goal_spot, Lent, new_process, proc_count, St
 use Rattle.parlog.specs.Tree.{bad, below, good, Heard, silent}
 use Rattle.parlog.specs.Unify.{binds, Decided, fails, suspends}
 use Rattle.parlog.specs.declared.Change.{Change}
-use Rattle.parlog.specs.declared.Found.{Found}
-use Rattle.parlog.specs.declared.Found.TheVariants.{At, Nothing}
 use Rattle.parlog.specs.declared.Move.{Move}
 use Rattle.parlog.specs.declared.Process.{Process}
 use Rattle.parlog.specs.declared.Spot.{Spot}
@@ -125,7 +124,7 @@ module _ (x : Process) (f : Four x) where
   report-with-four : (r : Result) (cs : List Change) → FourDelta (reporting_with r x cs)
   report-with-four r cs = record { mover = four-result r; new = four-none }
 
-  making-four : (y : Process) → Four y → (nap : Found) (new : List Process) → FourRows new → (n : ℕ) → FourDelta (making y nap new n)
+  making-four : (y : Process) → Four y → (nap : Option ℕ) (new : List Process) → FourRows new → (n : ℕ) → FourDelta (making y nap new n)
   making-four y g nap new h n = record { mover = g; new = h }
 
 found-four : (s : State) (c : ℕ) (x : Process) → Four x → FourDelta (report success (with_found s c x))
@@ -138,12 +137,12 @@ module _ (pr : Program) (s : State) (p : ℕ) (x : Process) (f : Four x) where
   four-seq : (b : Bool) → FourIn (and_seq_start b pr s p x)
   unfolding and_seq_start
   four-seq false = report-four x f success
-  four-seq true = making-four x f _ (four-mode x f waiting) Nothing _ (four-one _ (four-new _ starting p _)) 0
+  four-seq true = making-four x f _ (four-mode x f waiting) None _ (four-one _ (four-new _ starting p _)) 0
 
   four-search : (b : Bool) → FourIn (seq_search_start b s p x)
   unfolding seq_search_start searching
   four-search false = report-four x f failure
-  four-search true = making-four x f _ (four-spot x f waiting _) Nothing _ (four-one _ (four-new _ starting p _)) 0
+  four-search true = making-four x f _ (four-spot x f waiting _) None _ (four-one _ (four-new _ starting p _)) 0
 
   four-match : (o : Decided) → FourIn (input_match_start o p x)
   unfolding input_match_start
@@ -162,19 +161,19 @@ module _ (pr : Program) (s : State) (p : ℕ) (x : Process) (f : Four x) where
   four-guard : (g : Goal) → FourIn (guard_eval_start g s p x)
   unfolding guard_eval_start
   four-guard [] = report-four x f success
-  four-guard (st ∷ g) = making-four x f _ (four-mode x f waiting) Nothing _ (four-one _ (four-new _ starting p _)) 0
+  four-guard (st ∷ g) = making-four x f _ (four-mode x f waiting) None _ (four-one _ (four-new _ starting p _)) 0
 
   four-try : FourIn (try_clause_start s p x)
   unfolding try_clause_start
-  four-try = making-four x f _ (four-mode x f waiting) Nothing _ (four-first (four-new _ ready p _) (four-one _ (four-new _ ready p _))) 0
+  four-try = making-four x f _ (four-mode x f waiting) None _ (four-first (four-new _ ready p _) (four-one _ (four-new _ ready p _))) 0
 
   four-start : (t : Tag) → FourIn (start_rule t pr s p x)
   unfolding start_rule and_par_start or_par_start or_search_start
-  four-start and_par = making-four x f _ (four-mode x f waiting) Nothing _ (four-members pr p x.spot) 0
+  four-start and_par = making-four x f _ (four-mode x f waiting) None _ (four-members pr p x.spot) 0
   four-start and_seq = four-seq _
-  four-start or_par = making-four x f _ (four-mode x f waiting) Nothing _ (four-one _ (four-new _ starting p _)) 0
+  four-start or_par = making-four x f _ (four-mode x f waiting) None _ (four-one _ (four-new _ starting p _)) 0
   four-start seq_search = four-search _
-  four-start or_search = making-four x f _ (four-mode x f waiting) Nothing _ (four-tries pr p x.spot (length s.vars) _) _
+  four-start or_search = making-four x f _ (four-mode x f waiting) None _ (four-tries pr p x.spot (length s.vars) _) _
   four-start try_clause = four-try
   four-start input_match = four-match _
   four-start guard_eval = four-guard _
@@ -195,13 +194,13 @@ module _ (pr : Program) (s : State) (p : ℕ) (x : Process) (f : Four x) where
   four-next : (h : Heard) → FourIn (and_seq_wait h p x)
   unfolding and_seq_wait
   four-next silent = tt
-  four-next (good c) = making-four x f _ (four-spot x f starting _) (At c) [] four-none 0
+  four-next (good c) = making-four x f _ (four-spot x f starting _) (Some c) [] four-none 0
   four-next (bad c) = report-four x f failure
 
   four-heard : (b : Bool) (c : ℕ) → FourIn (or_par_heard b pr s p x c)
   unfolding or_par_heard body_child
   four-heard false c = report-four x f success
-  four-heard true c = making-four x f x f (At c) _ (four-one _ (four-new _ starting p _)) 0
+  four-heard true c = making-four x f x f (Some c) _ (four-one _ (four-new _ starting p _)) 0
 
   four-or : (h : Heard) → FourIn (or_par_wait h pr s p x)
   unfolding or_par_wait
@@ -212,7 +211,7 @@ module _ (pr : Program) (s : State) (p : ℕ) (x : Process) (f : Four x) where
   four-block : (b : Bool) (c : ℕ) → FourIn (seq_search_next b s p x c)
   unfolding seq_search_next searching
   four-block false c = report-four x f failure
-  four-block true c = making-four x f _ (four-spot x f waiting _) (At c) _ (four-one _ (four-new _ starting p _)) 0
+  four-block true c = making-four x f _ (four-spot x f waiting _) (Some c) _ (four-one _ (four-new _ starting p _)) 0
 
   four-blocks : (h : Heard) (n : ℕ) → FourIn (seq_search_wait h n s p x)
   unfolding seq_search_wait
@@ -220,11 +219,11 @@ module _ (pr : Program) (s : State) (p : ℕ) (x : Process) (f : Four x) where
   four-blocks (good c) n = found-four s c x f
   four-blocks (bad c) n = four-block _ c
 
-  four-commit : (o : Found) (b : Bool) → FourIn (or_search_wait o b s p x)
+  four-commit : (o : Option ℕ) (b : Bool) → FourIn (or_search_wait o b s p x)
   unfolding or_search_wait
-  four-commit (At c) b = found-four s c x f
-  four-commit Nothing true = report-four x f failure
-  four-commit Nothing false = tt
+  four-commit (Some c) b = found-four s c x f
+  four-commit None true = report-four x f failure
+  four-commit None false = tt
 
   four-ask : (h : Heard) → FourIn (guard_eval_wait h p x)
   unfolding guard_eval_wait

@@ -1,4 +1,5 @@
 -- What a supply and a look come to, over tables that keep the rules.
+use Rattle.std.specs.Prelude.{None}
 use mathlib.Core.Path.{◌≡◌, refl, sym}
 use mathlib.Core.Bool.{true}
 use Prim.Native.Nat.{◌<◌, ◌≤◌, ℕ}
@@ -16,7 +17,6 @@ use Rattle.parlog.specs.Run.{given, seen, supplied, Supplying, supply_tables, su
 use Rattle.parlog.specs.TableRules.{tables_ok}
 use Rattle.parlog.specs.Tables.{binding_of, Tables}
 use Rattle.parlog.specs.Unify.{value}
-use Rattle.parlog.specs.declared.Binding.TheVariants.{Free}
 use Rattle.parlog.specs.declared.Term.{Term}
 use Rattle.parlog.specs.declared.Term.TheVariants.{Const, Var}
 
@@ -48,7 +48,7 @@ module _ (lim : Limits) (pr : Program) (t : Tables) (ok : tables_ok lim pr t ≡
     not_there : pr.goal_vars ≤ v → Offer (ungiven 12)
     too_large : v < pr.goal_vars → 32767 < k → Offer (ungiven 14)
     is-constant : {j : ℕ} → v < pr.goal_vars → k ≤ 32767 → Leads t.state.vars (Var v) (Const j) → Offer (ungiven 13)
-    is-taken : {u : ℕ} → v < pr.goal_vars → k ≤ 32767 → Leads t.state.vars (Var v) (Var u) → binding_of t.state.vars u ≡ Free → Offer (given u (supplied t u k))
+    is-taken : {u : ℕ} → v < pr.goal_vars → k ≤ 32767 → Leads t.state.vars (Var v) (Var u) → binding_of t.state.vars u ≡ None → Offer (given u (supplied t u k))
 
   pub offer : Offer (supply_tables pr t v k)
   offer = split (ltb v pr.goal_vars)

@@ -1,5 +1,7 @@
 -- What every step, turn, run, supply and replay leaves: the bytes as they were, or tables that its moves or its supply lead to, written over them.
 -- So what was let in is let in afterwards, whatever the outcome.
+use Rattle.std.specs.Prelude.{Err, Ok}
+use Rattle.parlog.specs.Answer.{Answer}
 use mathlib.Core.Path.{◌∙◌, ◌≡◌, ap, refl}
 use mathlib.Core.Bool.{Bool, cond, false, true}
 use mathlib.Core.List.{[], ◌∷◌, List}
@@ -40,8 +42,6 @@ use Rattle.refusals.specs.Right.{RightImage}
 use Rattle.replay.specs.Replay.{disagrees, is_played, play_from, Playing, play_on, play_record, plays, play_step, play_supply, replay_tested, tables_played}
 use Rattle.resume.proofs.Copied.{copied}
 use Rattle.trace.specs.Trace.{step_kind, trace_size, trace_tested, what_at, who_at}
-use Rattle.trace.specs.declared.Tested.{Tested}
-use Rattle.trace.specs.declared.Tested.TheVariants.{Faulty, Records}
 
 -- ---- from tables to tables
 
@@ -155,9 +155,9 @@ module _ (lim : Limits) (s : List ℕ) (l : Lent) {r c : ℕ} (i : LetIn lim s l
       let q = replay-let lim s l i x in
       rw (same-lent l' (replay_tested (trace_tested x) lim pr x l).lent (meets.contract.head ∙ rw q) (meets.contract.procs ∙ rw q) (meets.contract.vars ∙ rw q)) (go (trace_tested x))
     where
-      go : (t : Tested) → Left (replay_tested t lim pr x l).lent
-      go (Faulty f) = as_it_was
-      go (Records n) = is-written (play_from n lim pr x 0 (tables_in l)).tables (play-goes lim pr x n 0 (tables_in l))
+      go : (t : Answer ℕ) → Left (replay_tested t lim pr x l).lent
+      go (Err f) = as_it_was
+      go (Ok n) = is-written (play_from n lim pr x 0 (tables_in l)).tables (play-goes lim pr x n 0 (tables_in l))
 
   -- what is written is let in, read back, and the same when it is written again
   module _ (t : Tables) (g : Goes lim pr (tables_in l) t) where

@@ -1,5 +1,7 @@
 -- The two calls that no C program reaches: the turn that is lent its marker is the turn of the exports, and the watch over records is that
 -- over their bytes.
+use Rattle.parlog.specs.Answer.{Answer}
+use Rattle.std.specs.Prelude.{Option, Ok, Some, None, Err}
 use mathlib.Core.Path.{◌∙◌, ◌≡◌, ap, refl, sym}
 use mathlib.Core.Bool.{Bool}
 use mathlib.Core.List.{◌++◌, List}
@@ -18,14 +20,10 @@ use Rattle.parlog.specs.Program.{program_of}
 use Rattle.parlog.specs.Run.{made, Stepping, turn_tables, unmade, watch_of}
 use Rattle.parlog.specs.Scan.{lowest}
 use Rattle.parlog.specs.Tables.{at, head_bytes, head_size, idle, Lent, process_at, process_bytes, procs_of, put_tables, rows_bytes, row_size, Tables, tables_in}
-use Rattle.parlog.specs.declared.Found.{Found}
-use Rattle.parlog.specs.declared.Found.TheVariants.{At, Nothing}
 use Rattle.parlog.specs.declared.Marker.{Marker}
 use Rattle.parlog.specs.declared.Move.{Move}
 use Rattle.parlog.specs.declared.Process.{Process}
 use Rattle.parlog.specs.declared.Refusal.{Refusal}
-use Rattle.parlog.specs.declared.Stepped.{Stepped}
-use Rattle.parlog.specs.declared.Stepped.TheVariants.{Moved, Unmoved}
 use Rattle.promises.proofs.Entry.{away, Door, door, inside, let-full, turn-let, turn-turned}
 use Rattle.promises.specs.Outcomes.{MarkerMeets, RecordsMeet, TurnMeets, WatchMeets}
 use Rattle.rows.proofs.Laws.{row-length}
@@ -37,8 +35,8 @@ use Rattle.turn_forms.specs.declared.Turned.{Turned}
 -- ---- a turn leaves the bytes as they were, or writes tables to a head of its size
 
 data Turning (l : Lent) : StepCall → Type 0 where
-  is-unmoved : {f : Refusal} → Turning l (record { answer = Unmoved f; lent = l })
-  is-moved : {m : Move} (t : Tables) → length l.head ≡ head_size → Turning l (record { answer = Moved m; lent = put_tables l t })
+  is-unmoved : {f : Refusal} → Turning l (record { answer = Err f; lent = l })
+  is-moved : {m : Move} (t : Tables) → length l.head ≡ head_size → Turning l (record { answer = Ok m; lent = put_tables l t })
 
 turning : (lim : Limits) (s : List ℕ) (l : Lent) → Turning l (turn_call lim s l)
 turning lim s l = go (door lim s l)
@@ -66,7 +64,7 @@ module _ (lim : Limits) (s cs ps vs : List ℕ) (m : Marker) where
       let four : length cs ≡ 4 = omega (arith, beside-length cs m, h) in
       rw four (unfold put_tables in (head_apart (length t.state.procs) (length t.state.vars) (record { last = t.last; steps = t.steps })))
 
-  module _ {a : Stepped} {cs' ps' vs' : List ℕ} {m' : Marker} (meets : MarkerMeets lim s cs ps vs m a cs' ps' vs' m') where
+  module _ {a : Answer Move} {cs' ps' vs' : List ℕ} {m' : Marker} (meets : MarkerMeets lim s cs ps vs m a cs' ps' vs' m') where
     abbrev x : StepCall
     x = turn_call lim s l
 
@@ -80,19 +78,19 @@ module _ (lim : Limits) (s cs ps vs : List ℕ) (m : Marker) where
     pub lent-turn : TurnMeets lim s (lent_with cs m ps vs) (word (step_numbers a)) (lent_with cs' m' ps' vs')
     lent-turn = record {
       contract = record {
-        answer = ap (λ (y : Stepped). word (step_numbers y)) answer-is;
+        answer = ap (λ (y : Answer Move). word (step_numbers y)) answer-is;
         head = rw (meets.contract.counts, marker-is) (rejoined (turning lim s l));
         procs = meets.contract.procs;
         vars = meets.contract.vars;
       };
     }
 
-  kept_by : {x : StepCall} {f : Refusal} → Turning l x → Unmoved f ≡ x.answer → x.lent ≡ l
+  kept_by : {x : StepCall} {f : Refusal} → Turning l x → Err f ≡ x.answer → x.lent ≡ l
   kept_by is-unmoved e = refl
   kept_by (is-moved t h) e = let z : ◌≡◌ {A = ℕ} 0 1 = cc in absurd (omega arith)
 
   -- and a refusal leaves counts, rows and marker as they were
-  pub lent-kept : {f : Refusal} {cs' ps' vs' : List ℕ} {m' : Marker} → MarkerMeets lim s cs ps vs m (Unmoved f) cs' ps' vs' m' → (cs' ≡ cs) × (ps' ≡ ps) × (vs' ≡ vs) × (m' ≡ m)
+  pub lent-kept : {f : Refusal} {cs' ps' vs' : List ℕ} {m' : Marker} → MarkerMeets lim s cs ps vs m (Err f) cs' ps' vs' m' → (cs' ≡ cs) × (ps' ≡ ps) × (vs' ≡ vs) × (m' ≡ m)
   lent-kept meets =
       let q = kept_by (turning lim s l) (answer-is meets) in (
         meets.contract.counts ∙ rw q (beside-counts cs m),
@@ -106,9 +104,9 @@ module _ (lim : Limits) (s cs ps vs : List ℕ) (m : Marker) where
 lowest-same : (f g : ℕ → Bool) (n : ℕ) → ((i : ℕ) → i < n → f i ≡ g i) → lowest f n ≡ lowest g n
 lowest-same f g n h = go (lowest f n) refl
   where
-    go : (x : Found) → lowest f n ≡ x → lowest f n ≡ lowest g n
-    go Nothing e = e ∙ sym (lowest-nothing g n (λ i u. sym (h i u) ∙ lowest-none f n i e u))
-    go (At c) e =
+    go : (x : Option ℕ) → lowest f n ≡ x → lowest f n ≡ lowest g n
+    go None e = e ∙ sym (lowest-nothing g n (λ i u. sym (h i u) ∙ lowest-none f n i e u))
+    go (Some c) e =
         let r = lowest-at f n c e in
         e ∙ sym (lowest-is g n c (record { there = r.there; passes = sym (h c r.there) ∙ r.passes; least = λ j u p. r.least j u (h j u ∙ p) }))
 
@@ -128,7 +126,7 @@ module _ (rows : List Process) where
   watch-same = rw (procs-length bytes (length rows)) (lowest-same _ _ (length rows) (λ i h. ap (is_mode suspended) (mode-at i h)))
 
   -- Turns 5: of up to 2^32 records, rissobarm_watch over their bytes has the word of the answer
-  pub records-watch : (f : Found) → RecordsMeet rows f → (w : ℕ) → WatchMeets (rows_bytes process_bytes rows) w → length rows ≤ 4294967296 → w ≡ word (watch_numbers f)
+  pub records-watch : (f : Option ℕ) → RecordsMeet rows f → (w : ℕ) → WatchMeets (rows_bytes process_bytes rows) w → length rows ≤ 4294967296 → w ≡ word (watch_numbers f)
   records-watch f a w b h =
       let e : watch_of (procs_of bytes (length bytes / row_size)) ≡ f = rw as_many watch-same ∙ sym a.contract in
-      watch-whole bytes (rw as_many h) b.contract ∙ ap (λ (x : Found). word (watch_numbers x)) e
+      watch-whole bytes (rw as_many h) b.contract ∙ ap (λ (x : Option ℕ). word (watch_numbers x)) e

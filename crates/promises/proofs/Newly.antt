@@ -1,4 +1,6 @@
 -- What a rule binds, by the relation, and that its variables are exactly those newly bound.
+use Rattle.parlog.specs.declared.Term.{Term}
+use Rattle.std.specs.Prelude.{Option, None, Some}
 use mathlib.Core.Path.{◌∙◌, ◌≡◌, refl, sym}
 use mathlib.Core.Logic.{◌≢◌}
 use mathlib.Core.Bool.{Bool, false, true}
@@ -32,11 +34,7 @@ use Rattle.parlog.specs.TableRules.{state_ok}
 use Rattle.parlog.specs.Tables.{binding_of, noted, State}
 use Rattle.parlog.specs.Tree.{all_children, any_child, bad, enclosing, first_of, good, Heard, heard, lowest_child, silent}
 use Rattle.parlog.specs.Unify.{binds, bound, change, changed, decide, Decided, equate_of, fails, input_value, match_of, pairs_of, shift, some_bound, suspends}
-use Rattle.parlog.specs.declared.Binding.{Binding}
-use Rattle.parlog.specs.declared.Binding.TheVariants.{Free}
 use Rattle.parlog.specs.declared.Change.{Change}
-use Rattle.parlog.specs.declared.Found.{Found}
-use Rattle.parlog.specs.declared.Found.TheVariants.{At, Nothing}
 use Rattle.parlog.specs.declared.Move.{Move}
 use Rattle.parlog.specs.declared.Pair.{Pair}
 use Rattle.parlog.specs.declared.Process.{Process}
@@ -55,7 +53,7 @@ data Lists (pr : Program) (s : State) (p : ℕ) : Applied → Type 0 where
 itself : (held : ℕ → Bool) → Tells held (λ v. held v ≡ true)
 itself held = record { holds = λ v e. e; fails-to = λ v e h. never (sym e ∙ h) }
 
-unifies : (vs : List Binding) → Falling vs → (es : List Pair) (held : ℕ → Bool) (cs : List Change) → decide vs es held ≡ binds cs → Unifies vs es cs
+unifies : (vs : List (Option Term)) → Falling vs → (es : List Pair) (held : ℕ → Bool) (cs : List Change) → decide vs es held ≡ binds cs → Unifies vs es cs
 unifies vs fall es held cs e = (decide-binds vs fall es held (λ v. held v ≡ true) (itself held) cs e).0
 
 module _ (pr : Program) (s : State) (g : Good s) (p : ℕ) where
@@ -171,11 +169,11 @@ module _ (pr : Program) (s : State) (g : Good s) (p : ℕ) where
   lists-blocks (good c) n = other refl refl refl
   lists-blocks (bad c) n = lists-behind (ltb (suc x.spot.block) n) c
 
-  lists-commit : (f : Found) (b : Bool) → Lists pr s p (or_search_wait f b s p x)
+  lists-commit : (f : Option ℕ) (b : Bool) → Lists pr s p (or_search_wait f b s p x)
   unfolding or_search_wait
-  lists-commit (At c) b = other refl refl refl
-  lists-commit Nothing true = other refl refl refl
-  lists-commit Nothing false = lists-none
+  lists-commit (Some c) b = other refl refl refl
+  lists-commit None true = other refl refl refl
+  lists-commit None false = lists-none
 
   lists-guarded : (h : Heard) → Lists pr s p (guard_eval_wait h p x)
   unfolding guard_eval_wait
@@ -258,7 +256,7 @@ under_of n (c ∷ cs) e =
     (ltb-true c.var n (and-true (ltb c.var n) _ a.0).0, under_of n cs a.1)
 
 -- nothing is bound by new variables
-more-none : (vs : List Binding) (n : ℕ) → NewlyBound vs (vs ++ replicate n Free) []
+more-none : (vs : List (Option Term)) (n : ℕ) → NewlyBound vs (vs ++ replicate n None) []
 more-none vs n = record {
   free = λ i h. absurd (not-suc-le-zero h);
   bound = λ i h. absurd (not-suc-le-zero h);
@@ -290,5 +288,5 @@ module _ (lim : Limits) (pr : Program) (sane : Sane pr) (s : State) (p : ℕ) (o
       by a q l = go q (rw q at l)
 
 -- a supply binds one
-pub supply-binds : (vs : List Binding) (u c : ℕ) → u < length vs → binding_of vs u ≡ Free → NewlyBound vs (changed vs (change u (Const c) ∷ [])) (u ∷ [])
+pub supply-binds : (vs : List (Option Term)) (u c : ℕ) → u < length vs → binding_of vs u ≡ None → NewlyBound vs (changed vs (change u (Const c) ∷ [])) (u ∷ [])
 supply-binds vs u c h f = newly-bound vs (change u (Const c) ∷ []) (h, tt) (f, λ i l. absurd (not-suc-le-zero l), tt)

@@ -1,4 +1,6 @@
 -- A run saved and gone on with: demands 1 and 2 of both calls, and what a night leaves.
+use Rattle.std.specs.Prelude.{Err, Ok}
+use Rattle.parlog.specs.Answer.{Answer}
 use mathlib.Core.Path.{◌∙◌, ◌≡◌, ap, refl, sym}
 use mathlib.Core.Bool.{◌&&◌, true}
 use mathlib.Core.List.{List}
@@ -16,8 +18,6 @@ use Rattle.parlog.specs.Numbers.{refused_as, word}
 use Rattle.parlog.specs.Program.{Program, program_of}
 use Rattle.parlog.specs.TableRules.{full_size, lent_ok}
 use Rattle.parlog.specs.Tables.{cell_size, Lent, proc_count, row_size, tables_in, var_count, written}
-use Rattle.parlog.specs.declared.Loaded.{Loaded}
-use Rattle.parlog.specs.declared.Loaded.TheVariants.{Accepted, Refused}
 use Rattle.parlog.specs.declared.Refusal.{Refusal}
 use Rattle.promises.proofs.Demand1.{a-refusal, Answered, no-refusal, refusing}
 use Rattle.promises.proofs.Entry.{away, away-numbered, bad-is, Door, door, enter-away, enter-let, inside, let_by, let-image, let-tables}
@@ -32,8 +32,6 @@ use Rattle.refusals.proofs.Tests.{Decides, refuted, refutes}
 use Rattle.resume.proofs.Copied.{cells-there, copied, copied-good, copied-tables, over-past, resume-save, rows-there}
 use Rattle.resume.proofs.Resuming.{resumed-few}
 use Rattle.resume.specs.Calls.{resumable, resume_call, save_by, save_call}
-use Rattle.resume.specs.declared.Resumed.TheVariants.{Restored}
-use Rattle.resume.specs.declared.Saved.TheVariants.{Stored, Unsaved}
 use Rattle.rows.specs.Rows.{Bytes}
 use Rattle.saved.proofs.Back.{saved-again}
 use Rattle.saved.proofs.Formed.{bad-read, formed-read, read-bad, read-formed}
@@ -41,19 +39,17 @@ use Rattle.saved.specs.Form.{saved_bytes}
 use Rattle.saved.specs.Formed.{BadSaved, no_record, saved_body, saved_cut, saved_former, saved_kind, saved_rule}
 use Rattle.saved.specs.Reading.{read_saved}
 use Rattle.saved.specs.Restored.{counts_agree, head_in, image_length, resumed_lent}
-use Rattle.saved.specs.declared.Reading.{Reading}
-use Rattle.saved.specs.declared.Reading.TheVariants.{Broken, Whole}
 use Rattle.words.proofs.Nights.{image-near, told-near}
 use Rattle.words.specs.Nights.{resume_numbers, save_numbers, told_refusal}
 
 -- ---- words
 
-stored-told : (w n : ℕ) → w ≡ word (save_numbers (Stored n)) → (refusal_in w ≡ 0) × (large_in w ≡ n)
+stored-told : (w n : ℕ) → w ≡ word (save_numbers (Ok n)) → (refusal_in w ≡ 0) × (large_in w ≡ n)
 stored-told w n e =
-    (ap refusal_in e ∙ refusal-of (save_numbers (Stored n)) (omega arith) (omega arith) (omega arith), ap large_in e ∙ large-of (save_numbers (Stored n)) (omega arith) (omega arith) (omega arith))
+    (ap refusal_in e ∙ refusal-of (save_numbers (Ok n)) (omega arith) (omega arith) (omega arith), ap large_in e ∙ large-of (save_numbers (Ok n)) (omega arith) (omega arith) (omega arith))
 
-restored-told : (w : ℕ) → w ≡ word (resume_numbers Restored) → refusal_in w ≡ 0
-restored-told w e = ap refusal_in e ∙ refusal-of (resume_numbers Restored) (omega arith) (omega arith) (omega arith)
+restored-told : (w : ℕ) → w ≡ word (resume_numbers (Ok tt)) → refusal_in w ≡ 0
+restored-told w e = ap refusal_in e ∙ refusal-of (resume_numbers (Ok tt)) (omega arith) (omega arith) (omega arith)
 
 -- ---- a save
 
@@ -69,7 +65,7 @@ module _ (lim : Limits) (s : List ℕ) (l : Lent) (row : List ℕ) where
   unfolding save_call
   save-let i = rw (enter-let lim s l i)
 
-  save-refused : {n o : ℕ} → SaveRefused lim s l row n o → save_call lim s l row ≡ record { answer = Unsaved (refusal n o); row = row }
+  save-refused : {n o : ℕ} → SaveRefused lim s l row n o → save_call lim s l row ≡ record { answer = Err (refusal n o); row = row }
   unfolding save_call
   save-refused (save_away a) = rw (enter-away lim s l a)
   save-refused (row_too_short i h) = rw (enter-let lim s l i, lt-ltb (length row) (length bytes) h)
@@ -185,8 +181,8 @@ module _ (lim : Limits) (s : List ℕ) (l : Lent) (x : List ℕ) where
       let y = refutes (resumable lim (program_of s r c) l x a b) (resumable-exactly lim (program_of s r c) l x a b) h in
       record { tells = rw (e, k, z, y); keeps = rw (e, k, z, y) }
 
-  resume-made : {r c a b : ℕ} → load_of s ≡ Accepted r c → read_saved x ≡ Whole a b → eqb (image_length x) (length s) ≡ true → resumable lim (program_of s r c) l x a b ≡ true
-      → resume_call lim s l x ≡ record { answer = Restored; lent = resumed_lent lim x a b }
+  resume-made : {r c a b : ℕ} → load_of s ≡ Ok (r, c) → read_saved x ≡ Ok (a, b) → eqb (image_length x) (length s) ≡ true → resumable lim (program_of s r c) l x a b ≡ true
+      → resume_call lim s l x ≡ record { answer = Ok tt; lent = resumed_lent lim x a b }
   unfolding resume_call
   resume-made e k z y = rw (e, k, z, y)
 
@@ -204,7 +200,7 @@ module _ (lim : Limits) (s : List ℕ) (l : Lent) (x : List ℕ) where
     resuming-so : Resuming
     resuming-so = load (load_of s) refl
       where
-        made : (r c a b : ℕ) → load_of s ≡ Accepted r c → read_saved x ≡ Whole a b → eqb (image_length x) (length s) ≡ true → resumable lim (program_of s r c) l x a b ≡ true → Resuming
+        made : (r c a b : ℕ) → load_of s ≡ Ok (r, c) → read_saved x ≡ Ok (a, b) → eqb (image_length x) (length s) ≡ true → resumable lim (program_of s r c) l x a b ≡ true → Resuming
         made r c a b e k z y =
             let q = resume-made e k z y in
             is-resumed (restored-told w (meets.contract.answer ∙ rw q)) (record {
@@ -219,17 +215,17 @@ module _ (lim : Limits) (s : List ℕ) (l : Lent) (x : List ℕ) where
               bytes = same-lent l' (resumed_lent lim x a b) (meets.contract.head ∙ rw q) (meets.contract.procs ∙ rw q) (meets.contract.vars ∙ rw q);
             })
 
-        read : (r c : ℕ) → load_of s ≡ Accepted r c → (g : Reading) → read_saved x ≡ g → Resuming
-        read r c e (Broken f) k = is-unresumed (resume_record ((accepted-right s).0 e) (read-bad x k))
-        read r c e (Whole a b) k = split (eqb (image_length x) (length s))
+        read : (r c : ℕ) → load_of s ≡ Ok (r, c) → (g : Answer (ℕ × ℕ)) → read_saved x ≡ g → Resuming
+        read r c e (Err f) k = is-unresumed (resume_record ((accepted-right s).0 e) (read-bad x k))
+        read r c e (Ok (a, b)) k = split (eqb (image_length x) (length s))
             (λ z. split (resumable lim (program_of s r c) l x a b)
             (λ y. made r c a b e k z y)
             (λ y. is-unresumed (no_tables ((accepted-right s).0 e) (read-formed x k) (eqb-true (image_length x) (length s) z) (refuted (resumable-exactly lim (program_of s r c) l x a b) y))))
             (λ z. is-unresumed (is_foreign ((accepted-right s).0 e) (read-formed x k) (eqb-false (image_length x) (length s) z)))
 
-        load : (o : Loaded) → load_of s ≡ o → Resuming
-        load (Refused f) e = is-unresumed (resume-image ((refused-exactly s).0 e))
-        load (Accepted r c) e = read r c e (read_saved x) refl
+        load : (o : Answer (ℕ × ℕ)) → load_of s ≡ o → Resuming
+        load (Err f) e = is-unresumed (resume-image ((refused-exactly s).0 e))
+        load (Ok (r, c)) e = read r c e (read_saved x) refl
 
     -- Saved 5 to 9: refused exactly where there is a reason, and then every lent byte is as it was
     pub demand-1-resume : Refusing 18 (ResumeRefused lim s l x) l w l'
@@ -271,7 +267,7 @@ module _ (lim : Limits) (s : List ℕ) (l l' : Lent) (night : Night lim s l l') 
   read_is : take (large_in night.evening) night.stored ≡ saved_bytes l (length s)
   read_is = saved-front s l night.row night.evening night.stored evening-saves
 
-  morning-is : resume_call lim s night.other (take (large_in night.evening) night.stored) ≡ record { answer = Restored; lent = copied lim l }
+  morning-is : resume_call lim s night.other (take (large_in night.evening) night.stored) ≡ record { answer = Ok tt; lent = copied lim l }
   morning-is =
       let short = i.image.short in
       rw read_is (resume-save lim pr l (let-tables i) s (let-image i) refl (omega arith) night.other ((sizes-exactly lim night.other).1 night.full))

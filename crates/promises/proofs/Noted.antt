@@ -1,4 +1,5 @@
 -- Request 7: a run that records leaves the records of its moves in their order, and behind them what was there.
+use Rattle.std.specs.Prelude.{Option, Some, None}
 use mathlib.Core.Path.{◌∙◌, ◌≡◌, refl, sym}
 use mathlib.Core.Bool.{Bool, cond, false, true}
 use mathlib.Core.List.{[], ◌++◌, List}
@@ -22,8 +23,6 @@ use Rattle.parlog.specs.Sane.{Sane}
 use Rattle.parlog.specs.TableRules.{tables_ok}
 use Rattle.parlog.specs.Tables.{Lent, put_tables, State, Tables, tables_in}
 use Rattle.parlog.specs.declared.End.{End}
-use Rattle.parlog.specs.declared.Found.{Found}
-use Rattle.parlog.specs.declared.Found.TheVariants.{At, Nothing}
 use Rattle.parlog.specs.declared.Move.{Move}
 use Rattle.promises.proofs.Demand2.{image-sane}
 use Rattle.promises.proofs.Entry.{enter-let, let-ok, run-let}
@@ -73,31 +72,31 @@ module _ (lim : Limits) (pr : Program) where
       nothing : run_records zero lim pr stamp t ≡ []
       nothing = unfold run_records in refl
 
-      go : (b : Bool) → goal_ended t ≡ b → (f : Found) → turn_for pr t ≡ f → RanNoted zero j t stamp
+      go : (b : Bool) → goal_ended t ≡ b → (f : Option ℕ) → turn_for pr t ≡ f → RanNoted zero j t stamp
       go true z f y = noted-halt zero j t stamp (run-ended lim pr t zero j z) nothing
-      go false z Nothing y = noted-halt zero j t stamp (run-waits lim pr t z zero j y) nothing
-      go false z (At p) y = noted-halt zero j t stamp (run-spent lim pr t z y j) nothing
+      go false z None y = noted-halt zero j t stamp (run-waits lim pr t z zero j y) nothing
+      go false z (Some p) y = noted-halt zero j t stamp (run-spent lim pr t z y j) nothing
   ran-noted sane (suc n) j t stamp ok = go (goal_ended t) refl (turn_for pr t) refl (λ u k. ran-noted sane n (suc j) u (following stamp) k)
     where
-      next : (b : Bool) → goal_ended t ≡ b → (f : Found) → turn_for pr t ≡ f → unless_ended (goal_ended t) (turn_for pr t) ≡ unless_ended b f
+      next : (b : Bool) → goal_ended t ≡ b → (f : Option ℕ) → turn_for pr t ≡ f → unless_ended (goal_ended t) (turn_for pr t) ≡ unless_ended b f
       next b z f y = rw (z, y)
 
-      full : goal_ended t ≡ false → {p k : ℕ} → turn_for pr t ≡ At p → step_tables lim pr t p ≡ unmade k → RanNoted (suc n) j t stamp
-      full z {p} y e = noted-halt (suc n) j t stamp (run_room lim pr t z y n j e) (records-room lim pr stamp t (next false z (At p) y) e n)
+      full : goal_ended t ≡ false → {p k : ℕ} → turn_for pr t ≡ Some p → step_tables lim pr t p ≡ unmade k → RanNoted (suc n) j t stamp
+      full z {p} y e = noted-halt (suc n) j t stamp (run_room lim pr t z y n j e) (records-room lim pr stamp t (next false z (Some p) y) e n)
 
-      by : goal_ended t ≡ false → {p : ℕ} → turn_for pr t ≡ At p → {x : Stepping} → Trial lim pr t ok p x → step_tables lim pr t p ≡ x
+      by : goal_ended t ≡ false → {p : ℕ} → turn_for pr t ≡ Some p → {x : Stepping} → Trial lim pr t ok p x → step_tables lim pr t p ≡ x
           → ((u : Tables) → tables_ok lim pr u ≡ true → RanNoted n (suc j) u (following stamp)) → RanNoted (suc n) j t stamp
       by z y (too-high h) e rest = full z y e
       by z y (is-still h u) e rest = full z y e
       by z y (is-full h u) e rest = full z y e
       by z {p} y (goes {m} {s'} h x f) e rest =
-          noted_more n j t stamp p z (turn-of lim pr t ok p y) x f (run-goes lim pr t z y n j e) (records-goes lim pr stamp t (next false z (At p) y) e n)
+          noted_more n j t stamp p z (turn-of lim pr t ok p y) x f (run-goes lim pr t z y n j e) (records-goes lim pr stamp t (next false z (Some p) y) e n)
           (rest (after_step t p s') (step_keeps lim pr sane t (after_step t p s') p m ok e))
 
-      go : (b : Bool) → goal_ended t ≡ b → (f : Found) → turn_for pr t ≡ f → ((u : Tables) → tables_ok lim pr u ≡ true → RanNoted n (suc j) u (following stamp)) → RanNoted (suc n) j t stamp
+      go : (b : Bool) → goal_ended t ≡ b → (f : Option ℕ) → turn_for pr t ≡ f → ((u : Tables) → tables_ok lim pr u ≡ true → RanNoted n (suc j) u (following stamp)) → RanNoted (suc n) j t stamp
       go true z f y rest = noted-halt (suc n) j t stamp (run-ended lim pr t (suc n) j z) (records-none lim pr stamp t (next true z f y) (suc n))
-      go false z Nothing y rest = noted-halt (suc n) j t stamp (run-waits lim pr t z (suc n) j y) (records-none lim pr stamp t (next false z Nothing y) (suc n))
-      go false z (At p) y rest = by z y (trial lim pr t ok p) refl rest
+      go false z None y rest = noted-halt (suc n) j t stamp (run-waits lim pr t z (suc n) j y) (records-none lim pr stamp t (next false z None y) (suc n))
+      go false z (Some p) y rest = by z y (trial lim pr t ok p) refl rest
 
   -- ten bytes each
   pub noted-size : {t u : Tables} {stamp k : ℕ} {bytes : List ℕ} → NotedMoves lim pr t stamp bytes k u → length bytes ≡ k * trace_size
@@ -115,7 +114,7 @@ module _ (lim : Limits) (pr : Program) where
   noted-same : Sane pr → {t u v : Tables} {stamp k : ℕ} {x y : List ℕ} → tables_ok lim pr t ≡ true → NotedMoves lim pr t stamp x k u → NotedMoves lim pr t stamp y k v → x ≡ y
   noted-same sane ok no_move_noted no_move_noted = refl
   noted-same sane {t} {stamp = stamp} ok (move_noted {s' = a} {m = m} {p = p} {k = k} {bytes = xs} live whose rule fits rest) (move_noted {u = v} {s' = b} {m = n} {p = q} {bytes = ys} live' whose' rule' fits' rest') =
-      let found : At p ≡ At q = sym (of-turn lim pr t ok p whose) ∙ of-turn lim pr t ok q whose' in
+      let found : Some p ≡ Some q = sym (of-turn lim pr t ok p whose) ∙ of-turn lim pr t ok q whose' in
       let who : q ≡ p = cc in
       let (what, after) = at_most_one lim pr t.state (tables-state lim pr t ok) p rule (rw who at rule') in
       let next = step_keeps lim pr sane t (after_step t p a) p m ok (rule-makes t ok p rule fits) in

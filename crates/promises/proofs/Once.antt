@@ -1,14 +1,15 @@
 -- Only one result: two outcomes of a call from the same image and the same bytes, each meeting its contract, are equal.
+use Rattle.parlog.specs.declared.Move.{Move}
+use Rattle.parlog.specs.Answer.{Answer}
+use Rattle.std.specs.Prelude.{Option}
 use mathlib.Core.Path.{◌∙◌, ◌≡◌, ap, sym}
 use mathlib.Core.List.{List}
 use Prim.Native.Nat.{ℕ}
 use Rattle.entry.proofs.Held.{same-lent}
 use Rattle.parlog.specs.Limits.{Limits}
 use Rattle.parlog.specs.Tables.{Lent}
-use Rattle.parlog.specs.declared.Found.{Found}
 use Rattle.parlog.specs.declared.Marker.{Marker}
 use Rattle.parlog.specs.declared.Process.{Process}
-use Rattle.parlog.specs.declared.Stepped.{Stepped}
 use Rattle.promises.specs.Outcomes.{LoadMeets, MarkerMeets, RecordsMeet, ReplayMeets, ResumeMeets, RunMeets, SaveMeets, StartMeets, StepMeets, SupplyMeets, TurnMeets, ValueMeets, ValuesMeets, WatchMeets}
 use Rattle.turn_forms.specs.Turned.{turned_from}
 use Rattle.turn_forms.specs.declared.Turned.{Turned}
@@ -57,7 +58,7 @@ module _ (lim : Limits) (s : List ℕ) (l : Lent) where
 
 -- ---- the two calls that no C program reaches: the turn with its marker lent, and the watch over records
 
-module _ (lim : Limits) (s cs ps vs : List ℕ) (m : Marker) {a b : Stepped} {cs' ps' vs' cs'' ps'' vs'' : List ℕ} {m' m'' : Marker} where
+module _ (lim : Limits) (s cs ps vs : List ℕ) (m : Marker) {a b : Answer Move} {cs' ps' vs' cs'' ps'' vs'' : List ℕ} {m' m'' : Marker} where
   pub once-marker : MarkerMeets lim s cs ps vs m a cs' ps' vs' m' → MarkerMeets lim s cs ps vs m b cs'' ps'' vs'' m''
       → (a ≡ b) × (cs' ≡ cs'') × (ps' ≡ ps'') × (vs' ≡ vs'') × (m' ≡ m'')
   once-marker x y =
@@ -70,5 +71,5 @@ module _ (lim : Limits) (s cs ps vs : List ℕ) (m : Marker) {a b : Stepped} {cs
       )
 
 module _ (rows : List Process) where
-  pub once-records : {f g : Found} → RecordsMeet rows f → RecordsMeet rows g → f ≡ g
+  pub once-records : {f g : Option ℕ} → RecordsMeet rows f → RecordsMeet rows g → f ≡ g
   once-records a b = a.contract ∙ sym b.contract

@@ -1,4 +1,5 @@
 -- Request 7: what calls recorded replays: every record is played, and the bytes are those that the calls left.
+use Rattle.std.specs.Prelude.{Ok}
 use mathlib.Core.Path.{◌∙◌, ◌≡◌, ap, refl, sym}
 use mathlib.Core.Bool.{Bool, false, true}
 use mathlib.Core.List.{[], ◌++◌, append_assoc, append-nil, List}
@@ -36,12 +37,10 @@ use Rattle.promises.specs.Outcomes.{large_in, refusal_in, ReplayMeets}
 use Rattle.promises.specs.Refusals.{LetIn}
 use Rattle.promises.specs.Traces.{move_noted, no_move_noted, NotedMoves, nothing_yet, PlaysBack, Recorded, RunTracedMeets, stamp_after, StepTracedMeets, SupplyTracedMeets, then_run_traced, then_step_traced, then_supply_traced}
 use Rattle.replay.specs.Replay.{Played, play_from, play_record, plays, replay_call, replay_numbers}
-use Rattle.replay.specs.declared.Replayed.TheVariants.{Replays}
 use Rattle.run_traced.specs.Traced.{moves_for, run_records}
 use Rattle.trace.proofs.Formed.{right-tested}
 use Rattle.trace.specs.Formed.{Follows, KnownKind, of_step, of_supply, RightRecord, RightTrace}
 use Rattle.trace.specs.Trace.{following, record_bytes, stamp_at, step_kind, supply_kind, trace_size, trace_tested, what_at, who_at}
-use Rattle.trace.specs.declared.Tested.TheVariants.{Records}
 use Rattle.traced.proofs.Records.{record-length}
 use Rattle.words.specs.Nights.{told_offset}
 
@@ -212,8 +211,8 @@ goal-most lim s l {r} {c} i =
     omega (arith, k.goal, k.vars_most)
 
 -- a trace that is without fault and plays to its end is played to its end
-replay-all : (lim : Limits) (s : List ℕ) (l : Lent) {r c : ℕ} → LetIn lim s l r c → (x : List ℕ) (n : ℕ) (t : Tables) → trace_tested x ≡ Records n → play_from n lim (program_of s r c) x 0 (tables_in l) ≡ played_to t n
-    → replay_call lim s l x ≡ record { answer = Replays n; lent = put_tables l t }
+replay-all : (lim : Limits) (s : List ℕ) (l : Lent) {r c : ℕ} → LetIn lim s l r c → (x : List ℕ) (n : ℕ) (t : Tables) → trace_tested x ≡ Ok n → play_from n lim (program_of s r c) x 0 (tables_in l) ≡ played_to t n
+    → replay_call lim s l x ≡ record { answer = Ok n; lent = put_tables l t }
 replay-all lim s l i x n t e q = replay-let lim s l i x ∙ rw (e, q, eq-eqb n n refl)
 
 module _ (lim : Limits) (ok : Usable lim) (s : List ℕ) (l : Lent) {r c : ℕ} (i : LetIn lim s l r c) (a : ℕ) where
@@ -307,10 +306,10 @@ module _ (lim : Limits) (ok : Usable lim) (s : List ℕ) (l : Lent) {r c : ℕ} 
       let right : RightTrace x n = record { filled = record { size = tr.size; each = λ k u. p.each k (omega arith) (omega arith) }; follow = λ k u. p.follow k (omega arith) (omega arith) } in
       let played : play_from n lim pr x 0 (tables_in q) ≡ played_to (tables_in m) n = rw same (p.played ∙ ap (played_to (tables_in m)) (omega arith)) in
       let call = replay-all lim s q j x n (tables_in m) (right-tested x right) played in
-      let word-is : w ≡ word (replay_numbers (Replays n)) = meets.contract.answer ∙ rw call in
+      let word-is : w ≡ word (replay_numbers (Ok n)) = meets.contract.answer ∙ rw call in
       let many : n ≡ length x / trace_size = omega (arith, tr.size) in
-      let accepted : refusal_in w ≡ 0 = rw word-is (refusal-of (replay_numbers (Replays n)) (omega arith) (omega arith) (omega arith)) in
-      let told : large_in w ≡ told_offset (length x / trace_size) = rw (word-is, ← many) (large-of (replay_numbers (Replays n)) (omega arith) (omega arith) (omega arith)) in
+      let accepted : refusal_in w ≡ 0 = rw word-is (refusal-of (replay_numbers (Ok n)) (omega arith) (omega arith) (omega arith)) in
+      let told : large_in w ≡ told_offset (length x / trace_size) = rw (word-is, ← many) (large-of (replay_numbers (Ok n)) (omega arith) (omega arith) (omega arith)) in
       (accepted, told, same-lent m' (put_tables q (tables_in m)) (meets.contract.head ∙ rw call) (meets.contract.procs ∙ rw call) (meets.contract.vars ∙ rw call))
 
   -- THE LAW: what calls recorded, replayed on the bytes that the first began with, plays every record and leaves the bytes that the last left

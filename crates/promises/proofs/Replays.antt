@@ -1,5 +1,7 @@
 -- A replay: demands 1 and 2 of it. It goes exactly as far as the records agree, by the relation of the rules.
 -- ---- one record
+use Rattle.std.specs.Prelude.{Err, Ok}
+use Rattle.parlog.specs.Answer.{Answer}
 use mathlib.Core.Path.{◌∙◌, ◌≡◌, ap, refl, sym}
 use mathlib.Core.Logic.{◌≢◌}
 use mathlib.Core.Bool.{Bool, cond, false, true}
@@ -35,13 +37,9 @@ use Rattle.promises.specs.Outcomes.{large_in, refusal_in, ReplayMeets}
 use Rattle.promises.specs.Refusals.{for_image, for_tables, LetIn, RefusesBy, TurnedAway}
 use Rattle.promises.specs.Replays.{Agrees, AgreeTo, LeftOff, none_yet, one_disagrees, one_more, RefusesReplay, replay_away, replay_record, ReplayExact, ReplayRefused, ReplaysAll, step_agrees, StopsAt, supply_agrees}
 use Rattle.replay.specs.Replay.{disagrees, is_played, play_from, Playing, play_record, plays, play_step, play_supply, replay_call, replay_numbers}
-use Rattle.replay.specs.declared.Replayed.{Replayed}
-use Rattle.replay.specs.declared.Replayed.TheVariants.{Replays, Unreplayed}
 use Rattle.trace.proofs.Formed.{bad-tested, right-tested, tested-bad, tested-right}
 use Rattle.trace.specs.Formed.{BadTrace, KnownKind, of_step, of_supply, RightTrace, trace_body, trace_cut, trace_gap, trace_kind}
 use Rattle.trace.specs.Trace.{step_kind, supply_kind, trace_size, trace_tested, what_at, who_at}
-use Rattle.trace.specs.declared.Tested.{Tested}
-use Rattle.trace.specs.declared.Tested.TheVariants.{Faulty, Records}
 use Rattle.words.proofs.Nights.{image-near, told-near}
 use Rattle.words.specs.Nights.{told_offset, told_refusal}
 
@@ -163,10 +161,10 @@ module _ (lim : Limits) (pr : Program) (sane : Sane pr) (x : List ℕ) (t : Tabl
 
 -- ---- words
 
-played-told : (w n : ℕ) → w ≡ word (replay_numbers (Replays n)) → (refusal_in w ≡ 0) × (large_in w ≡ told_offset n)
+played-told : (w n : ℕ) → w ≡ word (replay_numbers (Ok n)) → (refusal_in w ≡ 0) × (large_in w ≡ told_offset n)
 played-told w n e = (
-  ap refusal_in e ∙ refusal-of (replay_numbers (Replays n)) (omega arith) (omega arith) (omega arith),
-  ap large_in e ∙ large-of (replay_numbers (Replays n)) (omega arith) (omega arith) (omega arith),
+  ap refusal_in e ∙ refusal-of (replay_numbers (Ok n)) (omega arith) (omega arith) (omega arith),
+  ap large_in e ∙ large-of (replay_numbers (Ok n)) (omega arith) (omega arith) (omega arith),
 )
 
 -- ---- the reasons
@@ -192,15 +190,15 @@ module _ (lim : Limits) (s : List ℕ) (l : Lent) (x : List ℕ) where
     abbrev pr : Program
     pr = program_of s r c
 
-    replay-faulty : {n o : ℕ} → BadTrace x n o → replay_call lim s l x ≡ record { answer = Unreplayed (refusal n o); lent = l }
+    replay-faulty : {n o : ℕ} → BadTrace x n o → replay_call lim s l x ≡ record { answer = Err (refusal n o); lent = l }
     replay-faulty b = replay-let lim s l i x ∙ rw (bad-tested x b)
 
-    replay-stops : {n k : ℕ} {u : Tables} → StopsAt lim pr x (tables_in l) n k u → replay_call lim s l x ≡ record { answer = Unreplayed (refusal 20 (k * trace_size)); lent = put_tables l u }
+    replay-stops : {n k : ℕ} {u : Tables} → StopsAt lim pr x (tables_in l) n k u → replay_call lim s l x ≡ record { answer = Err (refusal 20 (k * trace_size)); lent = put_tables l u }
     replay-stops {n} {k} st =
         let below = st.below in
         replay-let lim s l i x ∙ rw (right-tested x st.right, stop-played lim pr (image-sane lim s l i) x (tables_in l) (let-ok lim s l i) st, ne_eqb k n (λ z. omega arith))
 
-    replay-plays : {n : ℕ} {u : Tables} → RightTrace x n → AgreeTo lim pr x (tables_in l) n u → replay_call lim s l x ≡ record { answer = Replays n; lent = put_tables l u }
+    replay-plays : {n : ℕ} {u : Tables} → RightTrace x n → AgreeTo lim pr x (tables_in l) n u → replay_call lim s l x ≡ record { answer = Ok n; lent = put_tables l u }
     replay-plays {n} right a =
         replay-let lim s l i x ∙ rw (right-tested x right, all-played lim pr (image-sane lim s l i) x (tables_in l) (let-ok lim s l i) n right a, eq-eqb n n refl)
 
@@ -208,7 +206,7 @@ module _ (lim : Limits) (s : List ℕ) (l : Lent) (x : List ℕ) where
     holds_after {u = u} a = goes-holds lim s l i u (agree-goes lim pr (image-sane lim s l i) x (tables_in l) (let-ok lim s l i) a).0
 
   module _ (w : ℕ) (l' : Lent) (meets : ReplayMeets lim s l x w l') where
-    call-lent : {a : Replayed} {m : Lent} → replay_call lim s l x ≡ record { answer = a; lent = m } → l' ≡ m
+    call-lent : {a : Answer ℕ} {m : Lent} → replay_call lim s l x ≡ record { answer = a; lent = m } → l' ≡ m
     call-lent {m = m} q = same-lent l' m (meets.contract.head ∙ rw q) (meets.contract.procs ∙ rw q) (meets.contract.vars ∙ rw q)
 
     replay-word : (n o : ℕ) → ReplayRefused lim s l x n o → w ≡ word (refused_as (refusal n o))
@@ -235,11 +233,11 @@ module _ (lim : Limits) (s : List ℕ) (l : Lent) (x : List ℕ) where
             is-off (one_disagrees i z)
             (λ e. record { relations = r; clauses = c; enters = i; records = n; played = k; after = u; stops = z; told = e; tables = rw (call-lent (replay-stops i z)) (holds_after i z.before) })
 
-        tested : {r c : ℕ} (i : LetIn lim s l r c) (t : Tested) → trace_tested x ≡ t → Replaying
-        tested i (Faulty f) e =
+        tested : {r c : ℕ} (i : LetIn lim s l r c) (t : Answer ℕ) → trace_tested x ≡ t → Replaying
+        tested i (Err f) e =
             let b = tested-bad x e in
             is-away (replay_record i b) (λ z. let a = bad-trace-numbered b in omega (arith, a.1)) (call-lent (replay-faulty i b))
-        tested {r} {c} i (Records n) e = let right = tested-right x e in ended i right (ends_so lim (program_of s r c) (image-sane lim s l i) x (tables_in l) (let-ok lim s l i) n right)
+        tested {r} {c} i (Ok n) e = let right = tested-right x e in ended i right (ends_so lim (program_of s r c) (image-sane lim s l i) x (tables_in l) (let-ok lim s l i) n right)
 
         go : Door lim s l → Replaying
         go (away a) = is-away (replay_away a) (λ z. let b = away-numbered a in omega (arith, b.1)) (call-lent (replay-turned lim s l a x))

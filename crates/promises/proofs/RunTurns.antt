@@ -1,5 +1,6 @@
 -- A run is repeated turn calls: the bytes after it are those after as many turn calls as its word counts, each of them made, and it ends
 -- there for the reason that its word has.
+use Rattle.std.specs.Prelude.{Option, Ok, Some, None}
 use mathlib.Core.Path.{◌∙◌, ◌≡◌, ap, refl, subst, sym}
 use mathlib.Core.Logic.{◌⊎◌, inl, inr}
 use mathlib.Core.Bool.{◌&&◌, ◌||◌, false, not, true}
@@ -34,11 +35,8 @@ use Rattle.parlog.specs.TableRules.{counts_ok, result_ok, row_ok, state_ok, tabl
 use Rattle.parlog.specs.Tables.{Lent, put_tables, State, Tables, tables_in}
 use Rattle.parlog.specs.declared.End.{End}
 use Rattle.parlog.specs.declared.End.TheVariants.{Room}
-use Rattle.parlog.specs.declared.Found.{Found}
-use Rattle.parlog.specs.declared.Found.TheVariants.{At, Nothing}
 use Rattle.parlog.specs.declared.Move.{Move}
 use Rattle.parlog.specs.declared.Process.{Process}
-use Rattle.parlog.specs.declared.Stepped.TheVariants.{Moved}
 use Rattle.promises.proofs.Demand1.{demand-1-turn, turn-as}
 use Rattle.promises.proofs.Demand2.{image-sane}
 use Rattle.promises.proofs.Entry.{let-full, let-image, let-ok, let-tables, run-let}
@@ -130,12 +128,12 @@ module _ (lim : Limits) (s : List ℕ) {r c : ℕ} (l : Lent) (i : LetIn lim s l
       by_budget (live-is here g) (turn-moves lim (program_of s r c) here (let-ok lim s l i) (turn-of lim (program_of s r c) here (let-ok lim s l i) p q)) z
   stops-by {limit} {n} (room_used g h z) = go (turn_for (program_of s r c) here) refl
     where
-      none : turn_for (program_of s r c) here ≡ Nothing → turn_tables lim (program_of s r c) here ≡ unmade 10
+      none : turn_for (program_of s r c) here ≡ None → turn_tables lim (program_of s r c) here ≡ unmade 10
       none q = unfold turn_tables turn_to in (rw q)
 
-      go : (f : Found) → turn_for (program_of s r c) here ≡ f → StopsBy lim (program_of s r c) limit n l Room
-      go Nothing q = let e = sym (none q) ∙ z in let y : ◌≡◌ {A = ℕ} 10 11 = cc in absurd (omega arith)
-      go (At p) q =
+      go : (f : Option ℕ) → turn_for (program_of s r c) here ≡ f → StopsBy lim (program_of s r c) limit n l Room
+      go None q = let e = sym (none q) ∙ z in let y : ◌≡◌ {A = ℕ} 10 11 = cc in absurd (omega arith)
+      go (Some p) q =
           by_room (live-is here g) (turn-of lim (program_of s r c) here (let-ok lim s l i) p q) h
           (full_by (trial lim (program_of s r c) here (let-ok lim s l i) p) (sym (turn_is lim (program_of s r c) here p q) ∙ z))
 
@@ -145,7 +143,7 @@ module _ (lim : Limits) (s : List ℕ) (r c : ℕ) where
   abbrev pr : Program
   pr = program_of s r c
 
-  turn-outcome : (l : Lent) → LetIn lim s l r c → {m : Move} {u : Tables} → turn_tables lim pr (tables_in l) ≡ made m u → TurnMeets lim s l (word (step_numbers (Moved m))) (put_tables l u)
+  turn-outcome : (l : Lent) → LetIn lim s l r c → {m : Move} {u : Tables} → turn_tables lim pr (tables_in l) ≡ made m u → TurnMeets lim s l (word (step_numbers (Ok m))) (put_tables l u)
   turn-outcome l i e = let q = turn-as lim s l i e in record { contract = record { answer = rw q; head = rw q; procs = rw q; vars = rw q } }
 
   turns-from : {t t' : Tables} {n : ℕ} → Repeats lim pr t n t' → (l : Lent) → LetIn lim s l r c → tables_in l ≡ t → put_tables l t ≡ l → Turns lim s l n (put_tables l t')
@@ -164,7 +162,7 @@ module _ (lim : Limits) (s : List ℕ) (r c : ℕ) where
       put-over l u t' more.procs more.vars (rows_fit lim pr l t' full x) (cells_fit lim pr l t' full x) in
       let rest = turns-from k (put_tables l u) (goes-let lim s l i u gone) held one in
       let live : goal_ended (tables_in l) ≡ false = rw e g in
-      one_turn (live-is (tables_in l) live) (turn-outcome l i z) (moved_told (word (step_numbers (Moved m))) m refl).accepted (rw all at rest)
+      one_turn (live-is (tables_in l) live) (turn-outcome l i z) (moved_told (word (step_numbers (Ok m))) m refl).accepted (rw all at rest)
 
   -- where writing their own tables over them leaves the bytes as they are
   pub run-turns : (l : Lent) → LetIn lim s l r c → put_tables l (tables_in l) ≡ l → {limit w : ℕ} {l' : Lent} → RunMeets lim s l limit w l' → RunsExactly lim s (program_of s r c) l limit w l'

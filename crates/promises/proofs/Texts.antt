@@ -1,4 +1,6 @@
 -- Clause text: one result only, demands 1 and 2 of print and parse.
+use Rattle.std.specs.Prelude.{Err, Ok}
+use Rattle.parlog.specs.Answer.{Answer}
 use mathlib.Core.Path.{◌∙◌, ◌≡◌, ap, refl, sym}
 use mathlib.Core.Logic.{◌≢◌, inl, inr}
 use mathlib.Core.Bool.{true}
@@ -15,8 +17,6 @@ use Rattle.parlog.specs.Numbers.{refused_as, word}
 use Rattle.parlog.specs.Orders.{Each}
 use Rattle.parlog.specs.Program.{program_of}
 use Rattle.parlog.specs.Tables.{written}
-use Rattle.parlog.specs.declared.Loaded.{Loaded}
-use Rattle.parlog.specs.declared.Loaded.TheVariants.{Accepted, Refused}
 use Rattle.parlog.specs.declared.Refusal.{Refusal}
 use Rattle.promises.proofs.Demand1.{a-refusal, Answered, no-refusal, refusing}
 use Rattle.promises.proofs.Entry.{bad-is}
@@ -27,7 +27,6 @@ use Rattle.promises.specs.Texts.{as_told, image_length_in, ParseMeets, ParseRefu
 use Rattle.refusals.proofs.Exactly.{accepted-right, refused-number}
 use Rattle.spell.specs.Grammar.{ClauseText}
 use Rattle.spell.specs.Stuck.{spelling_of}
-use Rattle.spell.specs.declared.Spelt.TheVariants.{Right}
 use Rattle.text_loads.proofs.Parsed.{Parses, parses, source-loads}
 use Rattle.text_loads.proofs.Refusing.{records-refused}
 use Rattle.text_loads.proofs.Roomy.{rows-suffice}
@@ -37,9 +36,6 @@ use Rattle.text_program.specs.Numbered.{relation_names}
 use Rattle.text_program.specs.Parsing.{declared, image_in, names_in, parse_call, records_in}
 use Rattle.text_program.specs.Printing.{print_call, program_named, program_text}
 use Rattle.text_program.specs.Source.{Source, source_of}
-use Rattle.text_program.specs.declared.Parsed.{Parsed}
-use Rattle.text_program.specs.declared.Parsed.TheVariants.{Read, Unread}
-use Rattle.text_program.specs.declared.Printed.TheVariants.{Unwritten, Wrote}
 use Rattle.text_refusals.proofs.Unread.{parse-exactly, parse-kept, parse-numbers}
 use Rattle.text_refusals.proofs.Unwritten.{print-exactly, print-kept}
 use Rattle.text_refusals.specs.Unread.{at_record, bad_line, behind, In, in_front, LinesRefused, ninth_of_block, no_room, no_text, one_too_many, ParseRefused, second_line, Undeclared, undeclared, wrong_body, wrong_name}
@@ -60,19 +56,19 @@ once-parse x y = (x.contract.answer ∙ sym y.contract.answer, x.contract.image_
 
 -- ---- words
 
-pub wrote-told : (w n : ℕ) → w ≡ word (print_numbers (Wrote n)) → (refusal_in w ≡ 0) × (large_in w ≡ told_offset n)
+pub wrote-told : (w n : ℕ) → w ≡ word (print_numbers (Ok n)) → (refusal_in w ≡ 0) × (large_in w ≡ told_offset n)
 wrote-told w n e =
-    (ap refusal_in e ∙ refusal-of (print_numbers (Wrote n)) (omega arith) (omega arith) (omega arith), ap large_in e ∙ large-of (print_numbers (Wrote n)) (omega arith) (omega arith) (omega arith))
+    (ap refusal_in e ∙ refusal-of (print_numbers (Ok n)) (omega arith) (omega arith) (omega arith), ap large_in e ∙ large-of (print_numbers (Ok n)) (omega arith) (omega arith) (omega arith))
 
 parts-told : (n c : ℕ) → n ≤ 65535 → image_length_in (word (record { refused = 0; a = n % 256; b = n / 256; c = c })) ≡ n
 unfolding word
 parts-told n c h = omega arith
 
-pub read_told : (w n m : ℕ) → n ≤ 65535 → w ≡ word (parse_numbers (Read n m)) → (refusal_in w ≡ 0) × (image_length_in w ≡ n) × (large_in w ≡ told_offset m)
+pub read_told : (w n m : ℕ) → n ≤ 65535 → w ≡ word (parse_numbers (Ok (n, m))) → (refusal_in w ≡ 0) × (image_length_in w ≡ n) × (large_in w ≡ told_offset m)
 read_told w n m h e =
     let p = parts-fit n h in
-    let x = refusal-of (parse_numbers (Read n m)) (omega arith) p.0 p.1 in
-    let z = large-of (parse_numbers (Read n m)) (omega arith) p.0 p.1 in
+    let x = refusal-of (parse_numbers (Ok (n, m))) (omega arith) p.0 p.1 in
+    let z = large-of (parse_numbers (Ok (n, m))) (omega arith) p.0 p.1 in
     (ap refusal_in e ∙ x, ap image_length_in e ∙ parts-told n (told_offset m) h, ap large_in e ∙ z)
 
 -- ---- a print
@@ -89,12 +85,12 @@ print-near (lacks_name i h) = omega arith
 print-near (row_short i h l) = omega arith
 
 module _ (image names text : List ℕ) where
-  pub print-made : {r c : ℕ} → load_of image ≡ Accepted r c → program_named names (program_of image r c) ≡ true → length (program_text names (program_of image r c)) ≤ length text
-      → print_call text image names ≡ record { answer = Wrote (length (program_text names (program_of image r c))); text = written (program_text names (program_of image r c)) text }
+  pub print-made : {r c : ℕ} → load_of image ≡ Ok (r, c) → program_named names (program_of image r c) ≡ true → length (program_text names (program_of image r c)) ≤ length text
+      → print_call text image names ≡ record { answer = Ok (length (program_text names (program_of image r c))); text = written (program_text names (program_of image r c)) text }
   unfolding print_call
   print-made {r} {c} e h l = rw (e, h, le-leb (length (program_text names (program_of image r c))) (length text) l)
 
-  not-refused : {n o k : ℕ} → (print_call text image names).answer ≡ Wrote k → PrintRefused text image names n o → ⊥
+  not-refused : {n o k : ℕ} → (print_call text image names).answer ≡ Ok k → PrintRefused text image names n o → ⊥
   not-refused {n} {o} e x = let f = sym e ∙ (print-exactly text image names n o).1 x in let z : ◌≡◌ {A = ℕ} 0 1 = cc in omega arith
 
   module _ (w : ℕ) (text' : List ℕ) (meets : PrintMeets image names text w text') where
@@ -115,19 +111,19 @@ module _ (image names text : List ℕ) where
     unfolding print_call
     printing-so = load (load_of image) refl
       where
-        refused : (f : Refusal) → (print_call text image names).answer ≡ Unwritten f → Printing
+        refused : (f : Refusal) → (print_call text image names).answer ≡ Err f → Printing
         refused f e = is-unprinted ((print-exactly text image names f.number f.offset).0 e)
 
-        made : (r c : ℕ) → load_of image ≡ Accepted r c → program_named names (program_of image r c) ≡ true → length (program_text names (program_of image r c)) ≤ length text → Printing
+        made : (r c : ℕ) → load_of image ≡ Ok (r, c) → program_named names (program_of image r c) ≡ true → length (program_text names (program_of image r c)) ≤ length text → Printing
         made r c e h l =
             let q = print-made e h l in
             let i = (accepted-right image).0 e in
             let k = wrote-told w (length (program_text names (program_of image r c))) (meets.contract.answer ∙ rw q) in
             is-printed k.0 (record { relations = r; clauses = c; right = i; named = λ u. not-refused {k = length (program_text names (program_of image r c))} (rw q) (lacks_name i u); size = k.1; fits = l; bytes = meets.contract.text_is ∙ rw q })
 
-        load : (a : Loaded) → load_of image ≡ a → Printing
-        load (Refused f) e = refused f (rw e)
-        load (Accepted r c) e =
+        load : (a : Answer (ℕ × ℕ)) → load_of image ≡ a → Printing
+        load (Err f) e = refused f (rw e)
+        load (Ok (r, c)) e =
             let t = program_text names (program_of image r c) in
             split (program_named names (program_of image r c))
             (λ h. split (leb (length t) (length text)) (λ l. made r c e h (leb-true (length t) (length text) l)) (λ l. refused (refusal 11 0) (rw (e, h, l))))
@@ -165,7 +161,7 @@ module _ (image names text : List ℕ) where
   abbrev p : Source
   p = source_of text
 
-  module _ {n m : ℕ} (e : (parse_call image names text).answer ≡ Read n m) where
+  module _ {n m : ℕ} (e : (parse_call image names text).answer ≡ Ok (n, m)) where
     not-unread : {k o : ℕ} → ParseRefused image names text k o → ⊥
     not-unread {k} {o} x = let f = sym e ∙ (parse-exactly image names text k o).1 x in let z : ◌≡◌ {A = ℕ} 0 1 = cc in omega arith
 
@@ -194,16 +190,16 @@ module _ (image names text : List ℕ) where
 
     data Parsing : Type 0 where
       is-unparsed : {n o : ℕ} → ParseRefused image names text n o → Parsing
-      is-parsed : {n m : ℕ} → (parse_call image names text).answer ≡ Read n m → Parsing
+      is-parsed : {n m : ℕ} → (parse_call image names text).answer ≡ Ok (n, m) → Parsing
 
     parsing-so : Parsing
     parsing-so = go (parse_call image names text).answer refl
       where
-        go : (a : Parsed) → (parse_call image names text).answer ≡ a → Parsing
-        go (Unread f) e = is-unparsed ((parse-exactly image names text f.number f.offset).0 e)
-        go (Read n m) e = is-parsed e
+        go : (a : Answer (ℕ × ℕ)) → (parse_call image names text).answer ≡ a → Parsing
+        go (Err f) e = is-unparsed ((parse-exactly image names text f.number f.offset).0 e)
+        go (Ok (n, m)) e = is-parsed e
 
-    read-so : {n m : ℕ} → (parse_call image names text).answer ≡ Read n m → (refusal_in w ≡ 0) × (image_length_in w ≡ length (image_in p)) × (large_in w ≡ told_offset (length (names_in p)))
+    read-so : {n m : ℕ} → (parse_call image names text).answer ≡ Ok (n, m) → (refusal_in w ≡ 0) × (image_length_in w ≡ length (image_in p)) × (large_in w ≡ told_offset (length (names_in p)))
     unfolding long
     read-so {n} {m} e =
         let q = parses image names text n m e in
@@ -221,15 +217,15 @@ module _ (image names text : List ℕ) where
         go (is-unparsed y) = a-refusal (as_told y)
         go (is-parsed e) = no-refusal (read-so e).0
 
-    accepted-answer : refusal_in w ≡ 0 → (n : ℕ) × (m : ℕ) × ((parse_call image names text).answer ≡ Read n m)
+    accepted-answer : refusal_in w ≡ 0 → (n : ℕ) × (m : ℕ) × ((parse_call image names text).answer ≡ Ok (n, m))
     accepted-answer z = go parsing-so
       where
-        go : Parsing → (n : ℕ) × (m : ℕ) × ((parse_call image names text).answer ≡ Read n m)
+        go : Parsing → (n : ℕ) × (m : ℕ) × ((parse_call image names text).answer ≡ Ok (n, m))
         go (is-unparsed y) = let g = demand-1-parse.by.given (as_told y) in let m = parse-numbered (as_told y) in absurd (omega (arith, g.0, m.0))
         go (is-parsed {n} {m} e) = (n, m, e)
 
     -- and that is its answer
-    pub parse-answer : refusal_in w ≡ 0 → (parse_call image names text).answer ≡ Read (length (image_in p)) (length (names_in p))
+    pub parse-answer : refusal_in w ≡ 0 → (parse_call image names text).answer ≡ Ok ((length (image_in p)), (length (names_in p)))
     parse-answer z = let a = accepted-answer z in let q = parses image names text a.0 a.1 a.2 in a.2 ∙ rw (q.image_size, q.names_size)
 
     -- Text 21: what is not refused is parsed, and its image is right
@@ -257,21 +253,21 @@ module _ (image names text : List ℕ) where
 
     -- ---- rows that are always long enough
 
-    same_number : {f g : Refusal} → Unread f ≡ Unread g → f.number ≡ g.number
-    same_number {f} {g} e = let h : f ≡ g = cc in ap (λ (r : Refusal). r.number) h
+    same_number : {A : Type 0} {f g : Refusal} → ◌≡◌ {A = Answer A} (Err f) (Err g) → f.number ≡ g.number
+    same_number {f = f} {g = g} e = let h : f ≡ g = cc in ap (λ (r : Refusal). r.number) h
 
-    eleven-not : most_image ≤ length image → length text ≤ length names → ClauseText text → (parse_call image names text).answer ≡ Unread (refusal 11 0) → ⊥
+    eleven-not : most_image ≤ length image → length text ≤ length names → ClauseText text → (parse_call image names text).answer ≡ Err (refusal 11 0) → ⊥
     unfolding parse_call
     eleven-not a b t e =
         let q = exact.right-accepted text t in
         split (declared p) (λ d. records q d (records_in (relation_names p) (image_in p)) refl) (λ d. let z = same_number {f = refusal 11 0} {g = refusal 17 0} (sym e ∙ rw (q, d)) in omega (arith, z))
       where
-        records : spelling_of text ≡ Right → declared p ≡ true → (l : Loaded) → records_in (relation_names p) (image_in p) ≡ l → ⊥
-        records q d (Refused f) g =
+        records : spelling_of text ≡ Ok tt → declared p ≡ true → (l : Answer (ℕ × ℕ)) → records_in (relation_names p) (image_in p) ≡ l → ⊥
+        records q d (Err f) g =
             let z = same_number {f = refusal 11 0} {g = f} (sym e ∙ rw (q, d, g)) in
             let k = records-refused p f g in
             omega (arith, z, k.1)
-        records q d (Accepted r c) g = let h = sym e ∙ rows-suffice image names text r c q d g a b in let z : ◌≡◌ {A = ℕ} 0 1 = cc in omega arith
+        records q d (Ok (r, c)) g = let h = sym e ∙ rows-suffice image names text r c q d g a b in let z : ◌≡◌ {A = ℕ} 0 1 = cc in omega arith
 
     line_low : {rels : List Name} {s : List ℕ} {n o : ℕ} → LinesRefused rels s n o → n ≤ 6
     line_low (at_record f more (one_too_many h)) = omega arith

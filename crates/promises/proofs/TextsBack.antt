@@ -1,4 +1,5 @@
 -- Request 4: what was printed is parsed to the image again, and what was parsed is printed and parsed again.
+use Rattle.std.specs.Prelude.{Ok}
 use mathlib.Core.Path.{◌∙◌, ◌≡◌, sym}
 use mathlib.Core.Bool.{true}
 use mathlib.Core.List.{List}
@@ -12,7 +13,6 @@ use Rattle.parlog.proofs.Bools.{split}
 use Rattle.parlog.specs.Load.{load_of, refusal}
 use Rattle.parlog.specs.Program.{program_of}
 use Rattle.parlog.specs.Tables.{written}
-use Rattle.parlog.specs.declared.Loaded.TheVariants.{Accepted}
 use Rattle.promises.proofs.Texts.{demand-2-parse, parse-answer, print-made, read_told, wrote-told}
 use Rattle.promises.proofs.Words.{refused-told}
 use Rattle.promises.specs.Outcomes.{large_in, refusal_in}
@@ -27,11 +27,10 @@ use Rattle.text_forth.specs.Forth.{PrintsAgain}
 use Rattle.text_program.specs.Parsing.{image_in, names_in, parse_call}
 use Rattle.text_program.specs.Printing.{print_call, program_named, program_text}
 use Rattle.text_program.specs.Source.{source_of}
-use Rattle.text_program.specs.declared.Parsed.TheVariants.{Read}
 use Rattle.text_words.proofs.Laws.{told_same}
 
 -- a parse of which the definitions give image and names
-reads-again : (s nm image names text : List ℕ) → length s ≤ 32768 → parse_call image names text ≡ record { answer = Read (length s) (length nm); image = written s image; names = written nm names }
+reads-again : (s nm image names text : List ℕ) → length s ≤ 32768 → parse_call image names text ≡ record { answer = Ok ((length s), (length nm)); image = written s image; names = written nm names }
     → (w : ℕ) (image' names' : List ℕ) → ParseMeets image names text w image' names' → ReadsAgain s nm image names w image' names'
 reads-again s nm image names text few e w image' names' meets =
     let k = read_told w (length s) (length nm) (omega arith) (meets.contract.answer ∙ rw e) in
@@ -45,7 +44,7 @@ front-is x row = take-append_seam x (drop (length x) row)
 -- ---- back
 
 module _ (s nm row : List ℕ) (w : ℕ) (row' : List ℕ) (prints : PrintMeets s nm row w row') (short : Tellable row) (z : refusal_in w ≡ 0) where
-  print-fits : {r c : ℕ} → load_of s ≡ Accepted r c → program_named nm (program_of s r c) ≡ true → length (program_text nm (program_of s r c)) ≤ length row
+  print-fits : {r c : ℕ} → load_of s ≡ Ok (r, c) → program_named nm (program_of s r c) ≡ true → length (program_text nm (program_of s r c)) ≤ length row
   unfolding print_call
   print-fits {r} {c} e h =
       let t = program_text nm (program_of s r c) in

@@ -1,4 +1,6 @@
 -- Request 7: the calls that record are refused as the plain ones, then for the row; else they are the plain calls, and their record stands in the row.
+use Rattle.std.specs.Prelude.{Ok, Err}
+use Rattle.parlog.specs.Answer.{Answer}
 use mathlib.Core.Path.{◌∙◌, ◌≡◌, refl}
 use mathlib.Core.Logic.{◌≢◌}
 use mathlib.Core.List.{List}
@@ -22,10 +24,6 @@ use Rattle.parlog.specs.Relation.{Fits, Rule}
 use Rattle.parlog.specs.Run.{given, made, Running, run_tables, Stepping, step_tables, Supplying, supply_tables}
 use Rattle.parlog.specs.Tables.{Lent, put_tables, State, Tables, tables_in}
 use Rattle.parlog.specs.declared.Move.{Move}
-use Rattle.parlog.specs.declared.Stepped.{Stepped}
-use Rattle.parlog.specs.declared.Stepped.TheVariants.{Moved, Unmoved}
-use Rattle.parlog.specs.declared.Supplied.{Supplied}
-use Rattle.parlog.specs.declared.Supplied.TheVariants.{Given, Ungiven}
 use Rattle.promises.proofs.Bound.{kept_of}
 use Rattle.promises.proofs.BoundSupply.{rows_same}
 use Rattle.promises.proofs.Demand1.{a-refusal, Answered, demand-1-run, no-refusal, refuses-by, step-as, step-numbered, step-refused, supply-as, supply-numbered, supply-refused}
@@ -60,27 +58,27 @@ row-notes bs row e h ew =
 -- ---- a step
 
 module _ (lim : Limits) (s : List ℕ) (l : Lent) (row : List ℕ) (p stamp : ℕ) where
-  pub data StepTraceView : RowCall Stepped → Type 0 where
-    step-not : {n o : ℕ} → StepTracedRefused lim s l row p n o → StepTraceView (record { answer = Unmoved (refusal n o); lent = l; row = row })
+  pub data StepTraceView : RowCall (Answer Move) → Type 0 where
+    step-not : {n o : ℕ} → StepTracedRefused lim s l row p n o → StepTraceView (record { answer = Err (refusal n o); lent = l; row = row })
     step-recorded : {r c : ℕ} (i : LetIn lim s l r c) {m : Move} {s' : State} → p < length (state_in l).procs → Rule (program_of s r c) (state_in l) p m s' → Fits lim s'
         → step_tables lim (program_of s r c) (tables_in l) p ≡ made m (after_step (tables_in l) p s') → trace_size ≤ length row
-        → StepTraceView (record { answer = Moved m; lent = put_tables l (after_step (tables_in l) p s'); row = laid row 0 (record_bytes step_kind p (rule_number m) stamp) })
+        → StepTraceView (record { answer = Ok m; lent = put_tables l (after_step (tables_in l) p s'); row = laid row 0 (record_bytes step_kind p (rule_number m) stamp) })
 
-  step-refused-plain : {n o : ℕ} → StepRefused lim s l p n o → step_traced_call lim s l row p stamp ≡ record { answer = Unmoved (refusal n o); lent = l; row = row }
+  step-refused-plain : {n o : ℕ} → StepRefused lim s l p n o → step_traced_call lim s l row p stamp ≡ record { answer = Err (refusal n o); lent = l; row = row }
   unfolding step_traced_call
   step-refused-plain y = rw (step-refused lim s l p y)
 
   module _ {r c : ℕ} (i : LetIn lim s l r c) {m : Move} {t : Tables} (e : step_tables lim (program_of s r c) (tables_in l) p ≡ made m t) where
-    step-call-made : step_call lim s l p ≡ record { answer = Moved m; lent = put_tables l t }
+    step-call-made : step_call lim s l p ≡ record { answer = Ok m; lent = put_tables l t }
     step-call-made = step-as lim s l p i e
 
-    step-too-short : length row < trace_size → step_traced_call lim s l row p stamp ≡ record { answer = Unmoved (refusal 11 0); lent = l; row = row }
+    step-too-short : length row < trace_size → step_traced_call lim s l row p stamp ≡ record { answer = Err (refusal 11 0); lent = l; row = row }
     step-too-short h = step-narrow lim s l p row stamp h ∙ rw step-call-made
 
-    step-long-enough : trace_size ≤ length row → step_traced_call lim s l row p stamp ≡ record { answer = Moved m; lent = put_tables l t; row = laid row 0 (record_bytes step_kind p (rule_number m) stamp) }
+    step-long-enough : trace_size ≤ length row → step_traced_call lim s l row p stamp ≡ record { answer = Ok m; lent = put_tables l t; row = laid row 0 (record_bytes step_kind p (rule_number m) stamp) }
     step-long-enough h = step-wide lim s l p row stamp h ∙ rw step-call-made
 
-  step-refused-call : {n o : ℕ} → StepTracedRefused lim s l row p n o → step_traced_call lim s l row p stamp ≡ record { answer = Unmoved (refusal n o); lent = l; row = row }
+  step-refused-call : {n o : ℕ} → StepTracedRefused lim s l row p n o → step_traced_call lim s l row p stamp ≡ record { answer = Err (refusal n o); lent = l; row = row }
   step-refused-call (as_plain_step y) = step-refused-plain y
   step-refused-call (unrecorded_step u) =
       let i = u.inside in
@@ -119,7 +117,7 @@ module _ (lim : Limits) (s : List ℕ) (l : Lent) (row : List ℕ) (p stamp : �
     step-traced-answered : Answered (StepTracedRefused lim s l row p) w
     step-traced-answered = go step-trace-view refl
       where
-        go : {x : RowCall Stepped} → StepTraceView x → step_traced_call lim s l row p stamp ≡ x → Answered (StepTracedRefused lim s l row p) w
+        go : {x : RowCall (Answer Move)} → StepTraceView x → step_traced_call lim s l row p stamp ≡ x → Answered (StepTracedRefused lim s l row p) w
         go (step-not y) e = a-refusal y
         go (step-recorded i {m} h x f q g) e = no-refusal (moved_told w m (meets.contract.answer ∙ rw e)).accepted
 
@@ -145,7 +143,7 @@ module _ (lim : Limits) (s : List ℕ) (l : Lent) (row : List ℕ) (p stamp : �
         → (m : Move) × (t : Tables) × (step_tables lim (program_of s r c) (tables_in l) p ≡ made m t) × (l' ≡ put_tables l t) × (take trace_size row' ≡ record_bytes step_kind p (rule_number m) stamp)
     step-traced-made z {r} {c} j = go step-trace-view refl
       where
-        go : {x : RowCall Stepped} → StepTraceView x → step_traced_call lim s l row p stamp ≡ x
+        go : {x : RowCall (Answer Move)} → StepTraceView x → step_traced_call lim s l row p stamp ≡ x
             → (m : Move) × (t : Tables) × (step_tables lim (program_of s r c) (tables_in l) p ≡ made m t) × (l' ≡ put_tables l t) × (take trace_size row' ≡ record_bytes step_kind p (rule_number m) stamp)
         go (step-not y) e = let b = demand-1-step-traced.by in let a = (b.given y).0 in let d = (b.numbered y).0 in absurd (omega arith)
         go (step-recorded i {m} {s'} h x f q g) e =
@@ -158,7 +156,7 @@ module _ (lim : Limits) (s : List ℕ) (l : Lent) (row : List ℕ) (p stamp : �
     pub demand-2-step-traced : {r c : ℕ} → LetIn lim s l r c → refusal_in w ≡ 0 → StepNoted lim (program_of s r c) l row p stamp w l' row'
     demand-2-step-traced {r} {c} j z = go step-trace-view refl
       where
-        go : {x : RowCall Stepped} → StepTraceView x → step_traced_call lim s l row p stamp ≡ x → StepNoted lim (program_of s r c) l row p stamp w l' row'
+        go : {x : RowCall (Answer Move)} → StepTraceView x → step_traced_call lim s l row p stamp ≡ x → StepNoted lim (program_of s r c) l row p stamp w l' row'
         go (step-not y) e = let b = demand-1-step-traced.by in let a = (b.given y).0 in let d = (b.numbered y).0 in absurd (omega arith)
         go (step-recorded i {m} {s'} h x f q g) e =
             let k = let-in-same i j in
@@ -173,26 +171,26 @@ module _ (lim : Limits) (s : List ℕ) (l : Lent) (row : List ℕ) (p stamp : �
 -- ---- a supply
 
 module _ (lim : Limits) (s : List ℕ) (l : Lent) (row : List ℕ) (v k stamp : ℕ) where
-  pub data SupplyTraceView : RowCall Supplied → Type 0 where
-    supply-not : {n o : ℕ} → SupplyTracedRefused lim s l row v k n o → SupplyTraceView (record { answer = Ungiven (refusal n o); lent = l; row = row })
+  pub data SupplyTraceView : RowCall (Answer ℕ) → Type 0 where
+    supply-not : {n o : ℕ} → SupplyTracedRefused lim s l row v k n o → SupplyTraceView (record { answer = Err (refusal n o); lent = l; row = row })
     supply-recorded : {r c u : ℕ} (i : LetIn lim s l r c) {t : Tables} → supply_tables (program_of s r c) (tables_in l) v k ≡ given u t → v < (program_of s r c).goal_vars → k ≤ 32767 → trace_size ≤ length row
-        → SupplyTraceView (record { answer = Given u; lent = put_tables l t; row = laid row 0 (record_bytes supply_kind v k stamp) })
+        → SupplyTraceView (record { answer = Ok u; lent = put_tables l t; row = laid row 0 (record_bytes supply_kind v k stamp) })
 
-  supply-refused-plain : {n o : ℕ} → SupplyRefused lim s l v k n o → supply_traced_call lim s l row v k stamp ≡ record { answer = Ungiven (refusal n o); lent = l; row = row }
+  supply-refused-plain : {n o : ℕ} → SupplyRefused lim s l v k n o → supply_traced_call lim s l row v k stamp ≡ record { answer = Err (refusal n o); lent = l; row = row }
   unfolding supply_traced_call
   supply-refused-plain y = rw (supply-refused lim s l v k y)
 
   module _ {r c : ℕ} (i : LetIn lim s l r c) {u : ℕ} {t : Tables} (e : supply_tables (program_of s r c) (tables_in l) v k ≡ given u t) where
-    supply-call-given : supply_call lim s l v k ≡ record { answer = Given u; lent = put_tables l t }
+    supply-call-given : supply_call lim s l v k ≡ record { answer = Ok u; lent = put_tables l t }
     supply-call-given = supply-as lim s l v k i e
 
-    supply-too-short : length row < trace_size → supply_traced_call lim s l row v k stamp ≡ record { answer = Ungiven (refusal 11 0); lent = l; row = row }
+    supply-too-short : length row < trace_size → supply_traced_call lim s l row v k stamp ≡ record { answer = Err (refusal 11 0); lent = l; row = row }
     supply-too-short h = supply-narrow lim s l row v k stamp h ∙ rw supply-call-given
 
-    supply-long-enough : trace_size ≤ length row → supply_traced_call lim s l row v k stamp ≡ record { answer = Given u; lent = put_tables l t; row = laid row 0 (record_bytes supply_kind v k stamp) }
+    supply-long-enough : trace_size ≤ length row → supply_traced_call lim s l row v k stamp ≡ record { answer = Ok u; lent = put_tables l t; row = laid row 0 (record_bytes supply_kind v k stamp) }
     supply-long-enough h = supply-wide lim s l row v k stamp h ∙ rw supply-call-given
 
-  supply-refused-call : {n o : ℕ} → SupplyTracedRefused lim s l row v k n o → supply_traced_call lim s l row v k stamp ≡ record { answer = Ungiven (refusal n o); lent = l; row = row }
+  supply-refused-call : {n o : ℕ} → SupplyTracedRefused lim s l row v k n o → supply_traced_call lim s l row v k stamp ≡ record { answer = Err (refusal n o); lent = l; row = row }
   supply-refused-call (as_plain_supply y) = supply-refused-plain y
   supply-refused-call (unrecorded_supply y) =
       let i = y.inside in
@@ -229,7 +227,7 @@ module _ (lim : Limits) (s : List ℕ) (l : Lent) (row : List ℕ) (v k stamp : 
     supply-traced-answered : Answered (SupplyTracedRefused lim s l row v k) w
     supply-traced-answered = go supply-trace-view refl
       where
-        go : {x : RowCall Supplied} → SupplyTraceView x → supply_traced_call lim s l row v k stamp ≡ x → Answered (SupplyTracedRefused lim s l row v k) w
+        go : {x : RowCall (Answer ℕ)} → SupplyTraceView x → supply_traced_call lim s l row v k stamp ≡ x → Answered (SupplyTracedRefused lim s l row v k) w
         go (supply-not y) e = a-refusal y
         go (supply-recorded {u = u} i q h g z) e = no-refusal (given-told w u (meets.contract.answer ∙ rw e))
 
@@ -255,7 +253,7 @@ module _ (lim : Limits) (s : List ℕ) (l : Lent) (row : List ℕ) (v k stamp : 
         → (u : ℕ) × (t : Tables) × (supply_tables (program_of s r c) (tables_in l) v k ≡ given u t) × (v < (program_of s r c).goal_vars) × (k ≤ 32767) × (l' ≡ put_tables l t) × (take trace_size row' ≡ record_bytes supply_kind v k stamp)
     supply-traced-given z {r} {c} j = go supply-trace-view refl
       where
-        go : {x : RowCall Supplied} → SupplyTraceView x → supply_traced_call lim s l row v k stamp ≡ x
+        go : {x : RowCall (Answer ℕ)} → SupplyTraceView x → supply_traced_call lim s l row v k stamp ≡ x
             → (u : ℕ) × (t : Tables) × (supply_tables (program_of s r c) (tables_in l) v k ≡ given u t) × (v < (program_of s r c).goal_vars) × (k ≤ 32767) × (l' ≡ put_tables l t) × (take trace_size row' ≡ record_bytes supply_kind v k stamp)
         go (supply-not y) e = let b = demand-1-supply-traced.by in let a = (b.given y).0 in let d = (b.numbered y).0 in absurd (omega arith)
         go (supply-recorded {u = u} i {t} q h g y) e =
@@ -266,7 +264,7 @@ module _ (lim : Limits) (s : List ℕ) (l : Lent) (row : List ℕ) (v k stamp : 
     pub demand-2-supply-traced : {r c : ℕ} → LetIn lim s l r c → refusal_in w ≡ 0 → SupplyNoted l row v k stamp w l' row'
     demand-2-supply-traced j z = go supply-trace-view refl
       where
-        go : {x : RowCall Supplied} → SupplyTraceView x → supply_traced_call lim s l row v k stamp ≡ x → SupplyNoted l row v k stamp w l' row'
+        go : {x : RowCall (Answer ℕ)} → SupplyTraceView x → supply_traced_call lim s l row v k stamp ≡ x → SupplyNoted l row v k stamp w l' row'
         go (supply-not y) e = let b = demand-1-supply-traced.by in let a = (b.given y).0 in let d = (b.numbered y).0 in absurd (omega arith)
         go (supply-recorded i q h g y) e = record {
           supplies = demand-2-supply lim s l j v k w l' (plain-supply-traced y) z;

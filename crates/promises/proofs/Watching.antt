@@ -1,4 +1,5 @@
 -- A watch refuses nothing, and tells the lowest suspended row or none.
+use Rattle.std.specs.Prelude.{Option, Some, None}
 use mathlib.Core.Path.{◌∙◌, ◌≡◌, ap, refl, sym}
 use mathlib.Core.Logic.{◌≢◌}
 use mathlib.Core.Bool.{Bool, false}
@@ -14,8 +15,6 @@ use Rattle.parlog.specs.Numbers.{watch_numbers, word}
 use Rattle.parlog.specs.Run.{watch_of}
 use Rattle.parlog.specs.Scan.{lowest}
 use Rattle.parlog.specs.Tables.{at, process_at, procs_of, row_size}
-use Rattle.parlog.specs.declared.Found.{Found}
-use Rattle.parlog.specs.declared.Found.TheVariants.{At, Nothing}
 use Rattle.parlog.specs.declared.Process.{Process}
 use Rattle.promises.proofs.Words.{first_of, large-of, refusal-of}
 use Rattle.promises.specs.Moves.{none_waits, one_waits, Watched}
@@ -40,9 +39,9 @@ module _ (rows : List ℕ) where
   unfolding watch_of
   watch-is = rw (procs-length rows n)
 
-  found-told : (w : ℕ) (f : Found) → w ≡ word (watch_numbers f) → refusal_in w ≡ 0
-  found-told w Nothing e = rw e (refusal-of (watch_numbers Nothing) (omega arith) (omega arith) (omega arith))
-  found-told w (At i) e = rw e (refusal-of (watch_numbers (At i)) (omega arith) (omega arith) (omega arith))
+  found-told : (w : ℕ) (f : Option ℕ) → w ≡ word (watch_numbers f) → refusal_in w ≡ 0
+  found-told w None e = rw e (refusal-of (watch_numbers None) (omega arith) (omega arith) (omega arith))
+  found-told w (Some i) e = rw e (refusal-of (watch_numbers (Some i)) (omega arith) (omega arith) (omega arith))
 
   module _ (w : ℕ) (meets : WatchMeets rows w) where
     -- it takes any row and refuses nothing
@@ -50,18 +49,18 @@ module _ (rows : List ℕ) where
     watch-refuses-none = found-told w (reached (watch_of (procs_of rows n))) meets.contract
 
     module _ (within : length rows / row_size ≤ 4294967296) where
-      by-lowest : (f : Found) → lowest waits n ≡ f → Watched rows w
-      by-lowest Nothing e =
-          let q : w ≡ word (watch_numbers Nothing) = meets.contract ∙ rw (watch-is, e) in
-          none_waits (λ j h. not-waits j h (lowest-none waits n j e h)) (rw q (first_of (watch_numbers Nothing) (omega arith) (omega arith) (omega arith))) (rw q (large-of (watch_numbers Nothing) (omega arith) (omega arith) (omega arith)))
-      by-lowest (At i) e =
+      by-lowest : (f : Option ℕ) → lowest waits n ≡ f → Watched rows w
+      by-lowest None e =
+          let q : w ≡ word (watch_numbers None) = meets.contract ∙ rw (watch-is, e) in
+          none_waits (λ j h. not-waits j h (lowest-none waits n j e h)) (rw q (first_of (watch_numbers None) (omega arith) (omega arith) (omega arith))) (rw q (large-of (watch_numbers None) (omega arith) (omega arith) (omega arith)))
+      by-lowest (Some i) e =
           let r = lowest-at waits n i e in
           let h : i < n = r.there in
-          let q : w ≡ word (watch_numbers (At i)) = meets.contract ∙ rw (watch-is, e, lt-ltb i 4294967296 (omega arith)) in
+          let q : w ≡ word (watch_numbers (Some i)) = meets.contract ∙ rw (watch-is, e, lt-ltb i 4294967296 (omega arith)) in
           one_waits h (eqb-true (process_at rows i).mode 5 (sym (waits-at i h) ∙ r.passes))
           (λ j u. not-waits j (omega arith) (not_so (waits j) (λ g. let k = r.least j (omega arith) g in absurd (omega arith))))
-          (rw q (first_of (watch_numbers (At i)) (omega arith) (omega arith) (omega arith)))
-          (rw q (large-of (watch_numbers (At i)) (omega arith) (omega arith) (omega arith)))
+          (rw q (first_of (watch_numbers (Some i)) (omega arith) (omega arith) (omega arith)))
+          (rw q (large-of (watch_numbers (Some i)) (omega arith) (omega arith) (omega arith)))
 
       -- of up to 2^32 rows, the lowest that is suspended, or none
       pub watch-tells : Watched rows w

@@ -1,4 +1,5 @@
 -- Who can move, and whose turn it is, in tables that keep the rules.
+use Rattle.std.specs.Prelude.{Option, Some, None}
 use mathlib.Core.Path.{◌∙◌, ◌≡◌, ap, refl, sym}
 use mathlib.Core.Bool.{◌&&◌, Bool, true}
 use Prim.Native.Nat.{◌<◌, ◌≤◌, ℕ}
@@ -19,8 +20,6 @@ use Rattle.parlog.specs.Run.{can_move, made, procs_in, step_by, stepped, Steppin
 use Rattle.parlog.specs.Scan.{lowest, or_else}
 use Rattle.parlog.specs.TableRules.{state_ok, tables_ok}
 use Rattle.parlog.specs.Tables.{State, Tables}
-use Rattle.parlog.specs.declared.Found.{Found}
-use Rattle.parlog.specs.declared.Found.TheVariants.{At, Nothing}
 use Rattle.parlog.specs.declared.Move.{Move}
 use Rattle.promises.specs.Moves.{after_step}
 use Rattle.promises.specs.Refusals.{behind_last, CanMove, from_front, LacksRoom, Turn}
@@ -62,23 +61,23 @@ module _ (lim : Limits) (pr : Program) (t : Tables) (ok : tables_ok lim pr t ≡
   there : (i : ℕ) → CanMove pr t.state i → i < procs_in t
   there i m = can-here pr t.state i (move-can lim pr t.state kept i m)
 
-  at-by : (a b : Found) → lowest later (procs_in t) ≡ a → lowest can (procs_in t) ≡ b → (p : ℕ) → or_else a b ≡ At p → Turn pr t p
-  at-by (At q) b ea eb p e =
+  at-by : (a b : Option ℕ) → lowest later (procs_in t) ≡ a → lowest can (procs_in t) ≡ b → (p : ℕ) → or_else a b ≡ Some p → Turn pr t p
+  at-by (Some q) b ea eb p e =
       let w : q ≡ p = cc in
       let r = lowest-at later (procs_in t) q ea in
       let x = and-true (ltb t.last q) (can q) r.passes in
       rw (← w) (behind_last (ltb-true t.last q x.0) (can-move lim pr t.state kept q x.1)
       (λ i h k m. let g = r.least i (there i m) (is_later i h m) in omega arith))
-  at-by Nothing (At q) ea eb p e =
+  at-by None (Some q) ea eb p e =
       let w : q ≡ p = cc in
       let r = lowest-at can (procs_in t) q eb in
       let none : (i : ℕ) → t.last < i → CanMove pr t.state i → ⊥ = λ i h m. never (sym (lowest-none later (procs_in t) i ea (there i m)) ∙ is_later i h m) in
       let m : CanMove pr t.state q = can-move lim pr t.state kept q r.passes in
       rw (← w) (from_front none (split (ltb t.last q) (λ h. absurd (none q (ltb-true t.last q h) m)) (λ h. ltb-false t.last q h)) m
       (λ i h k. let g = r.least i (there i k) (move-can lim pr t.state kept i k) in omega arith))
-  at-by Nothing Nothing ea eb p e = let w : ◌≡◌ {A = ℕ} 0 1 = cc in absurd (omega arith)
+  at-by None None ea eb p e = let w : ◌≡◌ {A = ℕ} 0 1 = cc in absurd (omega arith)
 
-  pub turn-of : (p : ℕ) → turn_for pr t ≡ At p → Turn pr t p
+  pub turn-of : (p : ℕ) → turn_for pr t ≡ Some p → Turn pr t p
   unfolding turn_for turn_of
   turn-of p e = at-by (lowest later (procs_in t)) (lowest can (procs_in t)) refl refl p e
 
@@ -86,21 +85,21 @@ module _ (lim : Limits) (pr : Program) (t : Tables) (ok : tables_ok lim pr t ≡
   turn-moves (behind_last h m n) = m
   turn-moves (from_front f h m n) = m
 
-  none-by : (a b : Found) → lowest can (procs_in t) ≡ b → or_else a b ≡ Nothing → (p : ℕ) → CanMove pr t.state p → ⊥
-  none-by (At q) b eb e p m = let w : ◌≡◌ {A = ℕ} 0 1 = cc in omega arith
-  none-by Nothing (At q) eb e p m = let w : ◌≡◌ {A = ℕ} 0 1 = cc in omega arith
-  none-by Nothing Nothing eb e p m = never (sym (lowest-none can (procs_in t) p eb (there p m)) ∙ move-can lim pr t.state kept p m)
+  none-by : (a b : Option ℕ) → lowest can (procs_in t) ≡ b → or_else a b ≡ None → (p : ℕ) → CanMove pr t.state p → ⊥
+  none-by (Some q) b eb e p m = let w : ◌≡◌ {A = ℕ} 0 1 = cc in omega arith
+  none-by None (Some q) eb e p m = let w : ◌≡◌ {A = ℕ} 0 1 = cc in omega arith
+  none-by None None eb e p m = never (sym (lowest-none can (procs_in t) p eb (there p m)) ∙ move-can lim pr t.state kept p m)
 
-  pub turn-none : turn_for pr t ≡ Nothing → (p : ℕ) → CanMove pr t.state p → ⊥
+  pub turn-none : turn_for pr t ≡ None → (p : ℕ) → CanMove pr t.state p → ⊥
   unfolding turn_for turn_of
   turn-none e = none-by (lowest later (procs_in t)) (lowest can (procs_in t)) refl e
 
-  pub none-turn : ((p : ℕ) → CanMove pr t.state p → ⊥) → turn_for pr t ≡ Nothing
+  pub none-turn : ((p : ℕ) → CanMove pr t.state p → ⊥) → turn_for pr t ≡ None
   none-turn n = go (turn_for pr t) refl
     where
-      go : (f : Found) → turn_for pr t ≡ f → turn_for pr t ≡ Nothing
-      go Nothing e = e
-      go (At q) e = absurd (n q (turn-moves (turn-of q e)))
+      go : (f : Option ℕ) → turn_for pr t ≡ f → turn_for pr t ≡ None
+      go None e = e
+      go (Some q) e = absurd (n q (turn-moves (turn-of q e)))
 
   -- there is one turn only
   one-turn-only : {p q : ℕ} → Turn pr t p → Turn pr t q → p ≡ q
@@ -113,12 +112,12 @@ module _ (lim : Limits) (pr : Program) (t : Tables) (ok : tables_ok lim pr t ≡
       (λ e. absurd (u p (ltb-true p q e) m))
       (λ e. split (ltb q p) (λ w. absurd (n q (ltb-true q p w) o)) (λ w. let x : q ≤ p = ltb-false p q e in let y : p ≤ q = ltb-false q p w in omega arith))
 
-  pub of-turn : (p : ℕ) → Turn pr t p → turn_for pr t ≡ At p
+  pub of-turn : (p : ℕ) → Turn pr t p → turn_for pr t ≡ Some p
   of-turn p u = go (turn_for pr t) refl
     where
-      go : (f : Found) → turn_for pr t ≡ f → turn_for pr t ≡ At p
-      go Nothing e = absurd (turn-none e p (turn-moves u))
-      go (At q) e = let w : q ≡ p = one-turn-only (turn-of q e) u in e ∙ ap At w
+      go : (f : Option ℕ) → turn_for pr t ≡ f → turn_for pr t ≡ Some p
+      go None e = absurd (turn-none e p (turn-moves u))
+      go (Some q) e = let w : q ≡ p = one-turn-only (turn-of q e) u in e ∙ ap Some w
 
 -- ---- a step over tables
 

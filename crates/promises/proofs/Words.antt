@@ -1,24 +1,19 @@
 -- A word taken apart gives the numbers that were put into it, so that it tells the answer.
+use Rattle.std.specs.Prelude.{Ok}
 use mathlib.Core.Path.{◌∙◌, ◌≡◌, ap, sym}
 use Prim.Native.Nat.{◌≤◌, ℕ}
 use native.Mathlib.Omega.{arith}
 use Rattle.parlog.specs.Numbers.{end_number, load_numbers, Numbers, refused_as, rule_number, run_numbers, start_numbers, step_numbers, supply_numbers, term_numbers, touched, variable, word}
 use Rattle.parlog.specs.declared.End.{End}
 use Rattle.parlog.specs.declared.End.TheVariants.{Budget, Failure, Room, Success, Waiting}
-use Rattle.parlog.specs.declared.Loaded.TheVariants.{Accepted}
 use Rattle.parlog.specs.declared.Move.{Move}
 use Rattle.parlog.specs.declared.Move.TheVariants.{AndParFailure, AndParStart, AndParSuccess, AndSeqFailure, AndSeqNext, AndSeqStart, AndSeqSuccess, EquateBind, EquateFailure, EquateSuccess, EquateSuspend, GuardEvalEmpty, GuardEvalFailure, GuardEvalStart, GuardEvalSuccess, InputMatchBind, InputMatchFailure, InputMatchSuccess, InputMatchSuspend, OrParFailure, OrParSpawn, OrParStart, OrParSuccess, OrSearchCommit, OrSearchFailure, OrSearchStart, Ready, SeqSearchFailure, SeqSearchNext, SeqSearchNone, SeqSearchStart, SeqSearchSuccess, Stop, TryClauseFailure, TryClauseStart, TryClauseSuccess, Wake}
-use Rattle.parlog.specs.declared.Ran.TheVariants.{Ended}
 use Rattle.parlog.specs.declared.Refusal.{Refusal}
-use Rattle.parlog.specs.declared.Started.TheVariants.{Begun}
-use Rattle.parlog.specs.declared.Stepped.TheVariants.{Moved}
-use Rattle.parlog.specs.declared.Supplied.TheVariants.{Given}
 use Rattle.parlog.specs.declared.Term.{Term}
 use Rattle.parlog.specs.declared.Term.TheVariants.{Const, Var}
 use Rattle.promises.specs.Moves.{MoveTold}
 use Rattle.promises.specs.Outcomes.{first_in, large_in, refusal_in, second_in}
 use Rattle.values.specs.Values.{values_numbers}
-use Rattle.values.specs.declared.Gathered.TheVariants.{Values}
 
 -- ---- the parts of a word
 
@@ -136,9 +131,9 @@ module _ (w : ℕ) where
   pub refused-told : (f : Refusal) → f.number ≤ 255 → w ≡ word (refused_as f) → (refusal_in w ≡ f.number) × (large_in w ≡ f.offset)
   refused-told f h e = rw e (refusal-of (refused_as f) h (omega arith) (omega arith), large-of (refused_as f) h (omega arith) (omega arith))
 
-  pub moved_told : (m : Move) → w ≡ word (step_numbers (Moved m)) → MoveTold m w
+  pub moved_told : (m : Move) → w ≡ word (step_numbers (Ok m)) → MoveTold m w
   moved_told m e =
-      let n : Numbers = step_numbers (Moved m) in
+      let n : Numbers = step_numbers (Ok m) in
       rw e (record {
         accepted = refusal-of n (omega arith) (rule-small m) (sort-small m);
         rule = first_of n (omega arith) (rule-small m) (sort-small m);
@@ -146,25 +141,25 @@ module _ (w : ℕ) where
         number = large-of n (omega arith) (rule-small m) (sort-small m);
       })
 
-  pub ended-told : (e : End) (k : ℕ) → w ≡ word (run_numbers (Ended e k)) → (refusal_in w ≡ 0) × (first_in w ≡ end_number e) × (large_in w ≡ k)
+  pub ended-told : (e : End) (k : ℕ) → w ≡ word (run_numbers (Ok (e, k))) → (refusal_in w ≡ 0) × (first_in w ≡ end_number e) × (large_in w ≡ k)
   ended-told e k q =
-      let n : Numbers = run_numbers (Ended e k) in
+      let n : Numbers = run_numbers (Ok (e, k)) in
       rw q (refusal-of n (omega arith) (end-small e) (omega arith), first_of n (omega arith) (end-small e) (omega arith), large-of n (omega arith) (end-small e) (omega arith))
 
-  pub accepted-told : (r c : ℕ) → r ≤ 255 → c ≤ 255 → w ≡ word (load_numbers (Accepted r c)) → (refusal_in w ≡ 0) × (first_in w ≡ r) × (second_in w ≡ c)
+  pub accepted-told : (r c : ℕ) → r ≤ 255 → c ≤ 255 → w ≡ word (load_numbers (Ok (r, c))) → (refusal_in w ≡ 0) × (first_in w ≡ r) × (second_in w ≡ c)
   accepted-told r c hr hc q =
-      let n : Numbers = load_numbers (Accepted r c) in
+      let n : Numbers = load_numbers (Ok (r, c)) in
       rw q (refusal-of n (omega arith) hr hc, first_of n (omega arith) hr hc, second-of n (omega arith) hr hc)
 
-  pub begun-told : w ≡ word (start_numbers Begun) → refusal_in w ≡ 0
-  begun-told q = rw q (refusal-of (start_numbers Begun) (omega arith) (omega arith) (omega arith))
+  pub begun-told : w ≡ word (start_numbers (Ok tt)) → refusal_in w ≡ 0
+  begun-told q = rw q (refusal-of (start_numbers (Ok tt)) (omega arith) (omega arith) (omega arith))
 
-  pub given-told : (v : ℕ) → w ≡ word (supply_numbers (Given v)) → refusal_in w ≡ 0
-  given-told v q = rw q (refusal-of (supply_numbers (Given v)) (omega arith) (omega arith) (omega arith))
+  pub given-told : (v : ℕ) → w ≡ word (supply_numbers (Ok v)) → refusal_in w ≡ 0
+  given-told v q = rw q (refusal-of (supply_numbers (Ok v)) (omega arith) (omega arith) (omega arith))
 
-  pub values-told : (k : ℕ) → w ≡ word (values_numbers (Values k)) → (refusal_in w ≡ 0) × (large_in w ≡ k)
+  pub values-told : (k : ℕ) → w ≡ word (values_numbers (Ok k)) → (refusal_in w ≡ 0) × (large_in w ≡ k)
   values-told k q =
-      let n : Numbers = values_numbers (Values k) in
+      let n : Numbers = values_numbers (Ok k) in
       rw q (refusal-of n (omega arith) (omega arith) (omega arith), large-of n (omega arith) (omega arith) (omega arith))
 
   pub term_told : (t : Term) → w ≡ word (term_numbers t) → (refusal_in w ≡ 0) × (first_in w ≡ (term_numbers t).a) × (large_in w ≡ (term_numbers t).c)

@@ -1,5 +1,6 @@
 -- Request 1: which variables a step, a turn or a supply bound: outcomes of the calls that tell them, when they are refused, and what they tell.
-use Rattle.std.specs.Prelude.{◌≡◌, ◌≢◌, [], ◌++◌, ◌∷◌, List, ◌*◌, ◌+◌, ◌<◌, ◌≤◌, ℕ, drop, get_or, length}
+use Rattle.parlog.specs.declared.Term.{Term}
+use Rattle.std.specs.Prelude.{◌≡◌, ◌≢◌, [], ◌++◌, ◌∷◌, List, ◌*◌, ◌+◌, ◌<◌, ◌≤◌, ℕ, drop, get_or, length, Option, None}
 use Rattle.bound_row.specs.Row.{bound_bytes}
 use Rattle.capi.specs.Tells.{StepBoundTells, SupplyBoundTells, TurnBoundTells}
 use Rattle.parlog.specs.Limits.{Limits}
@@ -9,8 +10,6 @@ use Rattle.parlog.specs.Numbers.{rule_number}
 use Rattle.parlog.specs.Program.{Literal, Program, program_of}
 use Rattle.parlog.specs.Relation.{Equating, Fits, Matching, Rule}
 use Rattle.parlog.specs.Tables.{binding_of, Lent, State, tables_in}
-use Rattle.parlog.specs.declared.Binding.{Binding}
-use Rattle.parlog.specs.declared.Binding.TheVariants.{Free}
 use Rattle.parlog.specs.declared.Change.{Change}
 use Rattle.parlog.specs.declared.Move.{Move}
 use Rattle.parlog.specs.declared.Pair.{Pair}
@@ -37,10 +36,10 @@ pub record SupplyBoundMeets (lim : Limits) (s : List ℕ) (l : Lent) (row : List
 -- ---- what is bound
 
 -- Bound 2: told are exactly the variables unbound before and bound after, each once
-pub record NewlyBound (before after : List Binding) (told : List ℕ) : Type 0 where
-  pub free : (i : ℕ) → i < length told → binding_of before (get_or told i 0) ≡ Free
-  pub bound : (i : ℕ) → i < length told → binding_of after (get_or told i 0) ≢ Free
-  pub all : (v : ℕ) → binding_of before v ≡ Free → binding_of after v ≢ Free → Among v told
+pub record NewlyBound (before after : List (Option Term)) (told : List ℕ) : Type 0 where
+  pub free : (i : ℕ) → i < length told → binding_of before (get_or told i 0) ≡ None
+  pub bound : (i : ℕ) → i < length told → binding_of after (get_or told i 0) ≢ None
+  pub all : (v : ℕ) → binding_of before v ≡ None → binding_of after v ≢ None → Among v told
   pub once : (i j : ℕ) → i < j → j < length told → get_or told i 0 ≢ get_or told j 0
 
 -- Bound 1, 2: what the move m binds, in order: where an input-match (rule 26) or an equate (rule 33) succeeds what its unifier binds, else nothing

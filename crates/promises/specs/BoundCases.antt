@@ -1,12 +1,10 @@
 -- Request 1, worked examples, computed from the bytes of their images: what stands in a row of ten bytes 255 after a call.
-use Rattle.std.specs.Prelude.{◌≡◌, [], ◌∷◌, List, ℕ, replicate}
+use Rattle.std.specs.Prelude.{◌≡◌, [], ◌∷◌, List, ℕ, replicate, Err}
 use Rattle.bound.specs.Calls.{step_bound_call, supply_bound_call, turn_bound_call}
 use Rattle.parlog.specs.Calls.{run_call}
 use Rattle.parlog.specs.Cases.{ask_one}
 use Rattle.parlog.specs.Load.{refusal}
 use Rattle.parlog.specs.Tables.{Lent}
-use Rattle.parlog.specs.declared.Stepped.TheVariants.{Unmoved}
-use Rattle.parlog.specs.declared.Supplied.TheVariants.{Ungiven}
 use Rattle.refusals.specs.CallInstances.{asked, begun, tiny}
 
 -- p(X1,X0) with two input arguments, asked of two constants
@@ -44,8 +42,8 @@ BoundShown =
 -- Bound 5: two variables want six bytes, none want two; STILL comes before the row
 abbrev pub BoundRefused : Type 0
 BoundRefused =
-    (step_bound_call tiny crossed (after crossed 7) (full 5) 4 ≡ record { answer = Unmoved (refusal 11 0); lent = after crossed 7; row = full 5 })
+    (step_bound_call tiny crossed (after crossed 7) (full 5) 4 ≡ record { answer = Err (refusal 11 0); lent = after crossed 7; row = full 5 })
     × ((step_bound_call tiny crossed (after crossed 7) (full 6) 4).row ≡ 2 ∷ 0 ∷ 1 ∷ 0 ∷ 0 ∷ 0 ∷ [])
-    × ((step_bound_call tiny asked (after asked 7) (full 1) 4).answer ≡ Unmoved (refusal 11 0))
-    × ((turn_bound_call tiny asked (after asked 9) []).answer ≡ Unmoved (refusal 10 0))
-    × ((supply_bound_call tiny asked (after asked 9) (full 3) 0 1).answer ≡ Ungiven (refusal 11 0))
+    × ((step_bound_call tiny asked (after asked 7) (full 1) 4).answer ≡ Err (refusal 11 0))
+    × ((turn_bound_call tiny asked (after asked 9) []).answer ≡ Err (refusal 10 0))
+    × ((supply_bound_call tiny asked (after asked 9) (full 3) 0 1).answer ≡ Err (refusal 11 0))

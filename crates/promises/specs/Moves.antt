@@ -1,5 +1,5 @@
 -- Demand 2 of an outcome: a step made is the move of the rules, a run is repeated moves, a supply binds a value.
-use Rattle.std.specs.Prelude.{◌≡◌, ◌↔◌, ◌≢◌, ◌⊎◌, List, ◌*◌, ◌/◌, ◌<◌, ◌≤◌, suc, ℕ, get_or, length}
+use Rattle.std.specs.Prelude.{◌≡◌, ◌↔◌, ◌≢◌, ◌⊎◌, List, ◌*◌, ◌/◌, ◌<◌, ◌≤◌, suc, ℕ, get_or, length, None}
 use Rattle.parlog.specs.Codes.{dormant, failure, mode_code, result_code, success, suspended}
 use Rattle.parlog.specs.Demands.{Ended-at}
 use Rattle.parlog.specs.Limits.{Limits}
@@ -9,7 +9,6 @@ use Rattle.parlog.specs.Program.{Program, program_of}
 use Rattle.parlog.specs.Relation.{Fits, Rule}
 use Rattle.parlog.specs.Run.{counted, supplied}
 use Rattle.parlog.specs.Tables.{binding_of, cell_size, Lent, number_at, process_at, put_tables, row_size, sort_at, State, Tables, tables_in, written}
-use Rattle.parlog.specs.declared.Binding.TheVariants.{Free}
 use Rattle.parlog.specs.declared.End.{End}
 use Rattle.parlog.specs.declared.End.TheVariants.{Budget, Failure, Room, Success, Waiting}
 use Rattle.parlog.specs.declared.Move.{Move}
@@ -103,7 +102,7 @@ pub record Supplies (l : Lent) (v k w : ℕ) (l' : Lent) : Type 0 where
   pub accepted : refusal_in w ≡ 0
   pub unbound : ℕ
   pub value : Leads (state_in l).vars (Var v) (Var unbound)
-  pub free : binding_of (state_in l).vars unbound ≡ Free
+  pub free : binding_of (state_in l).vars unbound ≡ None
   pub tables : Holds l (supplied (tables_in l) unbound k) l'
 
 -- Tables 5: what the word of a look says is the value of v

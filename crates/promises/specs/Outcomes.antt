@@ -1,13 +1,13 @@
 -- What a C program sees of a call: a word, and the lent bytes afterwards. An outcome is one that meets the contract of the call.
-use Rattle.std.specs.Prelude.{◌≡◌, List, ◌%◌, ◌/◌, ℕ}
+use Rattle.parlog.specs.declared.Move.{Move}
+use Rattle.parlog.specs.Answer.{Answer}
+use Rattle.std.specs.Prelude.{◌≡◌, List, ◌%◌, ◌/◌, ℕ, Option}
 use Rattle.capi.specs.Tells.{LoadTells, ReplayTells, ResumeTells, RunTells, SaveTells, StartTells, StepTells, SupplyTells, TurnTells, ValuesTells, ValueTells, WatchTells}
 use Rattle.parlog.specs.Limits.{Limits}
 use Rattle.parlog.specs.Run.{watch_of}
 use Rattle.parlog.specs.Tables.{Lent}
-use Rattle.parlog.specs.declared.Found.{Found}
 use Rattle.parlog.specs.declared.Marker.{Marker}
 use Rattle.parlog.specs.declared.Process.{Process}
-use Rattle.parlog.specs.declared.Stepped.{Stepped}
 use Rattle.turn_forms.specs.Turned.{turned_from, TurnedSays}
 
 -- ---- a word taken apart: bits 0 to 7, 8 to 15, 16 to 23, and 32 to 63
@@ -81,9 +81,9 @@ pub record ReplayMeets (lim : Limits) (s : List ℕ) (l : Lent) (x : List ℕ) (
 -- ---- and the contract of the two calls that no C program reaches
 
 -- of turn_forms::turn, lent the counts cs, the rows ps and vs and the marker m: the answer a, and what is lent afterwards
-pub record MarkerMeets (lim : Limits) (s cs ps vs : List ℕ) (m : Marker) (a : Stepped) (cs' ps' vs' : List ℕ) (m' : Marker) : Type 0 where
+pub record MarkerMeets (lim : Limits) (s cs ps vs : List ℕ) (m : Marker) (a : Answer Move) (cs' ps' vs' : List ℕ) (m' : Marker) : Type 0 where
   pub contract : TurnedSays lim s cs ps vs m (turned_from m' a) cs' ps' vs'
 
 -- of watch_records::watch, over records of processes, with the answer f
-pub record RecordsMeet (rows : List Process) (f : Found) : Type 0 where
+pub record RecordsMeet (rows : List Process) (f : Option ℕ) : Type 0 where
   pub contract : f ≡ watch_of rows

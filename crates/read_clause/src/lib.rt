@@ -5,28 +5,24 @@ ghost use Rattle.std.specs.Prelude.{◌≡◌, ◌≤◌, drop, length};
 ghost use Rattle.read_clause.specs.Parts.{ClauseIn, PartsIn};
 ghost use Rattle.text_program.specs.Source.{behind_arrow, read_clause, read_halves};
 
-// Marks of a clause.
-const ARROW: usize = 60;
-
-const COLON: usize = 58;
+use parlog::codes;
 
 // How many bytes `<-` has.
 const ARROW_SIZE: usize = 2;
 
-// How a goal is read: there is none, there is one, or there may be one.
-const NO_GOAL: usize = 0;
+// How a goal of a clause is read: there is none, there is one at a place, or there may be one, where the line does not end.
+#[derive(Clone, Copy)]
+pub enum Part {
+    Absent,
+    Goal(usize),
+    Body(usize),
+}
 
-const A_GOAL: usize = 1;
-
-const MAYBE: usize = 2;
-
-// Guard and body: how each is read and where, whether they are right; and the place behind them.
+// Guard and body, whether they are right; and the place behind them.
 #[derive(Clone, Copy)]
 pub struct Parts {
-    pub guarded: usize,
-    pub guard: usize,
-    pub bodied: usize,
-    pub body: usize,
+    pub guard: Part,
+    pub body: Part,
     pub right: bool,
     pub end: usize,
 }
@@ -36,10 +32,8 @@ pub struct Parts {
 pub struct ClauseAt {
     pub terms: usize,
     pub arity: usize,
-    pub guarded: usize,
-    pub guard: usize,
-    pub bodied: usize,
-    pub body: usize,
+    pub guard: Part,
+    pub body: Part,
     pub right: bool,
     pub semicolon: bool,
     pub next: usize,
@@ -61,37 +55,30 @@ fn halves(s: &[u8], at: usize) -> Parts
     requires { at ≤ length s.now }
     ensures { PartsIn s.now (read_halves (drop at s.now)) result }
 {
-    if place::byte_at(s, at) != ARROW {
+    if place::byte_at(s, at) != read_goal::ARROW {
         return Parts {
-            guarded: NO_GOAL,
-            guard: at,
-            bodied: NO_GOAL,
-            body: at,
+            guard: Part::Absent,
+            body: Part::Absent,
             right: true,
             end: at,
         };
     }
     let from = behind_arrow(s, at);
     let first = read_goal::goal(s, from);
-    let mark = first.end;
-    if place::byte_at(s, mark) != COLON {
+    if place::byte_at(s, first.end) != read_goal::COLON {
         return Parts {
-            guarded: NO_GOAL,
-            guard: at,
-            bodied: A_GOAL,
-            body: from,
+            guard: Part::Absent,
+            body: Part::Goal(from),
             right: first.right,
-            end: mark,
+            end: first.end,
         };
     }
-    let behind = text_names::after_mark(s, mark);
+    let behind = text_names::after_mark(s, first.end);
     let second = read_goal::body(s, behind);
     Parts {
-        guarded: A_GOAL,
-        guard: from,
-        bodied: MAYBE,
-        body: behind,
-        right: basics::and(first.right, second.right),
+        guard: Part::Goal(from),
+        body: Part::Body(behind),
+        right: first.right & second.right,
         end: second.end,
     }
 }
@@ -103,18 +90,19 @@ pub fn clause(s: &[u8], at: usize) -> ClauseAt
 {
     let terms = read_goal::past_name(s, at);
     let head = read_goal::terms(s, terms);
-    let behind = head.end;
-    let parts = halves(s, behind);
-    let mark = parts.end;
+    let Parts {
+        guard,
+        body,
+        right,
+        end,
+    } = halves(s, head.end);
     ClauseAt {
-        terms: terms,
+        terms,
         arity: head.count,
-        guarded: parts.guarded,
-        guard: parts.guard,
-        bodied: parts.bodied,
-        body: parts.body,
-        right: basics::and(head.count <= read_goal::MOST_TERMS, parts.right),
-        semicolon: place::byte_at(s, mark) == read_goal::SEMICOLON,
-        next: text_names::after_mark(s, mark),
+        guard,
+        body,
+        right: (head.count <= codes::MOST_ARITY) & right,
+        semicolon: place::byte_at(s, end) == read_goal::SEMICOLON,
+        next: text_names::after_mark(s, end),
     }
 }

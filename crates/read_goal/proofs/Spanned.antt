@@ -140,28 +140,18 @@ module _ (s : List ℕ) (at p b : ℕ) (behind : drop p s ≡ past (drop at s)) 
 
 -- ---- stages and goals
 
-pub stage-span : (s rest : List ℕ) (st : List Said) (t : Span) (r : Bool) → r ≡ (leb 1 t.count && t.right) → Spans s rest (length st) (all_of literal_right st) t →
-    Spans s rest (length st) (stage_right st) (record { end = t.end; count = t.count; right = r })
-unfolding stage_right
-stage-span s rest st t r e v = record { end = v.end; inside = v.inside; count = v.count; right = e ∙ rw (v.count, v.right) refl }
-
-pub goal-span : (s rest : List ℕ) (g : List (List Said)) (t : Span) (r : Bool) → r ≡ (leb t.count 8 && t.right) → Spans s rest (length g) (stages_right 8 g) t →
-    Spans s rest (length g) (goal_right g) (record { end = t.end; count = t.count; right = r })
-unfolding goal_right
-goal-span s rest g t r e v = record { end = v.end; inside = v.inside; count = v.count; right = e ∙ rw (v.count, v.right) refl }
-
--- readGoal is a row of rows
+-- read_goal is a row of rows
 pub goal-row : (s : List ℕ) → read_goal s ≡ row (row read_literal 44) 38 s
 unfolding read_goal
 goal-row s = refl
 
-module _ (s : List ℕ) (at b : ℕ) (is : b ≡ get_or s at 0) (r : Bool) (told : r ≡ (eqb b 46 || eqb b 59)) where
-  pub body-none : at ≤ length s → r ≡ true →
+module _ (s : List ℕ) (at b : ℕ) (is : b ≡ get_or s at 0) where
+  pub body-none : at ≤ length s → (eqb b 46 || eqb b 59) ≡ true →
       Spans s (read_body (drop at s)).rest (length (read_body (drop at s)).value) (goal_right (read_body (drop at s)).value) (record { end = at; count = 0; right = true })
   unfolding read_body goal_right stages_right all_of literals_in
-  body-none i m = rw (first-at s at, ← is, ← told, m) (record { end = refl; inside = i; count = refl; right = refl })
+  body-none i m = rw (first-at s at, ← is, m) (record { end = refl; inside = i; count = refl; right = refl })
 
-  pub body-some : (t : Span) → r ≡ false → Spans s (read_goal (drop at s)).rest (length (read_goal (drop at s)).value) (goal_right (read_goal (drop at s)).value) t →
+  pub body-some : (t : Span) → (eqb b 46 || eqb b 59) ≡ false → Spans s (read_goal (drop at s)).rest (length (read_goal (drop at s)).value) (goal_right (read_goal (drop at s)).value) t →
       Spans s (read_body (drop at s)).rest (length (read_body (drop at s)).value) (goal_right (read_body (drop at s)).value) t
   unfolding read_body
-  body-some t m v = rw (first-at s at, ← is, ← told, m) v
+  body-some t m v = rw (first-at s at, ← is, m) v

@@ -11,27 +11,23 @@ ghost use Rattle.text_program.specs.Source.{read_body, read_brackets, read_goal,
 use parlog::codes;
 
 // Marks of a text.
-pub const OPEN: usize = 40;
+pub const OPEN: usize = b'(' as usize;
 
-pub const COMMA: usize = 44;
+pub const COMMA: usize = b',' as usize;
 
-pub const AMPERSAND: usize = 38;
+pub const AMPERSAND: usize = b'&' as usize;
 
-pub const EQUALS: usize = 61;
+pub const EQUALS: usize = b'=' as usize;
 
-pub const DOT: usize = 46;
+pub const DOT: usize = b'.' as usize;
 
-pub const SEMICOLON: usize = 59;
+pub const SEMICOLON: usize = b';' as usize;
 
-// What an image may have: terms of a literal, literals and stages of a goal.
-pub const MOST_TERMS: usize = 4;
+// The mark that the goal line begins with, and that a clause has behind its head where there is a guard or a body.
+pub const ARROW: usize = b'<' as usize;
 
-const MOST_LITERALS: usize = 8;
-
-const MOST_STAGES: usize = 8;
-
-// An equality has two terms.
-const EQUAL_TERMS: usize = 2;
+// The mark behind a guard.
+pub const COLON: usize = b':' as usize;
 
 // Where something ends, how many items it has, and whether it is right.
 #[derive(Clone, Copy)]
@@ -56,24 +52,21 @@ fn names(s: &[u8], at: usize) -> Span
     ensures { Spans s.now (row read_term 44 (drop at s.now)).rest (length (row read_term 44 (drop at s.now)).value) true result }
 {
     let mut q = at;
-    let mut n = 0;
-    let mut left = s.len() - at;
-    while 0 < left {
+    let most = s.len() - at;
+    for n in 0..most {
         q = past_name(s, q);
-        n += 1;
         if place::byte_at(s, q) != COMMA {
             return Span {
                 end: q,
-                count: n,
+                count: n + 1,
                 right: true,
             };
         }
         q = text_names::after_mark(s, q);
-        left -= 1;
     }
     Span {
         end: q,
-        count: n,
+        count: most,
         right: true,
     }
 }
@@ -110,7 +103,7 @@ fn literal(s: &[u8], at: usize) -> Span
         let from = text_names::after_mark(s, behind);
         return Span {
             end: past_name(s, from),
-            count: EQUAL_TERMS,
+            count: codes::EQUALITY_ARITY,
             right: true,
         };
     }
@@ -118,7 +111,7 @@ fn literal(s: &[u8], at: usize) -> Span
     Span {
         end: t.end,
         count: t.count,
-        right: t.count <= MOST_TERMS,
+        right: t.count <= codes::MOST_ARITY,
     }
 }
 
@@ -128,32 +121,30 @@ fn literals(s: &[u8], at: usize) -> Span
     ensures { Spans s.now (row read_literal 44 (drop at s.now)).rest (length (row read_literal 44 (drop at s.now)).value) (all_of literal_right (row read_literal 44 (drop at s.now)).value) result }
 {
     let mut q = at;
-    let mut n = 0;
     let mut right = true;
-    let mut left = s.len() - at;
-    while 0 < left {
+    let most = s.len() - at;
+    for n in 0..most {
         let item = literal(s, q);
         q = item.end;
-        n += 1;
-        right = basics::and(right, item.right);
+        right &= item.right;
         if place::byte_at(s, q) != COMMA {
             return Span {
                 end: q,
-                count: n,
-                right: right,
+                count: n + 1,
+                right,
             };
         }
         q = text_names::after_mark(s, q);
-        left -= 1;
     }
     Span {
         end: q,
-        count: n,
-        right: right,
+        count: most,
+        right,
     }
 }
 
 // A stage: its literals, at least one.
+#[tactic(auto, unfolding(crate::specs::Spans::stage_right))]
 fn stage(s: &[u8], at: usize) -> Span
     requires { at ≤ length s.now }
     ensures { Spans s.now (row read_literal 44 (drop at s.now)).rest (length (row read_literal 44 (drop at s.now)).value) (stage_right (row read_literal 44 (drop at s.now)).value) result }
@@ -162,15 +153,8 @@ fn stage(s: &[u8], at: usize) -> Span
     Span {
         end: inner.end,
         count: inner.count,
-        right: basics::and(1 <= inner.count, inner.right),
+        right: (1 <= inner.count) & inner.right,
     }
-}
-
-// What is left of a number, or nothing.
-pub fn less(a: usize, b: usize) -> usize
-    ensures { result ≡ a - b }
-{
-    if b <= a { a - b } else { 0 }
 }
 
 // Stages with `&` between them, and all their literals counted.
@@ -179,34 +163,32 @@ fn stages(s: &[u8], at: usize) -> Span
     ensures { Spans s.now (read_goal (drop at s.now)).rest (length (read_goal (drop at s.now)).value) (stages_right 8 (read_goal (drop at s.now)).value) result }
 {
     let mut q = at;
-    let mut n = 0;
     let mut right = true;
-    let mut room = MOST_LITERALS;
-    let mut left = s.len() - at;
-    while 0 < left {
+    let mut room = codes::MOST_LITERALS;
+    let most = s.len() - at;
+    for n in 0..most {
         let item = stage(s, q);
         q = item.end;
-        n += 1;
-        right = basics::and(right, basics::and(item.right, item.count <= room));
-        room = less(room, item.count);
+        right &= item.right & (item.count <= room);
+        room = room.saturating_sub(item.count);
         if place::byte_at(s, q) != AMPERSAND {
             return Span {
                 end: q,
-                count: n,
-                right: right,
+                count: n + 1,
+                right,
             };
         }
         q = text_names::after_mark(s, q);
-        left -= 1;
     }
     Span {
         end: q,
-        count: n,
-        right: right,
+        count: most,
+        right,
     }
 }
 
 // A goal.
+#[tactic(auto, unfolding(crate::specs::Spans::goal_right))]
 pub fn goal(s: &[u8], at: usize) -> Span
     requires { at ≤ length s.now }
     ensures { Spans s.now (read_goal (drop at s.now)).rest (length (read_goal (drop at s.now)).value) (goal_right (read_goal (drop at s.now)).value) result }
@@ -215,7 +197,7 @@ pub fn goal(s: &[u8], at: usize) -> Span
     Span {
         end: inner.end,
         count: inner.count,
-        right: basics::and(inner.count <= MOST_STAGES, inner.right),
+        right: (inner.count <= codes::MOST_STAGES) & inner.right,
     }
 }
 
@@ -225,7 +207,7 @@ pub fn body(s: &[u8], at: usize) -> Span
     ensures { Spans s.now (read_body (drop at s.now)).rest (length (read_body (drop at s.now)).value) (goal_right (read_body (drop at s.now)).value) result }
 {
     let mark = place::byte_at(s, at);
-    if basics::or(mark == DOT, mark == SEMICOLON) {
+    if (mark == DOT) | (mark == SEMICOLON) {
         return Span {
             end: at,
             count: 0,

@@ -1,18 +1,18 @@
 -- Mode lines: the word that they begin with, and the loops over them.
 use mathlib.Core.Path.{◌∙◌, ◌≡◌, ap, refl, sym}
-use mathlib.Core.Bool.{◌&&◌, and-true as true-right, Bool, false, true}
+use mathlib.Core.Bool.{◌&&◌, ◌||◌, Bool, cond, false, true}
 use mathlib.Core.List.{[], ◌∷◌, List}
 use Prim.Native.Nat.{◌+◌, ◌-◌, ◌<◌, ◌≤◌, suc, zero, ℕ}
 use lib.Dec.{eqb, leb}
-use lib.ListN.{drop, get_or, length, length-drop}
-use lib.Seq.{drop-cons, length-take-le}
-use borrow.Author.Tests.{lt-ltb}
+use lib.ListN.{drop, get_or, length, length-drop, take}
+use lib.Pointwise.{pointwise}
+use Rattle.std.specs.Prelude.{None, Some, is_some, unwrap_or}
 use native.Mathlib.Omega.{arith}
 use Rattle.lay_text.proofs.Laws.{name-part}
 use Rattle.read_goal.specs.Spans.{Spans}
 use Rattle.read_goal.specs.declared.Span.{Span}
-use Rattle.read_names.specs.Tables.{arity_for, Finds, mode_names}
-use Rattle.text_names.proofs.Looked.{known-cons, same-is}
+use Rattle.read_names.specs.Tables.{arity_at, arity_for, Finds, mode_names}
+use Rattle.text_names.proofs.Looked.{known-cons}
 use Rattle.text_names.proofs.Rest.{first-at}
 use Rattle.text_names.specs.Bytes.{back, front, is_small, next, past}
 use Rattle.text_names.specs.Names.{known, look, Name, same_name}
@@ -20,34 +20,16 @@ use Rattle.text_program.specs.Source.{cons_got, got, is_mode_line, lines, lines_
 
 -- ---- the word
 
-differ-length : (x y : Name) → (length x ≡ length y → ⊥) → false ≡ same_name x y
-differ-length x y h = go (same_name x y) refl
-  where
-    go : (b : Bool) → same_name x y ≡ b → false ≡ b
-    go true e = absurd (h (ap length (same-is x y e)))
-    go false e = refl
-
-four : (a b c d : ℕ) → (eqb a 109 && (eqb b 111 && (eqb c 100 && eqb d 101))) ≡ same_name (a ∷ b ∷ c ∷ d ∷ []) mode_word
+-- names compared byte by byte
+same-bytes : (x y : Name) → pointwise eqb x y ≡ same_name x y
 unfolding same_name
-four a b c d = ap (λ (z : Bool). eqb a 109 && (eqb b 111 && (eqb c 100 && z))) (sym (true-right (eqb d 101)))
+same-bytes [] [] = refl
+same-bytes [] (b ∷ y) = refl
+same-bytes (a ∷ x) [] = refl
+same-bytes (a ∷ x) (b ∷ y) = rw (same-bytes x y) refl
 
-module _ (s : List ℕ) (at end : ℕ) (h : at ≤ length s) (g : end ≤ length s) (e : drop end s ≡ back (drop at s)) where
-  front_length : length (front (drop at s)) ≡ end - at
-  front_length = rw (name-part s at end h g e) (length-take-le (end - at) (drop at s) (rw (length-drop at s) (omega arith)))
-
-  pub not-mode : (n : ℕ) → n ≡ end - at → (n ≡ 4 → ⊥) → false ≡ same_name (front (drop at s)) mode_word
-  not-mode n f d = differ-length (front (drop at s)) mode_word (λ z. d (let l = front_length in omega arith))
-
-  pub mode-word : (n a b c d : ℕ) → n ≡ end - at → n ≡ 4 → a ≡ get_or s at 0 → b ≡ get_or s (at + 1) 0 → c ≡ get_or s (at + 2) 0 → d ≡ get_or s (at + 3) 0 →
-      (eqb a 109 && (eqb b 111 && (eqb c 100 && eqb d 101))) ≡ same_name (front (drop at s)) mode_word
-  mode-word n a b c d f k ea eb ec ed = four a b c d ∙ ap (λ (x : Name). same_name x mode_word) letters
-    where
-      letters : a ∷ b ∷ c ∷ d ∷ [] ≡ front (drop at s)
-      letters =
-          let e1 : at + 1 ≡ suc at = omega arith in
-          let e2 : at + 2 ≡ suc (suc at) = omega arith in
-          let e3 : at + 3 ≡ suc (suc (suc at)) = omega arith in
-          rw (name-part s at end h g e, ← f, k, drop-cons s at 0 (omega arith), drop-cons s (suc at) 0 (omega arith), drop-cons s (suc (suc at)) 0 (omega arith), drop-cons s (suc (suc (suc at))) 0 (omega arith), ea, eb, ec, ed, e1, e2, e3) refl
+pub mode-word : (s : List ℕ) (at end : ℕ) → at ≤ length s → end ≤ length s → drop end s ≡ back (drop at s) → pointwise eqb (take (end - at) (drop at s)) mode_word ≡ same_name (front (drop at s)) mode_word
+mode-word s at end h g e = rw (name-part s at end h g e) (same-bytes (take (end - at) (drop at s)) mode_word)
 
 -- ---- lines
 
@@ -74,9 +56,9 @@ module _ {A : Type 0} (is : List ℕ → Bool) (read : Reader A) (s : List ℕ) 
 -- ---- one mode, one mode line
 
 module _ (s : List ℕ) (at : ℕ) where
-  pub mode-line-is : (p b : ℕ) (w t r : Bool) → w ≡ same_name (front (drop at s)) mode_word → drop p s ≡ past (drop at s) → b ≡ get_or s p 0 → t ≡ is_small b → r ≡ (w && t) → r ≡ is_mode_line (drop at s)
+  pub mode-line-is : (p b : ℕ) (w t : Bool) → w ≡ same_name (front (drop at s)) mode_word → drop p s ≡ past (drop at s) → b ≡ get_or s p 0 → t ≡ is_small b → (w && t) ≡ is_mode_line (drop at s)
   unfolding is_mode_line
-  mode-line-is p b w t r e f g h i = i ∙ rw (← f, first-at s p, ← g, ← e, ← h)
+  mode-line-is p b w t e f g h = rw (← f, first-at s p, ← g, ← e, ← h) refl
 
   pub mode-line-span : (n o e : ℕ) (t : Span) → drop n s ≡ past (drop at s) → drop o s ≡ past (drop n s) →
       Spans s (read_brackets read_mode (drop o s)).rest (length (read_brackets read_mode (drop o s)).value) true t → drop e s ≡ next (drop t.end s) → e ≤ length s →
@@ -100,39 +82,56 @@ module _ (s : List ℕ) (at : ℕ) where
 -- of the mode lines ms there are left ks, behind n
 pub record FindLeft (s : List ℕ) (ms ks : List ModeLine) (x : Name) (p n left : ℕ) : Type 0 where
   pub number : n + look (mode_names ks) x ≡ look (mode_names ms) x
-  pub arity : arity_for ks x ≡ arity_for ms x
-  pub known : known (mode_names ks) x ≡ known (mode_names ms) x
+  pub arity : arity_at ks x ≡ arity_at ms x
   pub inside : p ≤ length s
   pub budget : n + left ≤ length s
 
 module _ (s : List ℕ) (x : Name) {ms ks : List ModeLine} {p n left : ℕ} where
   pub find-start : ks ≡ ms → n ≡ 0 → p ≤ length s → left ≤ length s → FindLeft s ms ks x p n left
-  find-start e z i l = record { number = let y = ap (λ (k : List ModeLine). look (mode_names k) x) e in omega arith; arity = ap (λ (k : List ModeLine). arity_for k x) e; known = ap (λ (k : List ModeLine). known (mode_names k) x) e; inside = i; budget = omega arith }
+  find-start e z i l = record { number = let y = ap (λ (k : List ModeLine). look (mode_names k) x) e in omega arith; arity = ap (λ (k : List ModeLine). arity_at k x) e; inside = i; budget = omega arith }
 
-  pub find_none : ks ≡ [] → FindLeft s ms ks x p n left → Finds ms x (record { number = n; arity = 0; known = false })
-  unfolding look arity_for
+  pub find_none : ks ≡ [] → FindLeft s ms ks x p n left → Finds ms x (record { number = n; arity = None })
+  unfolding look arity_at
   find_none e f =
       let y = f.number in
       let z = ap (λ (k : List ModeLine). look (mode_names k) x) e in
-      record { number = omega arith; arity = sym (ap (λ (k : List ModeLine). arity_for k x) e) ∙ f.arity; known = sym (ap (λ (k : List ModeLine). known (mode_names k) x) e) ∙ f.known }
+      record { number = omega arith; arity = sym (ap (λ (k : List ModeLine). arity_at k x) e) ∙ f.arity }
 
   pub find-one : (m : ModeLine) (js : List ModeLine) (b : Bool) (c : ℕ) → ks ≡ m ∷ js → b ≡ same_name m.name x → b ≡ true → c ≡ length m.modes →
-      FindLeft s ms ks x p n left → Finds ms x (record { number = n; arity = c; known = true })
-  unfolding look arity_for
+      FindLeft s ms ks x p n left → Finds ms x (record { number = n; arity = Some c })
+  unfolding look arity_at
   find-one m js b c e g h i f =
       let y = f.number in
       let w : look (mode_names ks) x ≡ 0 = rw (e, ← g, h) refl in
-      let v : arity_for ks x ≡ c = rw (e, ← g, h) (sym i) in
-      let o : known (mode_names ks) x ≡ true = rw (e, ← g, h) (lt-ltb 0 (suc (length (mode_names js))) (omega arith)) in
-      record { number = omega arith; arity = sym v ∙ f.arity; known = sym o ∙ f.known }
+      let v : arity_at ks x ≡ Some c = rw (e, ← g, h) (ap (λ (k : ℕ). Some k) (sym i)) in
+      record { number = omega arith; arity = sym v ∙ f.arity }
 
   pub find-more : (m : ModeLine) (js : List ModeLine) (b : Bool) (e : ℕ) → ks ≡ m ∷ js → b ≡ same_name m.name x → b ≡ false → e ≤ length s → 0 < left →
       FindLeft s ms ks x p n left → FindLeft s ms js x e (n + 1) (left - 1)
-  unfolding look arity_for
+  unfolding look arity_at
   find-more m js b e a g h i l f =
       let y = f.number in
       let u = f.budget in
       let w : look (mode_names ks) x ≡ suc (look (mode_names js) x) = rw (a, ← g, h) refl in
-      let v : arity_for ks x ≡ arity_for js x = rw (a, ← g, h) refl in
-      let o : known (mode_names ks) x ≡ known (mode_names js) x = ap (λ (k : List ModeLine). known (mode_names k) x) a ∙ known-cons m.name (mode_names js) x ∙ rw (← g, h) refl in
-      record { number = omega arith; arity = sym v ∙ f.arity; known = sym o ∙ f.known; inside = i; budget = omega arith }
+      let v : arity_at ks x ≡ arity_at js x = rw (a, ← g, h) refl in
+      record { number = omega arith; arity = sym v ∙ f.arity; inside = i; budget = omega arith }
+
+-- ---- a relation that has a line, or none
+
+pub arity_known : (ms : List ModeLine) (x : Name) → is_some (arity_at ms x) ≡ known (mode_names ms) x
+unfolding look arity_at
+arity_known [] x = refl
+arity_known (m ∷ ms) x = go (same_name m.name x) (arity_known ms x) ∙ sym (known-cons m.name (mode_names ms) x)
+  where
+    go : (b : Bool) → is_some (arity_at ms x) ≡ known (mode_names ms) x → is_some (cond b (Some (length m.modes)) (arity_at ms x)) ≡ (b || known (mode_names ms) x)
+    go true e = refl
+    go false e = e
+
+pub arity-or : (ms : List ModeLine) (x : Name) → unwrap_or (arity_at ms x) 0 ≡ arity_for ms x
+unfolding arity_for arity_at
+arity-or [] x = refl
+arity-or (m ∷ ms) x = go (same_name m.name x) (arity-or ms x)
+  where
+    go : (b : Bool) → unwrap_or (arity_at ms x) 0 ≡ arity_for ms x → unwrap_or (cond b (Some (length m.modes)) (arity_at ms x)) 0 ≡ cond b (length m.modes) (arity_for ms x)
+    go true e = refl
+    go false e = e

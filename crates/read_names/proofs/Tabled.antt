@@ -2,11 +2,11 @@
 use mathlib.Core.Path.{◌∙◌, ◌≡◌, ap, refl, sym}
 use mathlib.Core.Bool.{◌||◌, Bool, cond, false, not, true}
 use mathlib.Core.List.{[], ◌++◌, ◌∷◌, List}
-use Prim.Native.Nat.{◌+◌, ◌<◌, ◌≤◌, suc, ℕ}
-use lib.Dec.{eqb}
+use Prim.Native.Nat.{◌+◌, ◌<◌, ◌≤◌, min, suc, ℕ}
+use lib.Dec.{eqb, leb}
 use lib.ListN.{drop, drop_of_length-le, get_or, length, length-append, length-set, set, take}
-use lib.Seq.{drop-cons, get_or-take, length-take-le, take_all, take-suc-set}
-use borrow.Author.Tests.{le-ltb, lt-ltb, not-false, not-true}
+use lib.Seq.{drop-cons, drop-length, length-take-le, take_all, take-suc-set}
+use borrow.Author.Tests.{le-ltb, leb-false, leb-true, lt-ltb, not-false, not-true}
 use native.Mathlib.Omega.{arith}
 use native.Mathlib.Numerals.{add-one}
 use Rattle.read_names.specs.Tables.{Adds, names_at, sorted}
@@ -29,6 +29,19 @@ pub names-length : (s ps : List ℕ) → length (names_at s ps) ≡ length ps
 unfolding names_at
 names-length s [] = refl
 names-length s (p ∷ ps) = ap suc (names-length s ps)
+
+-- ---- a place in a text
+
+-- past the end of a text there is nothing
+pub drop_within : (s : List ℕ) (q : ℕ) → drop (min q (length s)) s ≡ drop q s
+drop_within s q = go (leb q (length s)) refl
+  where
+    go : (b : Bool) → leb q (length s) ≡ b → drop (min q (length s)) s ≡ drop q s
+    go true e = let h = leb-true q (length s) e in let m : min q (length s) ≡ q = omega arith in rw m refl
+    go false e =
+        let h = leb-false q (length s) e in
+        let m : min q (length s) ≡ length s = omega arith in
+        rw m (drop-length s ∙ sym (drop_of_length-le s {i = q} (omega arith)))
 
 -- ---- tables that grow
 
@@ -58,22 +71,19 @@ adds-as e f = rw (← e) f
 
 -- ---- a name found
 
-module _ (s t : List ℕ) (x : Name) (i n : ℕ) (l : n ≤ length t) where
-  find-cons : i < n → drop i (take n t) ≡ get_or t i 0 ∷ drop (i + 1) (take n t)
-  find-cons h = let k = length-take-le n t l in rw add-one (drop-cons (take n t) i 0 (omega arith) ∙ rw (get_or-take n t i 0 h))
-
-  pub find-here : (p : ℕ) (b : Bool) → i < n → drop p s ≡ drop (get_or t i 0) s → b ≡ same_name (front (drop p s)) x → b ≡ true → look (names_at s (drop i (take n t))) x ≡ 0
+module _ (s t : List ℕ) (x : Name) (i : ℕ) where
+  pub find-here : (p : ℕ) (b : Bool) → i < length t → drop p s ≡ drop (get_or t i 0) s → b ≡ same_name (front (drop p s)) x → b ≡ true → look (names_at s (drop i t)) x ≡ 0
   unfolding names_at look
-  find-here p b h e f g = rw (find-cons h, ← e, ← f, g)
+  find-here p b h e f g = rw (drop-cons t i 0 h, ← e, ← f, g)
 
-  pub find-on : (p : ℕ) (b : Bool) → i < n → drop p s ≡ drop (get_or t i 0) s → b ≡ same_name (front (drop p s)) x → b ≡ false →
-      look (names_at s (drop i (take n t))) x ≡ suc (look (names_at s (drop (i + 1) (take n t))) x)
+  pub find-on : (p : ℕ) (b : Bool) → i < length t → drop p s ≡ drop (get_or t i 0) s → b ≡ same_name (front (drop p s)) x → b ≡ false →
+      look (names_at s (drop i t)) x ≡ suc (look (names_at s (drop (i + 1) t)) x)
   unfolding names_at look
-  find-on p b h e f g = rw (find-cons h, ← e, ← f, g)
+  find-on p b h e f g = rw (add-one, drop-cons t i 0 h, ← e, ← f, g)
 
-  pub find_none : n ≤ i → look (names_at s (drop i (take n t))) x ≡ 0
+  pub find_none : length t ≤ i → look (names_at s (drop i t)) x ≡ 0
   unfolding names_at look
-  find_none h = let k = length-take-le n t l in rw (drop_of_length-le (take n t) (let z : length (take n t) ≤ i = omega arith in z))
+  find_none h = rw (drop_of_length-le t h)
 
 -- ---- a name added
 

@@ -1,8 +1,8 @@
 -- Names by their places: tables of places, and the mode lines of a text.
-use Rattle.std.specs.Prelude.{Bool, cond, false, true, [], ◌∷◌, List, map, ◌≡◌, ◌≤◌, ℕ, drop, length, take}
+use Rattle.std.specs.Prelude.{Bool, cond, false, true, [], ◌∷◌, List, map, ◌≡◌, ◌≤◌, ℕ, drop, length, take, Option, Some, None}
 use Rattle.read_names.specs.declared.Entry.{Entry}
 use Rattle.text_names.specs.Bytes.{front}
-use Rattle.text_names.specs.Names.{adds, known, look, Name, same_name}
+use Rattle.text_names.specs.Names.{adds, look, Name, same_name}
 use Rattle.text_program.specs.Numbered.{lowers, uppers}
 use Rattle.text_program.specs.Source.{is_mode_line, lines, ModeLine, read_mode_line}
 
@@ -35,8 +35,12 @@ unfoldable pub arity_for : List ModeLine → Name → ℕ
 arity_for [] x = 0
 arity_for (m ∷ ms) x = cond (same_name m.name x) (length m.modes) (arity_for ms x)
 
--- the number of a relation, how many modes it has, and whether it has a line
+-- the same where it has a line, else none
+unfoldable pub arity_at : List ModeLine → Name → Option ℕ
+arity_at [] x = None
+arity_at (m ∷ ms) x = cond (same_name m.name x) (Some (length m.modes)) (arity_at ms x)
+
+-- the number of a relation, and how many modes it has, if it has a line
 pub record Finds (ms : List ModeLine) (x : Name) (r : Entry) : Type 0 where
   pub number : r.number ≡ look (mode_names ms) x
-  pub arity : r.arity ≡ arity_for ms x
-  pub known : r.known ≡ known (mode_names ms) x
+  pub arity : r.arity ≡ arity_at ms x

@@ -1,33 +1,22 @@
 // Names of a text by their numbers: relations by mode line, variables by a table of the places where they first stand.
 #![tactic(auto)]
 
-ghost use Rattle.std.specs.Prelude.{true, ◌≡◌, ◌≤◌, leb, drop, length, take};
+ghost use Rattle.std.specs.Prelude.{true, ◌≡◌, ◌≤◌, leb, drop, length};
 ghost use Rattle.read_goal.specs.Spans.{Spans};
 ghost use Rattle.read_names.specs.Tables.{Finds, modes_from, names_at};
 ghost use Rattle.text_names.specs.Bytes.{front};
-ghost use Rattle.text_names.specs.Names.{look, same_name};
+ghost use Rattle.text_names.specs.Names.{FoundAt, same_name};
 ghost use Rattle.text_program.specs.Source.{is_mode_line, lines, mode_word, read_brackets, read_mode, read_mode_line, row};
 
+use parlog::codes;
 use read_goal::Span;
 
-// A relation: its number, how many modes its line has, and whether there is one.
+// A relation: its number, and how many modes its line has, if there is one. A name that has no line has the number that a line behind all would have.
 #[derive(Clone, Copy)]
 pub struct Entry {
     pub number: usize,
-    pub arity: usize,
-    pub known: bool,
+    pub arity: Option<usize>,
 }
-
-// The letters of `mode`, and how many they are.
-const LETTER_M: usize = 109;
-
-const LETTER_O: usize = 111;
-
-const LETTER_D: usize = 100;
-
-const LETTER_E: usize = 101;
-
-const LETTERS: usize = 4;
 
 // ---- tables of places
 
@@ -35,26 +24,26 @@ const LETTERS: usize = 4;
 pub fn within(s: &[u8], q: usize) -> usize
     ensures { (drop result s.now ≡ drop q s.now) × (result ≤ length s.now) }
 {
-    if q <= s.len() { q } else { s.len() }
+    q.min(s.len())
 }
 
-// The number of the name at q among those at the first n places of a table.
-pub fn find(s: &[u8], table: &[usize], n: usize, q: usize) -> usize
-    requires { (n ≤ length table.now) × (q ≤ length s.now) }
-    ensures { (result ≡ look (names_at s.now (take n table.now)) (front (drop q s.now))) × (result ≤ n) }
+// The number of the name at q among those at the places of a table.
+pub fn find(s: &[u8], table: &[usize], q: usize) -> Option<usize>
+    requires { q ≤ length s.now }
+    ensures { FoundAt (names_at s.now table.now) (front (drop q s.now)) result }
 {
-    let mut i = 0;
-    while i < n {
-        let p = within(s, table[i]);
-        if text_names::same_name(s, p, q) {
-            return i;
+    for (i, p) in table.iter().enumerate() {
+        if text_names::same_name(s, within(s, *p), q) {
+            return Some(i);
         }
-        i += 1;
     }
-    i
+    None
 }
 
 // ---- mode lines
+
+// The word that a mode line begins with.
+const MODE: [u8; 4] = *b"mode";
 
 // The name at a place is `mode`.
 fn is_mode(s: &[u8], at: usize) -> bool
@@ -62,15 +51,7 @@ fn is_mode(s: &[u8], at: usize) -> bool
     ensures { result ≡ same_name (front (drop at s.now)) mode_word }
 {
     let end = text_names::name_end(s, at);
-    if read_goal::less(end, at) != LETTERS {
-        return false;
-    }
-    let last = basics::and(
-        place::byte_at(s, at + 2) == LETTER_D,
-        place::byte_at(s, at + 3) == LETTER_E,
-    );
-    let rest = basics::and(place::byte_at(s, at + 1) == LETTER_O, last);
-    basics::and(place::byte_at(s, at) == LETTER_M, rest)
+    s[at..end] == MODE[..]
 }
 
 // A mode line begins at a place.
@@ -80,7 +61,7 @@ pub fn is_mode_line(s: &[u8], at: usize) -> bool
 {
     let word = is_mode(s, at);
     let behind = read_goal::past_name(s, at);
-    basics::and(word, text_names::is_small(place::byte_at(s, behind)))
+    word & text_names::is_small(place::byte_at(s, behind))
 }
 
 // Modes with a comma between them.
@@ -89,24 +70,21 @@ fn marks(s: &[u8], at: usize) -> Span
     ensures { Spans s.now (row read_mode 44 (drop at s.now)).rest (length (row read_mode 44 (drop at s.now)).value) true result }
 {
     let mut q = at;
-    let mut n = 0;
-    let mut left = s.len() - at;
-    while 0 < left {
+    let most = s.len() - at;
+    for n in 0..most {
         q = text_names::after_mark(s, q);
-        n += 1;
         if place::byte_at(s, q) != read_goal::COMMA {
             return Span {
                 end: q,
-                count: n,
+                count: n + 1,
                 right: true,
             };
         }
         q = text_names::after_mark(s, q);
-        left -= 1;
     }
     Span {
         end: q,
-        count: n,
+        count: most,
         right: true,
     }
 }
@@ -145,7 +123,7 @@ pub fn mode_line(s: &[u8], at: usize) -> Span
     Span {
         end: text_names::after_mark(s, close),
         count: inner.count,
-        right: inner.count <= read_goal::MOST_TERMS,
+        right: inner.count <= codes::MOST_ARITY,
     }
 }
 
@@ -155,9 +133,8 @@ pub fn mode_lines(s: &[u8], at: usize) -> Span
     ensures { Spans s.now (lines is_mode_line read_mode_line (drop at s.now)).rest (length (modes_from s.now at)) true result }
 {
     let mut p = at;
-    let mut n = 0;
-    let mut left = s.len() - at;
-    while 0 < left {
+    let most = s.len() - at;
+    for n in 0..most {
         if !is_mode_line(s, p) {
             return Span {
                 end: p,
@@ -167,12 +144,10 @@ pub fn mode_lines(s: &[u8], at: usize) -> Span
         }
         let line = mode_line(s, p);
         p = line.end;
-        n += 1;
-        left -= 1;
     }
     Span {
         end: p,
-        count: n,
+        count: most,
         right: true,
     }
 }
@@ -183,14 +158,12 @@ pub fn relation(s: &[u8], from: usize, q: usize) -> Entry
     ensures { Finds (modes_from s.now from) (front (drop q s.now)) result }
 {
     let mut p = from;
-    let mut n = 0;
-    let mut left = s.len() - from;
-    while 0 < left {
+    let most = s.len() - from;
+    for n in 0..most {
         if !is_mode_line(s, p) {
             return Entry {
                 number: n,
-                arity: 0,
-                known: false,
+                arity: None,
             };
         }
         let name = read_goal::past_name(s, p);
@@ -198,17 +171,13 @@ pub fn relation(s: &[u8], from: usize, q: usize) -> Entry
         if text_names::same_name(s, name, q) {
             return Entry {
                 number: n,
-                arity: line.count,
-                known: true,
+                arity: Some(line.count),
             };
         }
         p = line.end;
-        n += 1;
-        left -= 1;
     }
     Entry {
-        number: n,
-        arity: 0,
-        known: false,
+        number: most,
+        arity: None,
     }
 }

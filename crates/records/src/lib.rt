@@ -29,6 +29,5 @@ pub fn cut(s: &[u8], at: usize) -> bool
 {
     let w = place::word_at(s, at);
     let n = s.len();
-    let passes = basics::or(w < codes::RECORD_BODY, n < at + w);
-    basics::or(n < at + codes::RECORD_BODY, passes)
+    (n < at + codes::RECORD_BODY) | ((w < codes::RECORD_BODY) | (n < at + w))
 }

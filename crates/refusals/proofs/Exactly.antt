@@ -1,4 +1,6 @@
 -- Refusals 1 to 7: an image is accepted exactly where it is right, and refused with a number and an offset exactly where the relation has these.
+use Rattle.std.specs.Prelude.{Err, Ok}
+use Rattle.parlog.specs.Answer.{Answer}
 use mathlib.Core.Path.{◌∙◌, ◌≡◌, ap, refl, subst, sym}
 use mathlib.Core.Logic.{◌↔◌, ◌≢◌}
 use mathlib.Core.Bool.{false, not, true}
@@ -18,11 +20,8 @@ use Rattle.parlog.specs.Load.{after, block_full, broken, judged, kind_fault, loa
 use Rattle.parlog.specs.Names.{names_right}
 use Rattle.parlog.specs.Records.{cut, record_at, record_end}
 use Rattle.parlog.specs.Scan.{along}
-use Rattle.parlog.specs.declared.Loaded.{Loaded}
-use Rattle.parlog.specs.declared.Loaded.TheVariants.{Accepted, Refused}
 use Rattle.parlog.specs.declared.Progress.{Progress}
 use Rattle.parlog.specs.declared.Refusal.{Refusal}
-use Rattle.parlog.specs.declared.Verdict.TheVariants.{Refuses}
 use Rattle.refusals.proofs.Before.{Before, block-right, few-right, kind-right, names-right, whole-record}
 use Rattle.refusals.proofs.Fields.{body-fits}
 use Rattle.refusals.proofs.Tests.{refuted, refutes}
@@ -37,10 +36,10 @@ module _ (s : List ℕ) where
 
   -- ---- from the relation to the load
 
-  stopped : (k j : ℕ) → Comes s k → (i : Known-before s k) → record_verdict s i.known (record_at s k) ≡ Refuses j → load_of s ≡ Refused (refusal j (record_at s k))
+  stopped : (k j : ℕ) → Comes s k → (i : Known-before s k) → record_verdict s i.known (record_at s k) ≡ Err j → load_of s ≡ Err (refusal j (record_at s k))
   stopped k j c i v = short-load c.short ∙ i.same ∙ stops s i.known (record_at s k) j c.more v
 
-  load-refused : {n o : ℕ} → RefusedAt s n o → load_of s ≡ Refused (refusal n o)
+  load-refused : {n o : ℕ} → RefusedAt s n o → load_of s ≡ Err (refusal n o)
   unfolding load_of long verdict
   load-refused (too_long h) = rw (lt-ltb 32768 (length s) h)
   load-refused (is_cut {k} c w) =
@@ -95,7 +94,7 @@ module _ (s : List ℕ) where
       let c = (f m (omega arith)).kind.most in
       omega arith
 
-  load-accepted : {r c : ℕ} → RightImage s r c → load_of s ≡ Accepted r c
+  load-accepted : {r c : ℕ} → RightImage s r c → load_of s ≡ Ok (r, c)
   load-accepted {r} {c} a =
       let i = known-before s a.count a.right in
       let g = i.known in
@@ -107,9 +106,9 @@ module _ (s : List ℕ) where
 
   -- ---- from the load to the relation
 
-  abbrev Told : Loaded → Type 0
-  Told (Accepted r c) = RightImage s r c
-  Told (Refused f) = RefusedAt s f.number f.offset
+  abbrev Told : Answer (ℕ × ℕ) → Type 0
+  Told (Ok (r, c)) = RightImage s r c
+  Told (Err f) = RefusedAt s f.number f.offset
 
   -- the walk stands before record k, and all before it are right
   record Here (at : ℕ) (g : Progress) : Type 0 where
@@ -163,7 +162,7 @@ module _ (s : List ℕ) where
         told-cut : cut s at ≡ true → RefusedAt s 2 at
         told-cut e = is_cut comes (refuted (whole-record s k) (rw e))
 
-        told-one : cut s at ≡ false → (rest : Progress → Loaded) → ((t : Progress) → Here (record_end s at) t → Told (rest t)) → Told (after rest at (verdict s g at))
+        told-one : cut s at ≡ false → (rest : Progress → Answer (ℕ × ℕ)) → ((t : Progress) → Here (record_end s at) t → Told (rest t)) → Told (after rest at (verdict s g at))
         unfolding verdict
         told-one e rest go =
             let q = record_kind s k in
@@ -195,20 +194,20 @@ module _ (s : List ℕ) where
   told = split (ltb 32768 (length s)) (λ e. rw e (too_long (ltb-true 32768 (length s) e))) (λ e. rw e (told-records (ltb-false 32768 (length s) e)))
 
   -- THE LAW: accepted exactly where the image is right, with the counts of its relations and clauses
-  pub accepted-right : {r c : ℕ} → (load_of s ≡ Accepted r c) ↔ RightImage s r c
+  pub accepted-right : {r c : ℕ} → (load_of s ≡ Ok (r, c)) ↔ RightImage s r c
   accepted-right = (λ e. rw e at told, load-accepted)
 
   -- THE LAW: refused with this number and offset exactly where the relation has them
-  pub refused-exactly : {n o : ℕ} → (load_of s ≡ Refused (refusal n o)) ↔ RefusedAt s n o
+  pub refused-exactly : {n o : ℕ} → (load_of s ≡ Err (refusal n o)) ↔ RefusedAt s n o
   refused-exactly = (λ e. rw e at told, load-refused)
 
   -- one of the two
   pub either-one : RightOrRefused s
   either-one = go (load_of s) told
     where
-      go : (a : Loaded) → Told a → RightOrRefused s
-      go (Accepted r c) i = right_image i
-      go (Refused f) i = refused_image i
+      go : (a : Answer (ℕ × ℕ)) → Told a → RightOrRefused s
+      go (Ok (r, c)) i = right_image i
+      go (Err f) i = refused_image i
 
   -- never both
   pub never_both : {r c n o : ℕ} → RightImage s r c → RefusedAt s n o → ⊥

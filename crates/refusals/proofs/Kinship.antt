@@ -1,4 +1,6 @@
 -- Tables 3c, 3d, 3e, 3i, 3k: results, kin, bindings and notes: the tests decide the facts.
+use Rattle.parlog.specs.declared.Term.{Term}
+use Rattle.std.specs.Prelude.{Option, None, Some}
 use mathlib.Core.Path.{◌≡◌, refl, sym}
 use mathlib.Core.Logic.{◌≢◌, ◌⊎◌, inl, inr, ⊎_elim}
 use mathlib.Core.Bool.{◌&&◌, ◌||◌, not, true}
@@ -16,8 +18,6 @@ use Rattle.parlog.specs.Notions.{me}
 use Rattle.parlog.specs.Program.{Program, tag_of_goal}
 use Rattle.parlog.specs.TableRules.{all_below, binding_ok, goal_tags, kin_ok, makes_tag, notes_ok, result_ok, stage_tags}
 use Rattle.parlog.specs.Tables.{noted, State}
-use Rattle.parlog.specs.declared.Binding.{Binding}
-use Rattle.parlog.specs.declared.Binding.TheVariants.{Bound, Free}
 use Rattle.parlog.specs.declared.Process.{Process}
 use Rattle.parlog.specs.declared.Term.TheVariants.{Const, Var}
 use Rattle.refusals.proofs.Tests.{and-too, at_most, Decides, either, equal, if-so, not-that}
@@ -207,19 +207,19 @@ notes-right n x =
 
 -- ---- bindings
 
-abbrev pub Bounded : ℕ → Binding → Type 0
-Bounded v b = ((c : ℕ) → b ≡ Bound (Const c) → c ≤ 32767) × ((w : ℕ) → b ≡ Bound (Var w) → w < v)
+abbrev pub Bounded : ℕ → Option Term → Type 0
+Bounded v b = ((c : ℕ) → b ≡ Some (Const c) → c ≤ 32767) × ((w : ℕ) → b ≡ Some (Var w) → w < v)
 
-pub binding-right : (v : ℕ) (b : Binding) → Decides (binding_ok v b) (Bounded v b)
-binding-right v Free = (
+pub binding-right : (v : ℕ) (b : Option Term) → Decides (binding_ok v b) (Bounded v b)
+binding-right v None = (
   λ e. (λ c q. let z : ◌≡◌ {A = ℕ} 0 1 = cc in absurd (omega arith), λ w q. let z : ◌≡◌ {A = ℕ} 0 1 = cc in absurd (omega arith)),
   λ f. refl,
 )
-binding-right v (Bound (Const a)) = (
+binding-right v (Some (Const a)) = (
   λ e. (λ c q. let z : a ≡ c = cc in omega (arith, leb-true a 32767 e), λ w q. let z : ◌≡◌ {A = ℕ} 0 1 = cc in absurd (omega arith)),
   λ f. le-leb a 32767 (f.0 a refl),
 )
-binding-right v (Bound (Var a)) = (
+binding-right v (Some (Var a)) = (
   λ e. (λ c q. let z : ◌≡◌ {A = ℕ} 0 1 = cc in absurd (omega arith), λ w q. let z : a ≡ w = cc in omega (arith, ltb-true a v e)),
   λ f. lt-ltb a v (f.1 a refl),
 )

@@ -1,4 +1,5 @@
 -- From record to record: behind a right record the load knows what the records up to it say, and goes on; at a wrong one it stops.
+use Rattle.std.specs.Prelude.{Ok}
 use mathlib.Core.Path.{◌∙◌, ◌≡◌, ap, refl, subst, sym}
 use mathlib.Core.Logic.{◌≢◌}
 use mathlib.Core.Bool.{false, true}
@@ -18,7 +19,6 @@ use Rattle.parlog.specs.Names.{names_right}
 use Rattle.parlog.specs.Records.{cut, record_at, record_end}
 use Rattle.parlog.specs.Scan.{along, tally}
 use Rattle.parlog.specs.declared.Progress.{Progress}
-use Rattle.parlog.specs.declared.Verdict.TheVariants.{Goes}
 use Rattle.refusals.proofs.Before.{at-most-nine, Before, block-right, few-right, goes-up, kind-right, names-right, numbered, whole-record}
 use Rattle.refusals.proofs.Fields.{body-fits}
 use Rattle.refusals.proofs.Tests.{refutes}
@@ -152,7 +152,7 @@ module _ (s : List ℕ) where
     names-not w b n = (names-right s k g B w (body-not w b)).1 n
 
     -- a right record goes on
-    pub right-goes : (R : RightRecord s k) → record_verdict s g at ≡ Goes (progressed s g at (record_kind s k))
+    pub right-goes : (R : RightRecord s k) → record_verdict s g at ≡ Ok (progressed s g at (record_kind s k))
     unfolding verdict
     right-goes R =
         rw (

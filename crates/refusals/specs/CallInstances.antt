@@ -1,5 +1,5 @@
 -- Refusals 8 to 14 computed from bytes: each once at least, table rules broken by one byte (all but parts of 3g and 3h), limits at and past them, a row's bytes and words.
-use Rattle.std.specs.Prelude.{◌≡◌, [], ◌++◌, ◌∷◌, List, ◌*◌, ◌+◌, ℕ, drop, set, take}
+use Rattle.std.specs.Prelude.{◌≡◌, [], ◌++◌, ◌∷◌, List, ◌*◌, ◌+◌, ℕ, drop, set, take, Err, Ok}
 use Rattle.parlog.specs.Calls.{run_call, start_call, step_call, supply_call, turn_call, value_call}
 use Rattle.parlog.specs.Cases.{ask_one, relation_p}
 use Rattle.parlog.specs.Limits.{Limits, small}
@@ -9,13 +9,8 @@ use Rattle.parlog.specs.Stories.{four_notes}
 use Rattle.parlog.specs.Tables.{cell_size, head_size, Lent, lent, row_size, zeros}
 use Rattle.parlog.specs.declared.End.TheVariants.{Room, Success}
 use Rattle.parlog.specs.declared.Move.TheVariants.{OrParStart}
-use Rattle.parlog.specs.declared.Ran.TheVariants.{Ended}
-use Rattle.parlog.specs.declared.Started.TheVariants.{Begun, Unstarted}
-use Rattle.parlog.specs.declared.Stepped.TheVariants.{Moved, Unmoved}
-use Rattle.parlog.specs.declared.Supplied.TheVariants.{Given, Ungiven}
 use Rattle.parlog.specs.declared.Term.{Term}
 use Rattle.parlog.specs.declared.Term.TheVariants.{Const, Var}
-use Rattle.parlog.specs.declared.Valued.TheVariants.{Unvalued, Value}
 
 -- ---- lent bytes
 
@@ -55,11 +50,11 @@ in_cell sort a b c = lent waits.head waits.procs (sort ∷ a ∷ b ∷ c ∷ dro
 
 -- a look at the goal's variable is refused with 8
 abbrev pub Breaks : Lent → Type 0
-Breaks l = value_call tiny asked l 0 ≡ Unvalued (refusal 8 0)
+Breaks l = value_call tiny asked l 0 ≡ Err (refusal 8 0)
 
 -- it is let in, and sees this
 abbrev pub Keeps : Lent → Term → Type 0
-Keeps l t = value_call tiny asked l 0 ≡ Value t
+Keeps l t = value_call tiny asked l 0 ≡ Ok t
 
 -- Refusals 21, Tables 1: a row that is shorter or longer than its limit wants; the limits of a run want 512 rows of 24 bytes and 1,024 of 4
 abbrev pub SizesTested : Type 0
@@ -68,10 +63,10 @@ SizesTested =
     × Breaks (lent (waits.head ++ (0 ∷ [])) waits.procs waits.vars)
     × Breaks (lent waits.head (waits.procs ++ (0 ∷ [])) waits.vars)
     × Breaks (lent waits.head waits.procs (drop 1 waits.vars))
-    × ((start_call tiny asked (lent (zeros 9) (blank tiny).procs (blank tiny).vars)).answer ≡ Unstarted (refusal 8 0))
-    × ((start_call small asked (lent (zeros 10) (zeros 12288) (zeros 4096))).answer ≡ Begun)
-    × ((start_call small asked (lent (zeros 10) (zeros 12287) (zeros 4096))).answer ≡ Unstarted (refusal 8 0))
-    × ((start_call small asked (lent (zeros 10) (zeros 12288) (zeros 4097))).answer ≡ Unstarted (refusal 8 0))
+    × ((start_call tiny asked (lent (zeros 9) (blank tiny).procs (blank tiny).vars)).answer ≡ Err (refusal 8 0))
+    × ((start_call small asked (lent (zeros 10) (zeros 12288) (zeros 4096))).answer ≡ Ok tt)
+    × ((start_call small asked (lent (zeros 10) (zeros 12287) (zeros 4096))).answer ≡ Err (refusal 8 0))
+    × ((start_call small asked (lent (zeros 10) (zeros 12288) (zeros 4097))).answer ≡ Err (refusal 8 0))
 
 -- Tables 3a, 3l: no process, a ninth where eight have room; a fifth variable where four have, fewer than the goal has; the marker at the count
 abbrev pub CountsTested : Type 0
@@ -140,10 +135,10 @@ spawned tag kind =
 -- Tables 3g: an and-par and an equate are there, no and-seq; at the body as it is written an and-seq is
 abbrev pub SplitTested : Type 0
 SplitTested =
-    (value_call tiny split_asked (spawned 0 2) 0 ≡ Value (Var 0))
-    × (value_call tiny split_asked (spawned 8 2) 0 ≡ Value (Var 0))
-    × (value_call tiny split_asked (spawned 1 2) 0 ≡ Unvalued (refusal 8 0))
-    × (value_call tiny split_asked (spawned 1 3) 0 ≡ Value (Var 0))
+    (value_call tiny split_asked (spawned 0 2) 0 ≡ Ok (Var 0))
+    × (value_call tiny split_asked (spawned 8 2) 0 ≡ Ok (Var 0))
+    × (value_call tiny split_asked (spawned 1 2) 0 ≡ Err (refusal 8 0))
+    × (value_call tiny split_asked (spawned 1 3) 0 ≡ Ok (Var 0))
 
 -- ---- 9 to 14
 
@@ -154,21 +149,21 @@ room_for p v = record { procs = p; vars = v }
 -- Refusals 9, 10, 22: NODE at the process count and not below it; STILL of a step and of a turn
 abbrev pub StepsTold : Type 0
 StepsTold =
-    ((step_call tiny asked (begun tiny asked) 0).answer ≡ Moved (OrParStart 1))
-    × ((step_call tiny asked (begun tiny asked) 1).answer ≡ Unmoved (refusal 9 0))
-    × ((step_call tiny asked waits 4).answer ≡ Unmoved (refusal 10 0))
-    × ((step_call tiny asked waits 6).answer ≡ Unmoved (refusal 9 0))
-    × ((turn_call tiny asked waits).answer ≡ Unmoved (refusal 10 0))
+    ((step_call tiny asked (begun tiny asked) 0).answer ≡ Ok (OrParStart 1))
+    × ((step_call tiny asked (begun tiny asked) 1).answer ≡ Err (refusal 9 0))
+    × ((step_call tiny asked waits 4).answer ≡ Err (refusal 10 0))
+    × ((step_call tiny asked waits 6).answer ≡ Err (refusal 9 0))
+    × ((turn_call tiny asked waits).answer ≡ Err (refusal 10 0))
     × ((turn_call tiny asked waits).lent ≡ waits)
 
 -- Refusals 11: ROOM: one process more than there is room for, and one variable more; with just that room the moves are made
 abbrev pub RoomTold : Type 0
 RoomTold =
-    ((step_call (room_for 1 4) asked (begun (room_for 1 4) asked) 0).answer ≡ Unmoved (refusal 11 0))
-    × ((step_call (room_for 2 4) asked (begun (room_for 2 4) asked) 0).answer ≡ Moved (OrParStart 1))
-    × ((run_call (room_for 8 1) (ask_one 1 5) (begun (room_for 8 1) (ask_one 1 5)) 100).answer ≡ Ended Room 2)
-    × ((turn_call (room_for 8 1) (ask_one 1 5) (run_call (room_for 8 1) (ask_one 1 5) (begun (room_for 8 1) (ask_one 1 5)) 100).lent).answer ≡ Unmoved (refusal 11 0))
-    × ((run_call (room_for 7 2) (ask_one 1 5) (begun (room_for 7 2) (ask_one 1 5)) 100).answer ≡ Ended Success 16)
+    ((step_call (room_for 1 4) asked (begun (room_for 1 4) asked) 0).answer ≡ Err (refusal 11 0))
+    × ((step_call (room_for 2 4) asked (begun (room_for 2 4) asked) 0).answer ≡ Ok (OrParStart 1))
+    × ((run_call (room_for 8 1) (ask_one 1 5) (begun (room_for 8 1) (ask_one 1 5)) 100).answer ≡ Ok (Room, 2))
+    × ((turn_call (room_for 8 1) (ask_one 1 5) (run_call (room_for 8 1) (ask_one 1 5) (begun (room_for 8 1) (ask_one 1 5)) 100).lent).answer ≡ Err (refusal 11 0))
+    × ((run_call (room_for 7 2) (ask_one 1 5) (begun (room_for 7 2) (ask_one 1 5)) 100).answer ≡ Ok (Success, 16))
 
 -- variable 0 supplied with 300
 abbrev pub supplied300 : Lent
@@ -177,20 +172,20 @@ supplied300 = (supply_call tiny asked waits 0 300).lent
 -- Refusals 12, 13, 14, 22: NOVAR, CONST and BOUND, in this order, and the constant at its limit
 abbrev pub SuppliesTold : Type 0
 SuppliesTold =
-    ((supply_call tiny asked waits 0 32767).answer ≡ Given 0)
-    × ((supply_call tiny asked waits 0 32768).answer ≡ Ungiven (refusal 14 0))
-    × ((supply_call tiny asked waits 1 5).answer ≡ Ungiven (refusal 12 0))
-    × ((supply_call tiny asked waits 1 32768).answer ≡ Ungiven (refusal 12 0))
-    × ((supply_call tiny asked supplied300 0 5).answer ≡ Ungiven (refusal 13 0))
-    × ((supply_call tiny asked supplied300 0 32768).answer ≡ Ungiven (refusal 14 0))
-    × (value_call tiny asked waits 1 ≡ Unvalued (refusal 12 0))
-    × (value_call tiny asked supplied300 0 ≡ Value (Const 300))
+    ((supply_call tiny asked waits 0 32767).answer ≡ Ok 0)
+    × ((supply_call tiny asked waits 0 32768).answer ≡ Err (refusal 14 0))
+    × ((supply_call tiny asked waits 1 5).answer ≡ Err (refusal 12 0))
+    × ((supply_call tiny asked waits 1 32768).answer ≡ Err (refusal 12 0))
+    × ((supply_call tiny asked supplied300 0 5).answer ≡ Err (refusal 13 0))
+    × ((supply_call tiny asked supplied300 0 32768).answer ≡ Err (refusal 14 0))
+    × (value_call tiny asked waits 1 ≡ Err (refusal 12 0))
+    × (value_call tiny asked supplied300 0 ≡ Ok (Const 300))
 
 -- Refusals 20 to 22: a bad image before bad tables, bad tables before a process that there is not
 abbrev pub ImageFirst : Type 0
 ImageFirst =
-    ((step_call tiny (relation_p ++ (1 ∷ [])) (blank tiny) 9).answer ≡ Unmoved (refusal 2 5))
-    × ((step_call tiny asked (blank tiny) 9).answer ≡ Unmoved (refusal 8 0))
+    ((step_call tiny (relation_p ++ (1 ∷ [])) (blank tiny) 9).answer ≡ Err (refusal 2 5))
+    × ((step_call tiny asked (blank tiny) 9).answer ≡ Err (refusal 8 0))
 
 -- ---- bytes and words
 

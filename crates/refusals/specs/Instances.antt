@@ -1,9 +1,8 @@
 -- Refusals computed from bytes: each from 1 to 14 once at least, limits at and past them, their order, offsets, a row's bytes and words.
 -- What is computed here is the load and the calls; for 1 to 8 the relations say the same (proofs/Exactly, proofs/RuledExactly).
-use Rattle.std.specs.Prelude.{◌≡◌, [], ◌++◌, ◌∷◌, List, ◌+◌, suc, zero, ℕ, length, replicate}
+use Rattle.std.specs.Prelude.{◌≡◌, [], ◌++◌, ◌∷◌, List, ◌+◌, suc, zero, ℕ, length, replicate, Err, Ok}
 use Rattle.parlog.specs.Cases.{empty_goal, fact_p, relation_p}
 use Rattle.parlog.specs.Load.{load_of, refusal}
-use Rattle.parlog.specs.declared.Loaded.TheVariants.{Accepted, Refused}
 
 -- ---- images
 
@@ -14,11 +13,11 @@ times (suc n) r = r ++ times n r
 
 -- the load refuses the image with this number, at this offset
 abbrev pub RefusedWith : List ℕ → ℕ → ℕ → Type 0
-RefusedWith s n o = load_of s ≡ Refused (refusal n o)
+RefusedWith s n o = load_of s ≡ Err (refusal n o)
 
 -- the load accepts it, with this many relations and clauses
 abbrev pub AcceptedWith : List ℕ → ℕ → ℕ → Type 0
-AcceptedWith s r c = load_of s ≡ Accepted r c
+AcceptedWith s r c = load_of s ≡ Ok (r, c)
 
 -- a record of kind 1, 2 or 3: its length, its kind, its body of fewer than 252 bytes
 abbrev pub record_of : ℕ → List ℕ → List ℕ

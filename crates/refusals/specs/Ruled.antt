@@ -1,13 +1,12 @@
 -- The table rules 3a to 3l as facts: refusal 8 a second time, beside the test that the calls make (parlog/specs/TableRules).
 -- x is the row of a process, z the places that it names, n the count of variables.
-use Rattle.std.specs.Prelude.{◌≡◌, ◌≢◌, ◌⊎◌, List, ◌*◌, ◌+◌, ◌<◌, ◌≤◌, ℕ, get_or, length}
+use Rattle.std.specs.Prelude.{◌≡◌, ◌≢◌, ◌⊎◌, List, ◌*◌, ◌+◌, ◌<◌, ◌≤◌, ℕ, get_or, length, Some}
 use Rattle.parlog.specs.Clauses.{HasBlock, HasVars}
 use Rattle.parlog.specs.Codes.{and_par, and_seq, as_written, dormant, equate, guard_eval, input_match, kind_code, none, or_par, or_search, reporting, result_code, seq_search, success, suspended, Tag, tag_code, the_body, the_goal, the_guard, try_clause, waiting}
 use Rattle.parlog.specs.Limits.{Limits}
 use Rattle.parlog.specs.Notions.{AtSplit, AtStage, HasMode, HasTag, Is, me, Reports, Works}
 use Rattle.parlog.specs.Program.{clause_at, Goal, Literal, no_literal, Program, tag_of_goal}
 use Rattle.parlog.specs.Tables.{binding_of, cell_size, head_size, Lent, noted, number_at, rank, row_size, sort_at, State, Tables, tables_in, var_count}
-use Rattle.parlog.specs.declared.Binding.TheVariants.{Bound}
 use Rattle.parlog.specs.declared.Process.{Process}
 use Rattle.parlog.specs.declared.Spot.{Spot}
 use Rattle.parlog.specs.declared.Term.TheVariants.{Const, Var}
@@ -159,8 +158,8 @@ pub record StateRuled (lim : Limits) (pr : Program) (s : State) : Type 0 where
   pub found : (i : ℕ) → i < length s.procs → HasTag s i seq_search ⊎ HasTag s i or_search → Reports s i success
       → ClauseUsed pr (length s.vars) (me s i).spot.found (me s i).spot.first
   -- Tables 3i
-  pub constants : (v c : ℕ) → v < length s.vars → binding_of s.vars v ≡ Bound (Const c) → c ≤ 32767
-  pub downward : (v w : ℕ) → v < length s.vars → binding_of s.vars v ≡ Bound (Var w) → w < v
+  pub constants : (v c : ℕ) → v < length s.vars → binding_of s.vars v ≡ Some (Const c) → c ≤ 32767
+  pub downward : (v w : ℕ) → v < length s.vars → binding_of s.vars v ≡ Some (Var w) → w < v
   -- Tables 3k
   pub few_notes : (i : ℕ) → i < length s.procs → HasMode s i suspended → (me s i).count ≤ 4
   pub notes : (i j : ℕ) → i < length s.procs → HasMode s i suspended → j < length (noted (me s i)) → get_or (noted (me s i)) j 0 < length s.vars

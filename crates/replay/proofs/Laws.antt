@@ -1,8 +1,10 @@
 -- The ways through a replay.
+use Rattle.std.specs.Prelude.{Ok, Err, Some}
+use Rattle.parlog.specs.Answer.{Answer}
 use mathlib.Core.Path.{◌∙◌, ◌≡◌, ap, refl, sym}
 use mathlib.Core.Bool.{◌&&◌, Bool, cond, false, true}
 use mathlib.Core.List.{List}
-use Prim.Native.Nat.{◌*◌, ◌+◌, ◌-◌, ◌<◌, ◌≤◌, suc, zero, ℕ}
+use Prim.Native.Nat.{◌*◌, ◌+◌, ◌-◌, ◌<◌, ◌≤◌, suc, ℕ}
 use lib.Dec.{eqb, leb, ltb}
 use lib.ListN.{length, set}
 use borrow.Author.Tests.{eq-eqb, le-ltb, ne_eqb}
@@ -22,33 +24,23 @@ use Rattle.parlog.specs.Load.{refusal}
 use Rattle.parlog.specs.Numbers.{refused_as, rule_number, word}
 use Rattle.parlog.specs.Program.{Program, program_of}
 use Rattle.parlog.specs.Records.{kind_at}
-use Rattle.parlog.specs.Run.{given, made, procs_in, step_tables, supplied, Supplying, supply_tables, supply_value, ungiven}
+use Rattle.parlog.specs.Run.{given, made, procs_in, step_tables, supplied, Supplying, supply_tables, supply_value, ungiven, stepped}
 use Rattle.parlog.specs.Scan.{every}
 use Rattle.parlog.specs.TableRules.{cell_known, full_size, lent_ok, tables_ok}
 use Rattle.parlog.specs.Tables.{at, Lent, lent, proc_count, put_tables, Tables, tables_in, var_count, vars_in}
 use Rattle.parlog.specs.Unify.{value}
-use Rattle.parlog.specs.declared.Binding.TheVariants.{Bound}
-use Rattle.parlog.specs.declared.Loaded.{Loaded}
-use Rattle.parlog.specs.declared.Loaded.TheVariants.{Accepted, Refused}
-use Rattle.parlog.specs.declared.Move.{Move}
 use Rattle.parlog.specs.declared.Refusal.{Refusal}
-use Rattle.parlog.specs.declared.Stepped.TheVariants.{Moved}
-use Rattle.parlog.specs.declared.Supplied.{Supplied}
-use Rattle.parlog.specs.declared.Supplied.TheVariants.{Given, Ungiven}
 use Rattle.parlog.specs.declared.Term.{Term}
 use Rattle.parlog.specs.declared.Term.TheVariants.{Const, Var}
-use Rattle.replay.specs.Replay.{agreed_by, disagrees, fault_of, is_played, PlayedSays, play_from, PlayGoing, Playing, play_on, play_record, plays, PlaysSay, play_step, play_supply, replay_call, replay_numbers, ReplaySays, replay_tested, replay_told, tables_played}
-use Rattle.replay.specs.declared.Replayed.{Replayed}
-use Rattle.replay.specs.declared.Replayed.TheVariants.{Replays, Unreplayed}
+use Rattle.replay.specs.Replay.{disagrees, is_played, PlayedSays, play_from, PlayGoing, Playing, play_on, play_record, plays, PlaysSay, play_step, play_supply, replay_call, replay_numbers, ReplaySays, replay_tested, replay_told, tables_played}
 use Rattle.rows.proofs.Tables.{procs-four}
 use Rattle.rows.specs.Rows.{Bytes, Four}
 use Rattle.run.proofs.Runs.{grown-same, grown-then, one_less}
 use Rattle.run.specs.Running.{Grown}
-use Rattle.step.specs.Stepping.{PlannedSays, step_in, step_of, SteppedSays}
-use Rattle.step.specs.declared.Planning.{Planning}
+use Rattle.step.specs.Stepping.{PlannedSays, step_in, SteppedSays}
+use Rattle.move_plan.specs.declared.Plan.{Plan}
+use Rattle.move_plan.specs.Plans.{delta_of}
 use Rattle.trace.specs.Trace.{step_kind, TestedSays, trace_size, what_at, who_at}
-use Rattle.trace.specs.declared.Tested.{Tested}
-use Rattle.trace.specs.declared.Tested.TheVariants.{Faulty, Records}
 use Rattle.vars.specs.Cells.{Cells}
 use Rattle.words.proofs.Fitting.{step-within}
 use Rattle.words.specs.Fits.{MoveWithin}
@@ -63,14 +55,6 @@ played-so (plays t') t e = refl
 played-not : (p : Playing) → is_played p ≡ false → p ≡ disagrees
 played-not disagrees e = refl
 played-not (plays t) e = never (sym e)
-
--- what was decided agrees, or not
-pub agreed-not : (k : ℕ) (m : Move) (rule : ℕ) → (k ≡ 0 → ⊥) → false ≡ agreed_by k m rule
-agreed-not zero m rule h = absurd (h refl)
-agreed-not (suc k) m rule h = refl
-
-pub agreed-by : (k : ℕ) (m : Move) (rule : ℕ) → k ≡ 0 → {w : ℕ} → w ≡ rule_number m → eqb w rule ≡ agreed_by k m rule
-agreed-by k m rule z e = rw (z, e)
 
 module _ (lim : Limits) (s : List ℕ) (r c : ℕ) (l : Lent) (i : Inside lim s r c l) where
   -- a record that disagrees leaves every byte
@@ -88,48 +72,45 @@ module _ (lim : Limits) (s : List ℕ) (r c : ℕ) (l : Lent) (i : Inside lim s 
   unfolding step_tables
   step-nobody p rule en h = let past = le-ltb p (procs_in (tables_in l)) (omega (arith, count-procs l, en)) in rw past
 
-  module _ (p rule : ℕ) {d : Planning} (says : PlannedSays lim s r c l p d) where
-    -- the move of a step that is made touched a process that can be told
-    pub step-told : Usable lim → d.number ≡ 0 → MoveWithin 4294967295 d.plan.mv
-    step-told ok z = let w = step-within lim ok (program_of s r c) (tables_in l) (omega (arith, count-procs l, i.procs_most)) p in rw (says.step, z) at w
+  module _ (p rule : ℕ) {d : Answer Plan} (says : PlannedSays lim s r c l p d) where
+    -- a step that is refused
+    pub step-away : {f : Refusal} → d ≡ Err f → play_step (step_tables lim (program_of s r c) (tables_in l) p) rule ≡ disagrees
+    step-away z = rw (says.step, z)
 
-    module _ {b : Bool} (eb : b ≡ agreed_by d.number d.plan.mv rule) where
-      pub step-not : b ≡ false → play_step (step_tables lim (program_of s r c) (tables_in l) p) rule ≡ disagrees
-      step-not e = rw says.step (go d.number (sym eb ∙ e))
-        where
-          go : (k : ℕ) → agreed_by k d.plan.mv rule ≡ false → play_step (step_of k d.plan (tables_in l) p) rule ≡ disagrees
-          go zero q = rw q
-          go (suc k) q = refl
+    module _ {pl : Plan} (z : d ≡ Ok pl) where
+      made_so : step_in lim s r c l p ≡ made pl.mv (stepped (tables_in l) p (delta_of pl))
+      made_so = says.step ∙ rw z
 
-      pub step-agreed : b ≡ true → (d.number ≡ 0) × (eqb (rule_number d.plan.mv) rule ≡ true)
-      step-agreed e = go d.number (sym eb ∙ e)
-        where
-          go : (k : ℕ) → agreed_by k d.plan.mv rule ≡ true → (k ≡ 0) × (eqb (rule_number d.plan.mv) rule ≡ true)
-          go zero q = (refl, q)
-          go (suc k) q = never q
+      -- the move of a step that is made touched a process that can be told
+      pub step-told : Usable lim → MoveWithin 4294967295 pl.mv
+      step-told ok = let w = step-within lim ok (program_of s r c) (tables_in l) (omega (arith, count-procs l, i.procs_most)) p in rw made_so at w
 
-      pub step-plays : b ≡ true → {h ps vs : List ℕ} → SteppedSays lim s r c l p (Moved d.plan.mv) h ps vs
-          → PlaysSay lim s r c l (play_step (step_tables lim (program_of s r c) (tables_in l) p) rule) true (lent h ps vs)
-      step-plays e {h} {ps} {vs} x =
-          let a = step-agreed e in
-          let z = says.step ∙ ap (λ (k : ℕ). step_of k d.plan (tables_in l) p) a.0 in
-          let t = rw z at x.tables in
-          let y : step_in lim s r c l p ≡ made d.plan.mv (tables_in (lent h ps vs)) = rw t z in
-          let eh : h ≡ (put_tables l (tables_in (lent h ps vs))).head = rw y at x.head in
-          let ep : ps ≡ (put_tables l (tables_in (lent h ps vs))).procs = rw y at x.procs in
-          let ev : vs ≡ (put_tables l (tables_in (lent h ps vs))).vars = rw y at x.vars in
-          plays-so (rw (y, a.1)) x.inside (record { head = eh; procs = ep; vars = ev; more_procs = x.more_procs; more_vars = x.more_vars })
+      module _ {w : ℕ} (ew : w ≡ rule_number pl.mv) where
+        -- its rule is another
+        pub step-not : (w ≡ rule → ⊥) → play_step (step_tables lim (program_of s r c) (tables_in l) p) rule ≡ disagrees
+        step-not h = let q = ne_eqb (rule_number pl.mv) rule (λ k. h (ew ∙ k)) in rw (made_so, q)
+
+        pub step-plays : w ≡ rule → {h ps vs : List ℕ} → SteppedSays lim s r c l p (Ok pl.mv) h ps vs
+            → PlaysSay lim s r c l (play_step (step_tables lim (program_of s r c) (tables_in l) p) rule) true (lent h ps vs)
+        step-plays er {h} {ps} {vs} x =
+            let q = eq-eqb (rule_number pl.mv) rule (sym ew ∙ er) in
+            let t = rw made_so at x.tables in
+            let y : step_in lim s r c l p ≡ made pl.mv (tables_in (lent h ps vs)) = rw t made_so in
+            let eh : h ≡ (put_tables l (tables_in (lent h ps vs))).head = rw y at x.head in
+            let ep : ps ≡ (put_tables l (tables_in (lent h ps vs))).procs = rw y at x.procs in
+            let ev : vs ≡ (put_tables l (tables_in (lent h ps vs))).vars = rw y at x.vars in
+            plays-so (rw (y, q)) x.inside (record { head = eh; procs = ep; vars = ev; more_procs = x.more_procs; more_vars = x.more_vars })
 
   -- ---- a supply
 
-  enters : EnterSays lim s l (Accepted r c)
+  enters : EnterSays lim s l (Ok (r, c))
   unfolding enter
   enters = record { entry = rw (i.loaded, i.good); inside = i }
 
 -- what is asked is what is supplied
-abbrev As : Supplied → Supplying → Tables → ℕ → Type 0
-As (Ungiven f) x t k = play_supply x ≡ disagrees
-As (Given w) x t k = x ≡ given w (supplied t w k)
+abbrev As : Answer ℕ → Supplying → Tables → ℕ → Type 0
+As (Err f) x t k = play_supply x ≡ disagrees
+As (Ok w) x t k = x ≡ given w (supplied t w k)
 
 as-asked : (pr : Program) (t : Tables) (v k : ℕ) → As (asked_of pr t.state.vars v k) (supply_tables pr t v k) t k
 unfolding asked_of supply_tables
@@ -139,12 +120,12 @@ as-asked pr t v k = by (ltb v pr.goal_vars) (leb k 32767)
     term (Const j) = unfold supply_value in refl
     term (Var w) = unfold supply_value in refl
 
-    by : (x y : Bool) → As (cond x (cond y (given_by (value t.state.vars (Var v))) (Ungiven (refusal 14 0))) (Ungiven (refusal 12 0))) (cond x (cond y (supply_value (value t.state.vars (Var v)) t k) (ungiven 14)) (ungiven 12)) t k
+    by : (x y : Bool) → As (cond x (cond y (given_by (value t.state.vars (Var v))) (Err (refusal 14 0))) (Err (refusal 12 0))) (cond x (cond y (supply_value (value t.state.vars (Var v)) t k) (ungiven 14)) (ungiven 12)) t k
     by false y = refl
     by true false = refl
     by true true = term (value t.state.vars (Var v))
 
-module _ (lim : Limits) (s : List ℕ) (r c : ℕ) (l : Lent) (i : Inside lim s r c l) (v k : ℕ) {a : Supplied} (ea : a ≡ asked_of (program_of s r c) (vars_in l.vars (var_count l.head)) v k) where
+module _ (lim : Limits) (s : List ℕ) (r c : ℕ) (l : Lent) (i : Inside lim s r c l) (v k : ℕ) {a : Answer ℕ} (ea : a ≡ asked_of (program_of s r c) (vars_in l.vars (var_count l.head)) v k) where
   abbrev pr : Program
   pr = program_of s r c
 
@@ -152,7 +133,7 @@ module _ (lim : Limits) (s : List ℕ) (r c : ℕ) (l : Lent) (i : Inside lim s 
   unfolding tables_in
   asked_here = rw ea (as-asked pr (tables_in l) v k)
 
-  pub supply-not : {f : Refusal} → a ≡ Ungiven f → play_supply (supply_tables (program_of s r c) (tables_in l) v k) ≡ disagrees
+  pub supply-not : {f : Refusal} → a ≡ Err f → play_supply (supply_tables (program_of s r c) (tables_in l) v k) ≡ disagrees
   supply-not e = rw e at asked_here
 
   pub supply-decided : DecidedSays lim s l v k a
@@ -164,7 +145,7 @@ module _ (lim : Limits) (s : List ℕ) (r c : ℕ) (l : Lent) (i : Inside lim s 
       let x = and-true (full_size lim l) (every (cell_known l.vars) (var_count l.head) && tables_ok lim pr (tables_in l)) i.good in
       (and-true (every (cell_known l.vars) (var_count l.head)) (tables_ok lim pr (tables_in l)) x.1).1
 
-  module _ {w : ℕ} (e : a ≡ Given w) where
+  module _ {w : ℕ} (e : a ≡ Ok w) where
     abbrev after : Tables
     after = supplied (tables_in l) w k
 
@@ -181,7 +162,7 @@ module _ (lim : Limits) (s : List ℕ) (r c : ℕ) (l : Lent) (i : Inside lim s 
     after-ok : tables_ok lim pr after ≡ true
     after-ok = supply-keeps lim pr (tables_in l) after v k w kept given_so
 
-    pub supply-plays : {n : ℕ} {m : List ℕ} → n ≡ var_count l.head → Cells n l.vars m (set (vars_in l.vars n) w (Bound (Const k)))
+    pub supply-plays : {n : ℕ} {m : List ℕ} → n ≡ var_count l.head → Cells n l.vars m (set (vars_in l.vars n) w (Some (Const k)))
         → Bytes l.head → Bytes l.procs → Bytes m → PlaysSay lim s r c l (play_supply (supply_tables (program_of s r c) (tables_in l) v k)) true (lent l.head l.procs m)
     supply-plays {n} {m} en t hs ps ms =
         let x = supply-given lim s l v k supply-decided e en t hs ps ms in
@@ -223,10 +204,11 @@ module _ (lim : Limits) (s : List ℕ) (r c : ℕ) (l₀ : Lent) (trace : List �
   comes-to l k g m z = record { count = rw z; head = rw z g.head; procs = rw z g.procs; vars = rw z g.vars; most = m }
 
   module _ (l : Lent) (k : ℕ) (g : PlayGoing lim s r c l₀ l trace n k) where
-    pub play-done : n ≤ k → PlayedSays lim s r c l₀ trace n k l
+    pub play-done : n ≤ k → PlayedSays lim s r c l₀ trace n n l
     play-done h =
         let e : n - k ≡ 0 = omega (arith, g.most) in
-        comes-to l k g.holds g.most (g.rest ∙ rw e (unfold play_from in refl))
+        let all : k ≡ n = omega (arith, g.most) in
+        rw all at (comes-to l k g.holds g.most (g.rest ∙ rw e (unfold play_from in refl)))
 
     module _ (below : k < n) {b : Bool} {l' : Lent} (x : PlaysSay lim s r c l (play_record lim (program_of s r c) trace (k * trace_size) (tables_in l)) b l') where
       next : play_from (n - k) lim prog trace k (tables_in l) ≡ play_on (play_record lim prog trace (k * trace_size) (tables_in l)) k (tables_in l) (λ t. play_from (n - (k + 1)) lim prog trace (suc k) t)
@@ -254,41 +236,41 @@ module _ (lim : Limits) (s : List ℕ) (r c : ℕ) (l₀ : Lent) (trace : List �
 
 -- ---- the call
 
-pub told-all : (k n : ℕ) → k ≡ n → Replays k ≡ replay_told (eqb k n) k
+pub told-all : (k n : ℕ) → k ≡ n → Ok k ≡ replay_told (eqb k n) k
 told-all k n e = rw (eq-eqb k n e)
 
-pub told-not : (k n : ℕ) → (k ≡ n → ⊥) → Unreplayed (record { number = 20; offset = k * trace_size }) ≡ replay_told (eqb k n) k
+pub told-not : (k n : ℕ) → (k ≡ n → ⊥) → Err (record { number = 20; offset = k * trace_size }) ≡ replay_told (eqb k n) k
 told-not k n e = rw (ne_eqb k n e)
 
-module _ (lim : Limits) (s : List ℕ) (r c : ℕ) (l : Lent) (i : Inside lim s r c l) (trace : List ℕ) {t : Tested} (says : TestedSays trace t) where
+module _ (lim : Limits) (s : List ℕ) (r c : ℕ) (l : Lent) (i : Inside lim s r c l) (trace : List ℕ) {t : Answer ℕ} (says : TestedSays trace t) where
   call-is : replay_call lim s l trace ≡ replay_tested t lim (program_of s r c) trace l
   unfolding replay_call
   call-is = rw ((enters lim s r c l i).entry, ← says.tests)
 
-  pub replay-faulty : {f x : Refusal} → t ≡ Faulty f → x ≡ fault_of t → ReplaySays lim s l trace (Unreplayed x) l.head l.procs l.vars
-  replay-faulty e ex =
-      let z = call-is ∙ ap (λ (y : Tested). replay_tested y lim (program_of s r c) trace l) e in
-      record { answer = rw (z, ex, e); head = rw z; procs = rw z; vars = rw z }
+  pub replay-faulty : {f : Refusal} → t ≡ Err f → ReplaySays lim s l trace (Err f) l.head l.procs l.vars
+  replay-faulty e =
+      let z = call-is ∙ ap (λ (y : Answer ℕ). replay_tested y lim (program_of s r c) trace l) e in
+      record { answer = rw z; head = rw z; procs = rw z; vars = rw z }
 
-  pub replay-fits : {n : ℕ} → t ≡ Records n → n * trace_size ≡ length trace
+  pub replay-fits : {n : ℕ} → t ≡ Ok n → n * trace_size ≡ length trace
   replay-fits e = rw e at says.fills
 
-  pub replay-played : {n k : ℕ} → t ≡ Records n → {l' : Lent} → PlayedSays lim s r c l trace n k l' → {a : Replayed} → a ≡ replay_told (eqb k n) k
+  pub replay-played : {n k : ℕ} → t ≡ Ok n → {l' : Lent} → PlayedSays lim s r c l trace n k l' → {a : Answer ℕ} → a ≡ replay_told (eqb k n) k
       → ReplaySays lim s l trace a l'.head l'.procs l'.vars
   replay-played e d ea =
-      let z = call-is ∙ ap (λ (y : Tested). replay_tested y lim (program_of s r c) trace l) e in
+      let z = call-is ∙ ap (λ (y : Answer ℕ). replay_tested y lim (program_of s r c) trace l) e in
       record { answer = rw (z, ea, d.count); head = rw z d.head; procs = rw z d.procs; vars = rw z d.vars }
 
-pub replay-refused : (lim : Limits) (s : List ℕ) (l : Lent) (trace : List ℕ) {e : Loaded} → EnterSays lim s l e → {f x : Refusal} → e ≡ Refused f → x ≡ refusal_of e
-    → ReplaySays lim s l trace (Unreplayed x) l.head l.procs l.vars
+pub replay-refused : (lim : Limits) (s : List ℕ) (l : Lent) (trace : List ℕ) {e : Answer (ℕ × ℕ)} → EnterSays lim s l e → {f x : Refusal} → e ≡ Err f → x ≡ refusal_of e
+    → ReplaySays lim s l trace (Err x) l.head l.procs l.vars
 unfolding replay_call
 replay-refused lim s l trace says q ex = record { answer = rw (says.entry, ex, q); head = rw (says.entry, q); procs = rw (says.entry, q); vars = rw (says.entry, q) }
 
 -- ---- the word
 
-module _ {a : Replayed} {w : ℕ} where
-  pub word-played : {n m : ℕ} → a ≡ Replays n → m ≡ told_offset n → w ≡ word (record { refused = 0; a = 0; b = 0; c = m }) → w ≡ word (replay_numbers a)
+module _ {a : Answer ℕ} {w : ℕ} where
+  pub word-played : {n m : ℕ} → a ≡ Ok n → m ≡ told_offset n → w ≡ word (record { refused = 0; a = 0; b = 0; c = m }) → w ≡ word (replay_numbers a)
   word-played q k h = rw (h, k, q)
 
-  pub word-refused : {r t : Refusal} → a ≡ Unreplayed r → t ≡ told_refusal r → w ≡ word (refused_as t) → w ≡ word (replay_numbers a)
+  pub word-refused : {r t : Refusal} → a ≡ Err r → t ≡ told_refusal r → w ≡ word (refused_as t) → w ≡ word (replay_numbers a)
   word-refused q k h = rw (h, k, q)

@@ -1,14 +1,13 @@
 -- Replays computed from bytes: c6 with A supplied as 1 once nothing can move, from the stamp 65,533 on, whole and damaged.
 -- ---- a trace from what each record tells
-use Rattle.std.specs.Prelude.{◌≡◌, ◌&&◌, Bool, false, true, [], ◌++◌, ◌∷◌, List, ◌*◌, ℕ, eqb, drop, length, set, take}
+use Rattle.parlog.specs.Answer.{Answer}
+use Rattle.std.specs.Prelude.{◌≡◌, ◌&&◌, Bool, false, true, [], ◌++◌, ◌∷◌, List, ◌*◌, ℕ, eqb, drop, length, set, take, Err, Ok}
 use Rattle.parlog.specs.Calls.{run_call, start_call, supply_call}
 use Rattle.parlog.specs.Cases.{ask_one}
 use Rattle.parlog.specs.Limits.{Limits}
 use Rattle.parlog.specs.Load.{refusal}
 use Rattle.parlog.specs.Tables.{cell_size, head_size, Lent, lent, marker_steps, proc_count, row_size, zeros}
 use Rattle.replay.specs.Replay.{replay_call}
-use Rattle.replay.specs.declared.Replayed.{Replayed}
-use Rattle.replay.specs.declared.Replayed.TheVariants.{Replays, Unreplayed}
 use Rattle.trace.specs.Trace.{following, record_bytes, step_kind, supply_kind}
 
 -- a record but for its stamp: process and rule of a step, variable and value of a supply
@@ -83,30 +82,30 @@ abbrev pub same_lent : Lent → Lent → Bool
 same_lent l m = same l.head m.head && (same l.procs m.procs && same l.vars m.vars)
 
 -- a replay of x on the tables l: its answer, and the tables afterwards
-abbrev pub Comes : Lent → List ℕ → Replayed → Lent → Type 0
+abbrev pub Comes : Lent → List ℕ → Answer ℕ → Lent → Type 0
 Comes l x a l' = ((replay_call tiny asked l x).answer ≡ a) × (same_lent (replay_call tiny asked l x).lent l' ≡ true)
 
 -- Traces 5, 6: the whole trace gives the run's tables; so does its end in mid-run; an empty one is played too
 abbrev pub ReplayedSo : Type 0
-ReplayedSo = Comes begun trace (Replays 19) ended × Comes (turned 9) (drop 90 trace) (Replays 10) ended × Comes begun [] (Replays 0) begun
+ReplayedSo = Comes begun trace (Ok 19) ended × Comes (turned 9) (drop 90 trace) (Ok 10) ended × Comes begun [] (Ok 0) begun
 
 -- Traces 7: another rule for the eighth step: what seven steps made is left; a value that is no constant; a step of no process; a step that is refused
 abbrev pub Disagrees : Type 0
 Disagrees =
-    Comes begun (set trace 76 26) (Unreplayed (refusal 20 70)) (turned 7)
+    Comes begun (set trace 76 26) (Err (refusal 20 70)) (turned 7)
     × (proc_count (turned 7).head ≡ 6)
     × (marker_steps (turned 7).head ≡ 7)
-    × Comes begun (set trace 97 128) (Unreplayed (refusal 20 90)) (turned 9)
-    × Comes begun (set trace 4 1) (Unreplayed (refusal 20 0)) begun
-    × Comes (turned 7) trace (Unreplayed (refusal 20 0)) (turned 7)
+    × Comes begun (set trace 97 128) (Err (refusal 20 90)) (turned 9)
+    × Comes begun (set trace 4 1) (Err (refusal 20 0)) begun
+    × Comes (turned 7) trace (Err (refusal 20 0)) (turned 7)
 
 -- Traces 4: the third record left out; cut to 95 bytes; another kind and another length, late; a cut before a gap; tables that break a rule, and an image that is refused, before all of them
 abbrev pub TraceRefused : Type 0
 TraceRefused =
-    Comes begun (take 20 trace ++ drop 30 trace) (Unreplayed (refusal 19 20)) begun
-    × Comes begun (take 95 trace) (Unreplayed (refusal 2 90)) begun
-    × Comes begun (set trace 182 34) (Unreplayed (refusal 3 180)) begun
-    × Comes begun (set (set trace 188 0) 180 9) (Unreplayed (refusal 4 180)) begun
-    × Comes begun (take 20 trace ++ take 75 (drop 30 trace)) (Unreplayed (refusal 2 90)) begun
-    × ((replay_call tiny asked (lent (zeros 10) begun.procs begun.vars) (take 95 trace)).answer ≡ Unreplayed (refusal 8 0))
-    × ((replay_call tiny (drop 1 asked) begun (take 95 trace)).answer ≡ Unreplayed (refusal 2 0))
+    Comes begun (take 20 trace ++ drop 30 trace) (Err (refusal 19 20)) begun
+    × Comes begun (take 95 trace) (Err (refusal 2 90)) begun
+    × Comes begun (set trace 182 34) (Err (refusal 3 180)) begun
+    × Comes begun (set (set trace 188 0) 180 9) (Err (refusal 4 180)) begun
+    × Comes begun (take 20 trace ++ take 75 (drop 30 trace)) (Err (refusal 2 90)) begun
+    × ((replay_call tiny asked (lent (zeros 10) begun.procs begun.vars) (take 95 trace)).answer ≡ Err (refusal 8 0))
+    × ((replay_call tiny (drop 1 asked) begun (take 95 trace)).answer ≡ Err (refusal 2 0))

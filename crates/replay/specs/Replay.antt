@@ -1,5 +1,6 @@
 -- A replay: what playing a record comes to, and all records one after the other.
-use Rattle.std.specs.Prelude.{◌≡◌, Bool, cond, false, true, List, ◌*◌, ◌-◌, ◌≤◌, suc, zero, ℕ, eqb}
+use Rattle.parlog.specs.Answer.{Answer}
+use Rattle.std.specs.Prelude.{◌≡◌, Bool, cond, false, true, List, ◌*◌, ◌-◌, ◌≤◌, suc, zero, ℕ, eqb, Err, Ok}
 use Rattle.entry.specs.Entered.{Inside}
 use Rattle.parlog.specs.Calls.{enter, entered, Entry, turned_away}
 use Rattle.parlog.specs.Limits.{Limits}
@@ -9,14 +10,8 @@ use Rattle.parlog.specs.Program.{Program, program_of}
 use Rattle.parlog.specs.Records.{kind_at}
 use Rattle.parlog.specs.Run.{given, made, Stepping, step_tables, Supplying, supply_tables, ungiven, unmade}
 use Rattle.parlog.specs.Tables.{Lent, put_tables, Tables, tables_in}
-use Rattle.parlog.specs.declared.Move.{Move}
-use Rattle.parlog.specs.declared.Refusal.{Refusal}
-use Rattle.replay.specs.declared.Replayed.{Replayed}
-use Rattle.replay.specs.declared.Replayed.TheVariants.{Replays, Unreplayed}
 use Rattle.run.specs.Running.{Grown}
 use Rattle.trace.specs.Trace.{step_kind, trace_size, trace_tested, what_at, who_at}
-use Rattle.trace.specs.declared.Tested.{Tested}
-use Rattle.trace.specs.declared.Tested.TheVariants.{Faulty, Records}
 use Rattle.words.specs.Nights.{told_offset, told_refusal}
 
 -- ---- one record
@@ -64,26 +59,26 @@ play_from (suc n) lim pr s k t = play_on (play_record lim pr s (k * trace_size) 
 
 -- what a replay answers and leaves
 pub record ReplayCall : Type 0 where
-  pub answer : Replayed
+  pub answer : Answer ℕ
   pub lent : Lent
 
 -- Traces 6, 7: all n records agree, or 20 with the place of the one that does not
-abbrev pub replay_told : Bool → ℕ → Replayed
-replay_told true k = Replays k
-replay_told false k = Unreplayed (refusal 20 (k * trace_size))
+abbrev pub replay_told : Bool → ℕ → Answer ℕ
+replay_told true k = Ok k
+replay_told false k = Err (refusal 20 (k * trace_size))
 
 -- Traces 6: the answer, and the tables
 abbrev pub replay_answer : Played → ℕ → Lent → ReplayCall
 replay_answer p n l = record { answer = replay_told (eqb p.records n) p.records; lent = put_tables l p.tables }
 
 -- Traces 4: the whole trace is tested first
-abbrev pub replay_tested : Tested → Limits → Program → List ℕ → Lent → ReplayCall
-replay_tested (Faulty r) lim pr s l = record { answer = Unreplayed r; lent = l }
-replay_tested (Records n) lim pr s l = replay_answer (play_from n lim pr s 0 (tables_in l)) n l
+abbrev pub replay_tested : Answer ℕ → Limits → Program → List ℕ → Lent → ReplayCall
+replay_tested (Err r) lim pr s l = record { answer = Err r; lent = l }
+replay_tested (Ok n) lim pr s l = replay_answer (play_from n lim pr s 0 (tables_in l)) n l
 
 -- Traces 4: and before it the image and the tables
 abbrev pub replay_entry : Entry → Limits → List ℕ → Lent → ReplayCall
-replay_entry (turned_away r) lim s l = record { answer = Unreplayed r; lent = l }
+replay_entry (turned_away r) lim s l = record { answer = Err r; lent = l }
 replay_entry (entered pr t) lim s l = replay_tested (trace_tested s) lim pr s l
 
 -- Traces 6: the replay of the trace s on the image and these tables
@@ -91,21 +86,11 @@ unfoldable pub replay_call : Limits → List ℕ → Lent → List ℕ → Repla
 replay_call lim image l s = replay_entry (enter lim image l) lim s l
 
 -- Traces 6, 7, 8: the numbers of its answer: how many records were played, or the refusal and its place
-abbrev pub replay_numbers : Replayed → Numbers
-replay_numbers (Replays n) = record { refused = 0; a = 0; b = 0; c = told_offset n }
-replay_numbers (Unreplayed r) = refused_as (told_refusal r)
+abbrev pub replay_numbers : Answer ℕ → Numbers
+replay_numbers (Ok n) = record { refused = 0; a = 0; b = 0; c = told_offset n }
+replay_numbers (Err r) = refused_as (told_refusal r)
 
 -- ---- contracts
-
--- the refusal of tests that fail
-abbrev pub fault_of : Tested → Refusal
-fault_of (Records n) = refusal 0 0
-fault_of (Faulty r) = r
-
--- a step that was decided: what refuses it, its move, and the rule of the record
-abbrev pub agreed_by : ℕ → Move → ℕ → Bool
-agreed_by zero m rule = eqb (rule_number m) rule
-agreed_by (suc k) m rule = false
 
 -- it agrees
 abbrev pub is_played : Playing → Bool
@@ -140,7 +125,7 @@ pub record PlayedSays (lim : Limits) (s : List ℕ) (r c : ℕ) (l : Lent) (trac
   pub most : k ≤ n
 
 -- the whole call
-pub record ReplaySays (lim : Limits) (s : List ℕ) (l : Lent) (trace : List ℕ) (a : Replayed) (h p v : List ℕ) : Type 0 where
+pub record ReplaySays (lim : Limits) (s : List ℕ) (l : Lent) (trace : List ℕ) (a : Answer ℕ) (h p v : List ℕ) : Type 0 where
   pub answer : a ≡ (replay_call lim s l trace).answer
   pub head : h ≡ (replay_call lim s l trace).lent.head
   pub procs : p ≡ (replay_call lim s l trace).lent.procs

@@ -1,4 +1,5 @@
 -- A run saved and read back: the same head and the same rows in use, over zeros; so the same tables, and the same rules are kept.
+use Rattle.std.specs.Prelude.{Ok}
 use mathlib.Core.Path.{◌∙◌, ◌≡◌, ap, refl, sym}
 use mathlib.Core.Bool.{◌&&◌, true}
 use mathlib.Core.List.{List}
@@ -19,10 +20,8 @@ use Rattle.parlog.specs.Program.{Program, program_of}
 use Rattle.parlog.specs.Scan.{every}
 use Rattle.parlog.specs.TableRules.{cell_known, full_size, lent_ok, tables_ok}
 use Rattle.parlog.specs.Tables.{binding_bytes, cell_size, head_size, Lent, lent, proc_count, process_bytes, procs_of, put_tables, rows_bytes, row_size, tables_in, var_count, vars_in, written, zeros}
-use Rattle.parlog.specs.declared.Loaded.TheVariants.{Accepted}
 use Rattle.resume.proofs.Resuming.{lent-few}
 use Rattle.resume.specs.Calls.{resumable, resume_call}
-use Rattle.resume.specs.declared.Resumed.TheVariants.{Restored}
 use Rattle.rows.proofs.Laws.{process-cong, row-length, zeros-at, zeros-length}
 use Rattle.rows.proofs.Tables.{procs-cong}
 use Rattle.saved.proofs.Back.{cells-back, head-back, image-back, rows_back, saved-formed, stack-cong}
@@ -31,7 +30,6 @@ use Rattle.saved.proofs.Formed.{formed-read}
 use Rattle.saved.specs.Form.{bytes_from, process_record, saved_bytes, variable_record}
 use Rattle.saved.specs.Reading.{read_saved}
 use Rattle.saved.specs.Restored.{counts_agree, image_length, resumed_lent}
-use Rattle.saved.specs.declared.Reading.TheVariants.{Whole}
 use Rattle.vars.proofs.Laws.{binding-cong, cell-length, known-cong}
 use Rattle.vars.proofs.Tables.{vars-cong}
 
@@ -137,12 +135,12 @@ module _ (lim : Limits) (pr : Program) (l : Lent) (ok : lent_ok lim pr l ≡ tru
   save-resumable image k full = rw (full, counts-back image, resumed-copy image, copied-good)
 
   -- THE LAW: the whole resume of a save
-  pub resume-save : (s : List ℕ) {r c : ℕ} → load_of s ≡ Accepted r c → program_of s r c ≡ pr → length s ≤ 65535 → (k : Lent) → full_size lim k ≡ true
-      → resume_call lim s k (saved_bytes l (length s)) ≡ record { answer = Restored; lent = copied lim l }
+  pub resume-save : (s : List ℕ) {r c : ℕ} → load_of s ≡ Ok (r, c) → program_of s r c ≡ pr → length s ≤ 65535 → (k : Lent) → full_size lim k ≡ true
+      → resume_call lim s k (saved_bytes l (length s)) ≡ record { answer = Ok tt; lent = copied lim l }
   unfolding resume_call
   resume-save s {r} {c} loaded same short k full =
       let x : List ℕ = saved_bytes l (length s) in
-      let a : read_saved x ≡ Whole n m = formed-read x n m (saved-formed l (length s)) in
+      let a : read_saved x ≡ Ok (n, m) = formed-read x n m (saved-formed l (length s)) in
       let b : eqb (image_length x) (length s) ≡ true = eq-eqb (image_length x) (length s) (image-back l (length s) short) in
       let d : resumable lim (program_of s r c) k x n m ≡ true = rw same (save-resumable (length s) k full) in
       rw (loaded, a, b, d, resumed-copy (length s))

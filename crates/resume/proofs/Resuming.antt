@@ -1,4 +1,6 @@
 -- The ways through a resume.
+use Rattle.std.specs.Prelude.{Err, Ok}
+use Rattle.parlog.specs.Answer.{Answer}
 use mathlib.Core.Path.{◌∙◌, ◌≡◌, ap, sym}
 use mathlib.Core.Bool.{◌&&◌, Bool, false, true}
 use mathlib.Core.List.{List}
@@ -17,19 +19,14 @@ use Rattle.parlog.specs.Program.{Program, program_of}
 use Rattle.parlog.specs.Scan.{every}
 use Rattle.parlog.specs.TableRules.{cell_known, full_size, lent_ok, tables_ok}
 use Rattle.parlog.specs.Tables.{cell_size, Lent, lent, proc_count, row_size, tables_in, var_count}
-use Rattle.parlog.specs.declared.Loaded.{Loaded}
-use Rattle.parlog.specs.declared.Loaded.TheVariants.{Accepted, Refused}
 use Rattle.parlog.specs.declared.Refusal.{Refusal}
 use Rattle.resume.specs.Calls.{resumable, resume_call}
 use Rattle.resume.specs.Says.{DecidedSays, Restores, ResumeSays, TestedSays}
-use Rattle.resume.specs.declared.Resumed.TheVariants.{Restored, Unresumed}
 use Rattle.saved.proofs.Formed.{read-formed}
 use Rattle.saved.specs.Form.{saved_size}
 use Rattle.saved.specs.Formed.{Formed}
-use Rattle.saved.specs.Reading.{read_saved, refusal_in}
+use Rattle.saved.specs.Reading.{read_saved}
 use Rattle.saved.specs.Restored.{cells_in, counts_agree, head_in, image_length, RestoreSays, resumed_lent, rows_in}
-use Rattle.saved.specs.declared.Reading.{Reading}
-use Rattle.saved.specs.declared.Reading.TheVariants.{Broken, Whole}
 
 -- tables that keep the rules have no more rows than there may be
 pub lent-few : (lim : Limits) (pr : Program) (l : Lent) → lent_ok lim pr l ≡ true → (proc_count l.head ≤ lim.procs) × (var_count l.head ≤ lim.vars)
@@ -110,18 +107,18 @@ keeps-law pr x a b {p = p} {v} e t ep ev = e ∙ ap (lent_ok small pr) (restored
 
 -- ---- the tests
 
-pub read-inside : (x : List ℕ) {g : Reading} {a b : ℕ} → g ≡ read_saved x → g ≡ Whole a b → saved_size a b ≤ length x
+pub read-inside : (x : List ℕ) {g : Answer (ℕ × ℕ)} {a b : ℕ} → g ≡ read_saved x → g ≡ Ok (a, b) → saved_size a b ≤ length x
 read-inside x is e = let F = read-formed x (sym is ∙ e) in let s = F.size in omega arith
 
-module _ (lim : Limits) (pr : Program) (image : ℕ) (l : Lent) (x : List ℕ) {g : Reading} (is : g ≡ read_saved x) where
-  pub tested-broken : {f : Refusal} → g ≡ Broken f → TestedSays lim pr image l x g
-  tested-broken e = rw e (record { call = rw (sym is ∙ e); restores = tt })
+module _ (lim : Limits) (pr : Program) (image : ℕ) (l : Lent) (x : List ℕ) {g : Answer (ℕ × ℕ)} (is : g ≡ read_saved x) where
+  pub tested-broken : {f : Refusal} → g ≡ Err f → TestedSays lim pr image l x (Err f)
+  tested-broken e = record { call = rw (sym is ∙ e); restores = tt }
 
-  module _ {a b : ℕ} (e : g ≡ Whole a b) {n : ℕ} (en : n ≡ image_length x) where
+  module _ {a b : ℕ} (e : g ≡ Ok (a, b)) {n : ℕ} (en : n ≡ image_length x) where
     formed : Formed x a b
     formed = read-formed x (sym is ∙ e)
 
-    pub tested-foreign : (n ≡ image → ⊥) → {f : Refusal} → f ≡ refusal 15 0 → TestedSays lim pr image l x (Broken f)
+    pub tested-foreign : (n ≡ image → ⊥) → {f : Refusal} → f ≡ refusal 15 0 → TestedSays lim pr image l x (Err f)
     tested-foreign h ef =
         let z : eqb (image_length x) image ≡ false = ne_eqb (image_length x) image (λ q. h (en ∙ q)) in
         record { call = rw (sym is ∙ e, z, ef); restores = tt }
@@ -130,32 +127,32 @@ module _ (lim : Limits) (pr : Program) (image : ℕ) (l : Lent) (x : List ℕ) {
       ours : eqb (image_length x) image ≡ true
       ours = eq-eqb (image_length x) image (sym en ∙ same)
 
-      pub tested-state : ok ≡ false → {f : Refusal} → f ≡ refusal 8 0 → TestedSays lim pr image l x (Broken f)
+      pub tested-state : ok ≡ false → {f : Refusal} → f ≡ refusal 8 0 → TestedSays lim pr image l x (Err f)
       tested-state h ef = record { call = rw (sym is ∙ e, ours, sym test ∙ h, ef); restores = tt }
 
-      pub tested-whole : ok ≡ true → TestedSays lim pr image l x (Whole a b)
+      pub tested-whole : ok ≡ true → TestedSays lim pr image l x (Ok (a, b))
       tested-whole h = record { call = rw (sym is ∙ e, ours, sym test ∙ h); restores = resumable-restores lim pr l x a b formed (sym test ∙ h) }
 
-module _ (lim : Limits) (s : List ℕ) (l : Lent) (x : List ℕ) {o : Loaded} (is : o ≡ load_of s) where
-  pub decided-refused : {f r : Refusal} → o ≡ Refused f → r ≡ refusal_of o → DecidedSays lim s l x (Broken r)
+module _ (lim : Limits) (s : List ℕ) (l : Lent) (x : List ℕ) {o : Answer (ℕ × ℕ)} (is : o ≡ load_of s) where
+  pub decided-refused : {f r : Refusal} → o ≡ Err f → r ≡ refusal_of o → DecidedSays lim s l x (Err r)
   unfolding resume_call
   decided-refused e er = record { call = rw (sym is ∙ e, er, e); restores = tt }
 
-  pub decided-tested : {r c : ℕ} {d : Reading} → o ≡ Accepted r c → TestedSays lim (program_of s r c) (length s) l x d → DecidedSays lim s l x d
+  pub decided-tested : {r c : ℕ} {d : Answer (ℕ × ℕ)} → o ≡ Ok (r, c) → TestedSays lim (program_of s r c) (length s) l x d → DecidedSays lim s l x d
   unfolding resume_call
   decided-tested e t = record { call = rw (sym is ∙ e) t.call; restores = t.restores }
 
 -- ---- the call
 
-module _ (lim : Limits) (s : List ℕ) (l : Lent) (x : List ℕ) {d : Reading} (told : DecidedSays lim s l x d) where
-  pub resume-refused : {f r : Refusal} → d ≡ Broken f → r ≡ refusal_in d → ResumeSays lim s l x (Unresumed r) l.head l.procs l.vars
-  resume-refused e er = let k = rw e at told.call in record { answer = rw (k, er, e); head = rw k; procs = rw k; vars = rw k }
+module _ (lim : Limits) (s : List ℕ) (l : Lent) (x : List ℕ) {d : Answer (ℕ × ℕ)} (told : DecidedSays lim s l x d) where
+  pub resume-refused : {f : Refusal} → d ≡ Err f → ResumeSays lim s l x (Err f) l.head l.procs l.vars
+  resume-refused e = let k = rw e at told.call in record { answer = rw k; head = rw k; procs = rw k; vars = rw k }
 
-  module _ {a b : ℕ} (e : d ≡ Whole a b) where
+  module _ {a b : ℕ} (e : d ≡ Ok (a, b)) where
     pub resume-restores : Restores lim l x a b
     resume-restores = rw e at told.restores
 
-    pub resume-restored : {h p v : List ℕ} → RestoreSays x a b (length l.procs) (length l.vars) h p v → ResumeSays lim s l x Restored h p v
+    pub resume-restored : {h p v : List ℕ} → RestoreSays x a b (length l.procs) (length l.vars) h p v → ResumeSays lim s l x (Ok tt) h p v
     resume-restored {h} {p} {v} t =
         let k = rw e at told.call in
         let r = resume-restores in

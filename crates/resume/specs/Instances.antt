@@ -1,13 +1,11 @@
 -- Saves and resumes computed from bytes: two runs saved byte for byte, and each refusal with its place.
-use Rattle.std.specs.Prelude.{◌≡◌, [], ◌++◌, ◌∷◌, List, ◌*◌, ℕ, drop, set, take}
+use Rattle.std.specs.Prelude.{◌≡◌, [], ◌++◌, ◌∷◌, List, ◌*◌, ℕ, drop, set, take, Err, Ok}
 use Rattle.parlog.specs.Calls.{run_call, start_call, turn_call}
 use Rattle.parlog.specs.Cases.{ask_one, equation_goal, goal_p, relation_p}
 use Rattle.parlog.specs.Limits.{Limits}
 use Rattle.parlog.specs.Load.{refusal}
 use Rattle.parlog.specs.Tables.{cell_size, head_size, Lent, lent, row_size, zeros}
 use Rattle.resume.specs.Calls.{resume_call, save_call}
-use Rattle.resume.specs.declared.Resumed.TheVariants.{Restored, Unresumed}
-use Rattle.resume.specs.declared.Saved.TheVariants.{Stored, Unsaved}
 
 -- room for eight processes and four variables
 abbrev pub tiny : Limits
@@ -46,12 +44,12 @@ saved = head_after 0 ++ plain 8 2 0
 -- Saved 1 to 4: 46 bytes, before and after the turn; a row of 45 is too short; bytes behind stay
 abbrev pub OnesSaved : Type 0
 OnesSaved =
-    (save_call tiny ones begun (zeros 46) ≡ record { answer = Stored 46; row = saved })
-    × (save_call tiny ones turned (zeros 46) ≡ record { answer = Stored 46; row = head_after 1 ++ plain 8 4 1 })
-    × (save_call tiny ones begun (zeros 45) ≡ record { answer = Unsaved (refusal 11 0); row = zeros 45 })
-    × (save_call tiny ones begun (zeros 46 ++ (7 ∷ 9 ∷ [])) ≡ record { answer = Stored 46; row = saved ++ (7 ∷ 9 ∷ []) })
-    × ((save_call tiny ones blank (zeros 46)).answer ≡ Unsaved (refusal 8 0))
-    × ((save_call tiny (drop 1 ones) begun (zeros 46)).answer ≡ Unsaved (refusal 2 0))
+    (save_call tiny ones begun (zeros 46) ≡ record { answer = Ok 46; row = saved })
+    × (save_call tiny ones turned (zeros 46) ≡ record { answer = Ok 46; row = head_after 1 ++ plain 8 4 1 })
+    × (save_call tiny ones begun (zeros 45) ≡ record { answer = Err (refusal 11 0); row = zeros 45 })
+    × (save_call tiny ones begun (zeros 46 ++ (7 ∷ 9 ∷ [])) ≡ record { answer = Ok 46; row = saved ++ (7 ∷ 9 ∷ []) })
+    × ((save_call tiny ones blank (zeros 46)).answer ≡ Err (refusal 8 0))
+    × ((save_call tiny (drop 1 ones) begun (zeros 46)).answer ≡ Err (refusal 2 0))
 
 -- ---- q(?), fact q(1), goal q(A), as far as it goes without A
 
@@ -66,7 +64,7 @@ waiting = (save_call tiny (ask_one 0 1) waits (zeros 194)).row
 -- Saved 1 to 3: 194 bytes: the head, process 4, and the variable
 abbrev pub WaitingSaved : Type 0
 WaitingSaved =
-    ((save_call tiny (ask_one 0 1) waits (zeros 194)).answer ≡ Stored 194)
+    ((save_call tiny (ask_one 0 1) waits (zeros 194)).answer ≡ Ok 194)
     × (take 18 waiting ≡ 18 ∷ 0 ∷ 16 ∷ 0 ∷ 6 ∷ 0 ∷ 1 ∷ 0 ∷ 5 ∷ 0 ∷ 9 ∷ 0 ∷ 0 ∷ 0 ∷ 29 ∷ 0 ∷ 2 ∷ 0 ∷ [])
     × (take 28 (drop 130 waiting) ≡ 28 ∷ 0 ∷ 17 ∷ 0 ∷ 6 ∷ 5 ∷ 0 ∷ 1 ∷ 3 ∷ 0 ∷ zeros 8 ++ (1 ∷ 0 ∷ zeros 8))
     × (drop 186 waiting ≡ 8 ∷ 0 ∷ 18 ∷ 0 ∷ 0 ∷ 0 ∷ 0 ∷ 0 ∷ [])
@@ -74,14 +72,14 @@ WaitingSaved =
 -- Saved 10: what was saved is read back, whatever the rows held; bytes of unused rows become zeros
 abbrev pub ReadBack : Type 0
 ReadBack =
-    (resume_call tiny ones blank saved ≡ record { answer = Restored; lent = begun })
-    × (resume_call tiny ones (lent begun.head (set begun.procs 100 7) (set begun.vars 3 9)) saved ≡ record { answer = Restored; lent = begun })
+    (resume_call tiny ones blank saved ≡ record { answer = Ok tt; lent = begun })
+    × (resume_call tiny ones (lent begun.head (set begun.procs 100 7) (set begun.vars 3 9)) saved ≡ record { answer = Ok tt; lent = begun })
 
 -- ---- refusals
 
 -- a resume of the run `ones`
 abbrev pub Refuses : List ℕ → ℕ → ℕ → Type 0
-Refuses x n o = resume_call tiny ones begun x ≡ record { answer = Unresumed (refusal n o); lent = begun }
+Refuses x n o = resume_call tiny ones begun x ≡ record { answer = Err (refusal n o); lent = begun }
 
 -- Saved 5 to 7: a byte missing; two bytes left; the head's record once more; that record missing, and no record; a 17 of another length; a 19; a 17 behind an 18
 abbrev pub RecordsRefused : Type 0
@@ -108,7 +106,7 @@ head_former = 16 ∷ 0 ∷ 16 ∷ 0 ∷ 1 ∷ 0 ∷ 0 ∷ 0 ∷ 0 ∷ 0 ∷ 0 �
 abbrev pub RulesRefused : Type 0
 RulesRefused =
     Refuses (head_former ++ plain 8 2 0) 18 0
-    × (resume_call tiny (relation_p ++ goal_p) begun (head_former ++ plain 8 2 0) ≡ record { answer = Unresumed (refusal 18 0); lent = begun })
+    × (resume_call tiny (relation_p ++ goal_p) begun (head_former ++ plain 8 2 0) ≡ record { answer = Err (refusal 18 0); lent = begun })
     × Refuses (head_under 1 0 ++ plain 8 2 0) 18 0
     × Refuses (head_under 3 0 ++ plain 8 2 0) 18 0
     × Refuses (head_under 2 1 ++ plain 8 2 0) 18 0
@@ -122,9 +120,9 @@ RulesRefused =
 -- Saved 8, 9: another image, accepted and one byte longer; a variable more, a process twice; a row of another size; a tag that is none
 abbrev pub TablesRefused : Type 0
 TablesRefused =
-    (resume_call tiny (relation_p ++ goal_p) begun saved ≡ record { answer = Unresumed (refusal 15 0); lent = begun })
+    (resume_call tiny (relation_p ++ goal_p) begun saved ≡ record { answer = Err (refusal 15 0); lent = begun })
     × Refuses (saved ++ (8 ∷ 0 ∷ 18 ∷ 0 ∷ zeros 4)) 8 0
     × Refuses (saved ++ plain 8 2 0) 8 0
     × Refuses (head_after 0 ++ plain 9 2 0) 8 0
-    × (resume_call tiny ones (lent (zeros 11) blank.procs blank.vars) saved ≡ record { answer = Unresumed (refusal 8 0); lent = lent (zeros 11) blank.procs blank.vars })
-    × ((resume_call tiny (drop 1 ones) begun saved).answer ≡ Unresumed (refusal 2 0))
+    × (resume_call tiny ones (lent (zeros 11) blank.procs blank.vars) saved ≡ record { answer = Err (refusal 8 0); lent = lent (zeros 11) blank.procs blank.vars })
+    × ((resume_call tiny (drop 1 ones) begun saved).answer ≡ Err (refusal 2 0))

@@ -11,44 +11,29 @@ ghost use Rattle.saved.specs.Restored.{resumed_lent};
 ghost use Rattle.resume.specs.Calls.{resumable};
 ghost use Rattle.resume.specs.Says.{DecidedSays, ResumeSays, SaveSays, TestedSays};
 
-use parlog::{Loaded, Refusal, codes};
-use saved::Reading;
+use parlog::{Answer, codes};
 
 // 15, FOREIGN: the saved run belongs to an image of another length.
 pub const FOREIGN: u8 = 15;
 
-// The answer of a save: how many bytes the saved run has.
-#[derive(Clone, Copy)]
-pub enum Saved {
-    Stored(usize),
-    Unsaved(Refusal),
-}
-
-// The answer of a resume.
-#[derive(Clone, Copy)]
-pub enum Resumed {
-    Restored,
-    Unresumed(Refusal),
-}
-
 // A save: the run as a saved run at the front of the lent row.
-pub fn save(image: &[u8], head: &[u8], procs: &[u8], vars: &[u8], row: &mut [u8]) -> Saved
+pub fn save(image: &[u8], head: &[u8], procs: &[u8], vars: &[u8], row: &mut [u8]) -> Answer<usize>
     ensures { SaveSays small image.now (lent head.now procs.now vars.now) row.old result row.new }
 {
     let mut ix = [0u16; program_index::SIZE];
     let e = entry::enter(image, head, procs, vars, &mut ix);
-    let Loaded::Accepted(rels, clauses) = e else {
+    let Ok((rels, clauses)) = e else {
         let r = load::refusal(e);
-        return Saved::Unsaved(r);
+        return Err(r);
     };
     let n = head::proc_count(head);
     let m = head::var_count(head);
     let size = saved::size(n, m);
     if row.len() < size {
-        return Saved::Unsaved(entry::refusal(codes::ROOM));
+        return Err(entry::refusal(codes::ROOM));
     }
     saved::write(row, head, procs, vars, image.len());
-    Saved::Stored(size)
+    Ok(size)
 }
 
 // What a saved run of a processes and b variables holds keeps every table rule.
@@ -117,32 +102,35 @@ fn tested(
     procs: &[u8],
     vars: &[u8],
     row: &[u8],
-) -> Reading
+) -> Answer<(usize, usize)>
     requires { (rels ≤ 32) × (clauses ≤ 64) × Indexed image.now rels clauses ix.now }
     ensures { TestedSays small (program_of image.now rels clauses) (length image.now) (lent head.now procs.now vars.now) row.now result }
 {
-    let seen = saved::read(row);
-    let Reading::Whole(a, b) = seen else {
-        return seen;
-    };
+    let (a, b) = saved::read(row)?;
     if saved::image_length(row) != image.len() {
-        return Reading::Broken(entry::refusal(FOREIGN));
+        return Err(entry::refusal(FOREIGN));
     }
     if !fits(image, rels, clauses, ix, head, procs, vars, row, a, b) {
-        return Reading::Broken(entry::refusal(codes::STATE));
+        return Err(entry::refusal(codes::STATE));
     }
-    seen
+    Ok((a, b))
 }
 
 // The same, with the test of the image first; nothing is written yet.
-fn decided(image: &[u8], head: &[u8], procs: &[u8], vars: &[u8], row: &[u8]) -> Reading
+fn decided(
+    image: &[u8],
+    head: &[u8],
+    procs: &[u8],
+    vars: &[u8],
+    row: &[u8],
+) -> Answer<(usize, usize)>
     ensures { DecidedSays small image.now (lent head.now procs.now vars.now) row.now result }
 {
     let mut ix = [0u16; program_index::SIZE];
     let l = load::load_indexed(image, &mut ix);
-    let Loaded::Accepted(rels, clauses) = l else {
+    let Ok((rels, clauses)) = l else {
         let r = load::refusal(l);
-        return Reading::Broken(r);
+        return Err(r);
     };
     tested(image, rels, clauses, &ix, head, procs, vars, row)
 }
@@ -154,14 +142,10 @@ pub fn resume(
     procs: &mut [u8],
     vars: &mut [u8],
     row: &[u8],
-) -> Resumed
+) -> Answer<()>
     ensures { ResumeSays small image.now (lent head.old procs.old vars.old) row.now result head.new procs.new vars.new }
 {
-    let d = decided(image, head, procs, vars, row);
-    let Reading::Whole(a, b) = d else {
-        let r = saved::refusal(d);
-        return Resumed::Unresumed(r);
-    };
+    let (a, b) = decided(image, head, procs, vars, row)?;
     saved::restore(row, a, b, head, procs, vars);
-    Resumed::Restored
+    Ok(())
 }

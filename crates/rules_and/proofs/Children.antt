@@ -1,4 +1,5 @@
 -- The rows of the processes that a plan makes.
+use Rattle.std.specs.Prelude.{None}
 use mathlib.Core.Path.{◌∙◌, ◌≡◌, ap, sym}
 use mathlib.Core.List.{[], ◌++◌, ◌∷◌, List}
 use Prim.Native.Nat.{◌+◌, ℕ}
@@ -10,7 +11,6 @@ use Rattle.parlog.specs.Delta.{making}
 use Rattle.parlog.specs.Rules.{Applied, by_rule}
 use Rattle.parlog.specs.Scan.{build}
 use Rattle.parlog.specs.Tables.{procs_of}
-use Rattle.parlog.specs.declared.Found.TheVariants.{Nothing}
 use Rattle.parlog.specs.declared.Move.{Move}
 use Rattle.parlog.specs.declared.Process.{Process}
 use Rattle.rows.proofs.Tables.{procs-length, procs-none, table-rows}
@@ -21,7 +21,7 @@ use Rattle.move_plan.proofs.Made.{first-row}
 
 module _ (rows : List ℕ) {new : List ℕ} {y : Process} (t : Table rows new (procs_of rows 0 ++ (y ∷ []))) where
   pub two_made : {z : Process} {last : List ℕ} → Table new last (procs_of new 1 ++ (z ∷ []))
-      → {mv : Move} {x : Process} {a : Applied} → a ≡ by_rule mv (making x Nothing (procs_of last 2) 0) → a ≡ by_rule mv (making x Nothing (y ∷ z ∷ []) 0)
+      → {mv : Move} {x : Process} {a : Applied} → a ≡ by_rule mv (making x None (procs_of last 2) 0) → a ≡ by_rule mv (making x None (y ∷ z ∷ []) 0)
   two_made {z} {last} u e =
       let f : procs_of new 1 ++ (z ∷ []) ≡ y ∷ z ∷ [] = rw (first-row rows t) in
       let g : procs_of last 2 ≡ y ∷ z ∷ [] = table-rows 2 u (ap length f) ∙ f in

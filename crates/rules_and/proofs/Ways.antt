@@ -1,4 +1,5 @@
 -- The ways through the rules: each premise is a fact of the code, the answer is what the definition has.
+use Rattle.std.specs.Prelude.{Some, None}
 use mathlib.Core.Path.{◌∙◌, ◌≡◌, ap, ap₂, refl, sym}
 use mathlib.Core.Bool.{Bool, false, true}
 use mathlib.Core.List.{[], ◌++◌, ◌∷◌, append-nil, List}
@@ -20,13 +21,12 @@ use Rattle.parlog.specs.Rules.{and_par_start, and_par_wait, and_seq_start, and_s
 use Rattle.parlog.specs.Scan.{build}
 use Rattle.parlog.specs.Tables.{goal_spot, new_process, procs_of, State}
 use Rattle.parlog.specs.Tree.{all_children, any_child, Heard, heard}
-use Rattle.parlog.specs.declared.Found.TheVariants.{At, Nothing}
 use Rattle.parlog.specs.declared.Move.TheVariants.{AndParFailure, AndParStart, AndParSuccess, AndSeqFailure, AndSeqNext, AndSeqStart, AndSeqSuccess, GuardEvalEmpty, GuardEvalFailure, GuardEvalStart, GuardEvalSuccess, Ready, Stop, TryClauseFailure, TryClauseStart, TryClauseSuccess}
 use Rattle.parlog.specs.declared.Process.{Process}
 use Rattle.parlog.specs.declared.Spot.{Spot}
 use Rattle.rows.proofs.Tables.{procs-length, procs-none, table-rows}
 use Rattle.rows.specs.Rows.{Table}
-use Rattle.rules_and.specs.Says.{next_stage, Readies, Starts, Waits}
+use Rattle.rules_and.specs.Says.{next_stage, Readies, Starts, wait_all, Waits}
 
 -- ---- ready and stop
 
@@ -58,10 +58,10 @@ member_is pr p z j {y} ey et b =
     b g (sym (et ∙ ap (λ (l : Literal). tag_code (tag_of_literal l)) e)) ready refl ∙ ap (new_process g ready p) ey
 
 made : (s : State) (p : ℕ) {q : ℕ} {me w : Process} {ps qs : List Process} → q ≡ first_made s p ps → me ≡ w → ps ≡ qs
-    → by_rule (AndParStart q) (making me Nothing ps 0) ≡ by_rule (AndParStart (first_made s p qs)) (making w Nothing qs 0)
+    → by_rule (AndParStart q) (making me None ps 0) ≡ by_rule (AndParStart (first_made s p qs)) (making w None qs 0)
 made s p {q} {qs = qs} eq em e =
     let f : q ≡ first_made s p qs = eq ∙ ap (first_made s p) e in
-    λ i. by_rule (AndParStart (f i)) (making (em i) Nothing (e i) 0)
+    λ i. by_rule (AndParStart (f i)) (making (em i) None (e i) 0)
 
 -- room for the members, and for the body beside them
 module _ (pr : Program) (p : ℕ) (z : Spot) (few : length (members pr p z) ≤ 12) {k : ℕ} (ek : k ≡ length (stage_at pr z)) where
@@ -95,37 +95,30 @@ body-some p z rows new k e {y} {x} ey ex t =
 pub par-starts : (pr : Program) (n p : ℕ) (x : Process) (rows new : List ℕ) (m : ℕ) {me : Process} {q k : ℕ} {b : Bool} {a : Applied}
     → k ≡ length (stage_at pr x.spot) → b ≡ split_by (kind_of x.spot.kind) pr x.spot.clause → procs_of rows k ≡ build (member pr p x.spot) k
     → procs_of new m ≡ procs_of rows k ++ body_beside b p x.spot → me ≡ with_mode waiting x → q ≡ touched n p m
-    → a ≡ by_rule (AndParStart q) (making me Nothing (procs_of new m) 0) → Starts and_par pr n p x a
+    → a ≡ by_rule (AndParStart q) (making me None (procs_of new m) 0) → Starts and_par pr n p x a
 unfolding start_rule and_par_start members split_at
 par-starts pr n p x rows new m {k = k} ek eb er ew em eq ea s es =
     let f : procs_of rows k ≡ build (member pr p x.spot) (length (stage_at pr x.spot)) = er ∙ ap (build (member pr p x.spot)) ek in
     ea ∙ made s p (eq ∙ touches s n p m (procs_of new m) es (procs-length new m)) em (ew ∙ ap₂ (λ ys c. ys ++ body_beside c p x.spot) f eb)
 
-module _ (ps : List Process) (p : ℕ) (x : Process) {a : Applied} {b : Bool} (eb : b ≡ any_child failure ps p) where
-  pub par-fails : b ≡ true → a ≡ by_rule (AndParFailure p) (report failure x) → Waits and_par ps p x a
-  unfolding wait_rule and_par_wait
-  par-fails h ea pr vs = rw (← eb, h) ea
+module _ (ps : List Process) (p : ℕ) (x : Process) {a : Applied} {b d : Bool} (eb : b ≡ any_child failure ps p) (ed : d ≡ all_children success ps p) where
+  pub par-waits : a ≡ wait_all (AndParFailure p) (AndParSuccess p) b d x → Waits and_par ps p x a
+  unfolding wait_rule wait_all and_par_wait
+  par-waits ea pr vs = rw (← eb, ← ed) (ea ∙ go b d)
+    where
+      go : (b d : Bool) → wait_all (AndParFailure p) (AndParSuccess p) b d x ≡ and_par_wait b d p x
+      go true d = refl
+      go false true = refl
+      go false false = refl
 
-  pub try-fails : b ≡ true → a ≡ by_rule (TryClauseFailure p) (report failure x) → Waits try_clause ps p x a
-  unfolding wait_rule try_clause_wait
-  try-fails h ea pr vs = rw (← eb, h) ea
-
-  module _ (h : b ≡ false) {d : Bool} (ed : d ≡ all_children success ps p) where
-    pub par-succeeds : d ≡ true → a ≡ by_rule (AndParSuccess p) (report success x) → Waits and_par ps p x a
-    unfolding wait_rule and_par_wait
-    par-succeeds g ea pr vs = rw (← eb, h, ← ed, g) ea
-
-    pub par-waits : d ≡ false → a ≡ no_rule → Waits and_par ps p x a
-    unfolding wait_rule and_par_wait
-    par-waits g ea pr vs = rw (← eb, h, ← ed, g) ea
-
-    pub try-succeeds : d ≡ true → a ≡ by_rule (TryClauseSuccess p) (report success x) → Waits try_clause ps p x a
-    unfolding wait_rule try_clause_wait
-    try-succeeds g ea pr vs = rw (← eb, h, ← ed, g) ea
-
-    pub try-waits : d ≡ false → a ≡ no_rule → Waits try_clause ps p x a
-    unfolding wait_rule try_clause_wait
-    try-waits g ea pr vs = rw (← eb, h, ← ed, g) ea
+  pub try-waits : a ≡ wait_all (TryClauseFailure p) (TryClauseSuccess p) b d x → Waits try_clause ps p x a
+  unfolding wait_rule wait_all try_clause_wait
+  try-waits ea pr vs = rw (← eb, ← ed) (ea ∙ go b d)
+    where
+      go : (b d : Bool) → wait_all (TryClauseFailure p) (TryClauseSuccess p) b d x ≡ try_clause_wait b d p x
+      go true d = refl
+      go false true = refl
+      go false false = refl
 
 -- ---- and-seq
 
@@ -135,7 +128,7 @@ module _ (pr : Program) (n p : ℕ) (x : Process) {a : Applied} {k : ℕ} (ek : 
   seq-ends h ea s es = rw (← ek, le-ltb x.spot.stage k h) ea
 
   pub seq-starts : x.spot.stage < k → {t : ℕ} {y : Spot} {c me : Process} → t ≡ tag_code (tag_of_stage (stage_at pr x.spot)) → y ≡ literal_spot x.spot 0 → Born t 2 p y c
-      → me ≡ with_mode waiting x → a ≡ by_rule (AndSeqStart n) (making me Nothing (c ∷ []) 0) → Starts and_seq pr n p x a
+      → me ≡ with_mode waiting x → a ≡ by_rule (AndSeqStart n) (making me None (c ∷ []) 0) → Starts and_seq pr n p x a
   unfolding start_rule and_seq_start goal_at
   seq-starts h {c = c} et ey b em ea s es =
       let ec : c ≡ new_process (tag_of_stage (stage_at pr x.spot)) starting p (literal_spot x.spot 0) =
@@ -147,7 +140,7 @@ unfolding next_stage
 next-is x ey o = o starting refl ∙ ap (λ (z : Spot). with_spot starting z x) (ey ∙ ap (λ (k : ℕ). at_stage k x.spot) (add-one x.spot.stage))
 
 pub pass-is : (p c : ℕ) (x : Process) (rows : List ℕ) {me : Process} {a : Applied}
-    → me ≡ next_stage x → a ≡ by_rule (AndSeqNext p) (making me (At c) (procs_of rows 0) 0) → a ≡ by_rule (AndSeqNext p) (making (next_stage x) (At c) [] 0)
+    → me ≡ next_stage x → a ≡ by_rule (AndSeqNext p) (making me (Some c) (procs_of rows 0) 0) → a ≡ by_rule (AndSeqNext p) (making (next_stage x) (Some c) [] 0)
 pass-is p c x rows em ea = rw (procs-none rows, em) at ea
 
 heard-as : {h : Heard} {f g : News} → heard_of f ≡ h → f ≡ g → heard_of g ≡ h
@@ -159,7 +152,7 @@ module _ (ps : List Process) (p : ℕ) (x : Process) {a : Applied} {f : News} (e
   unfolding wait_rule and_seq_wait
   seq-waits h ea pr vs = rw (← heard-as ef h) ea
 
-  pub seq-passes : {c : ℕ} → f ≡ Good c → a ≡ by_rule (AndSeqNext p) (making (next_stage x) (At c) [] 0) → Waits and_seq ps p x a
+  pub seq-passes : {c : ℕ} → f ≡ Good c → a ≡ by_rule (AndSeqNext p) (making (next_stage x) (Some c) [] 0) → Waits and_seq ps p x a
   unfolding wait_rule and_seq_wait next_stage
   seq-passes h ea pr vs = rw (← heard-as ef h) ea
 
@@ -183,7 +176,7 @@ module _ (ps : List Process) (p : ℕ) (x : Process) {a : Applied} {f : News} (e
 
 pub try-starts : (n p : ℕ) (x : Process) {u v : Spot} {c d me : Process} {a : Applied}
     → u ≡ try_spot x.spot x.spot.found x.spot.first → Born 6 1 p u c → v ≡ guard_spot x.spot.found x.spot.first → Born 7 1 p v d
-    → me ≡ with_mode waiting x → a ≡ by_rule (TryClauseStart n) (making me Nothing (c ∷ d ∷ []) 0) → (pr : Program) → Starts try_clause pr n p x a
+    → me ≡ with_mode waiting x → a ≡ by_rule (TryClauseStart n) (making me None (c ∷ d ∷ []) 0) → (pr : Program) → Starts try_clause pr n p x a
 unfolding start_rule try_clause_start
 try-starts n p x {c = c} {d = d} eu b ev g em ea pr s es =
     let ec : c ≡ new_process input_match ready p (try_spot x.spot x.spot.found x.spot.first) = rw eu at (b input_match refl ready refl) in
@@ -198,7 +191,7 @@ guard_none [] s p x e = refl
 guard_none (st ∷ g) s p x e = absurd (omega arith)
 
 guard-some : (g : Goal) (s : State) (p : ℕ) (x : Process) → (length g ≡ 0 → ⊥)
-    → guard_eval_start g s p x ≡ by_rule (GuardEvalStart (length s.procs)) (making (with_mode waiting x) Nothing (new_process (tag_of_goal g) starting p (goal_spot the_guard x.spot.found x.spot.first) ∷ []) 0)
+    → guard_eval_start g s p x ≡ by_rule (GuardEvalStart (length s.procs)) (making (with_mode waiting x) None (new_process (tag_of_goal g) starting p (goal_spot the_guard x.spot.found x.spot.first) ∷ []) 0)
 unfolding guard_eval_start
 guard-some [] s p x ne = absurd (ne refl)
 guard-some (st ∷ g) s p x ne = refl
@@ -213,7 +206,7 @@ module _ (pr : Program) (n p : ℕ) (x : Process) {a : Applied} {k : ℕ} (ek : 
   guard-ends h ea s es = ea ∙ sym (guard_none (clause_at pr x.spot.found).guard s p x (sym (ek ∙ ap length (guard-of pr x.spot.found)) ∙ h))
 
   pub guard-starts : (k ≡ 0 → ⊥) → {y : Spot} {t : ℕ} {c me : Process} → Of kind_code 1 (λ q. goal_spot q x.spot.found x.spot.first) y → t ≡ tag_code (tag_of_goal (goal_by (kind_of 1) pr x.spot.found))
-      → Born t 2 p y c → me ≡ with_mode waiting x → a ≡ by_rule (GuardEvalStart n) (making me Nothing (c ∷ []) 0) → Starts guard_eval pr n p x a
+      → Born t 2 p y c → me ≡ with_mode waiting x → a ≡ by_rule (GuardEvalStart n) (making me None (c ∷ []) 0) → Starts guard_eval pr n p x a
   unfolding start_rule
   guard-starts ne {y} {c = c} oy et b em ea s es =
       let g = (clause_at pr x.spot.found).guard in
@@ -221,6 +214,6 @@ module _ (pr : Program) (n p : ℕ) (x : Process) {a : Applied} {k : ℕ} (ek : 
       let eg = guard-of pr x.spot.found in
       let ec : c ≡ new_process (tag_of_goal g) starting p (goal_spot the_guard x.spot.found x.spot.first) =
       rw ey at (b (tag_of_goal g) (sym (et ∙ ap (λ (q : Goal). tag_code (tag_of_goal q)) eg)) starting refl) in
-      let e : a ≡ by_rule (GuardEvalStart (length s.procs)) (making (with_mode waiting x) Nothing (new_process (tag_of_goal g) starting p (goal_spot the_guard x.spot.found x.spot.first) ∷ []) 0) =
+      let e : a ≡ by_rule (GuardEvalStart (length s.procs)) (making (with_mode waiting x) None (new_process (tag_of_goal g) starting p (goal_spot the_guard x.spot.found x.spot.first) ∷ []) 0) =
       rw (es, ← em, ← ec) ea in
       e ∙ sym (guard-some g s p x (λ z. ne (ek ∙ ap length eg ∙ z)))

@@ -2,7 +2,7 @@
 #![tactic(auto)]
 
 ghost use Rattle.program_index.specs.Indexed.{Indexed};
-ghost use Rattle.std.specs.Prelude.{◌≡◌, true, [], ◌++◌, ◌∷◌, List, ◌≤◌, ◌<◌, length};
+ghost use Rattle.std.specs.Prelude.{◌≡◌, true, [], ◌++◌, ◌∷◌, List, ◌≤◌, ◌<◌, length, Some, None};
 ghost use Rattle.children.specs.Telling.{Tells};
 ghost use Rattle.parlog.specs.Codes.{and_par, and_seq, guard_eval, try_clause};
 ghost use Rattle.parlog.specs.Delta.{making};
@@ -10,15 +10,14 @@ ghost use Rattle.parlog.specs.Program.{Program, program_of};
 ghost use Rattle.parlog.specs.Rules.{body_beside, by_rule, member, members, stop_rule};
 ghost use Rattle.parlog.specs.Scan.{build};
 ghost use Rattle.parlog.specs.Tables.{procs_of};
-ghost use Rattle.parlog.specs.declared.Found.TheVariants.{At, Nothing};
 ghost use Rattle.parlog.specs.declared.Move.TheVariants.{AndSeqNext};
 ghost use Rattle.parlog.specs.declared.Process.{Process};
 ghost use Rattle.move_plan.specs.Plans.{applied_of, new_most, new_size};
-ghost use Rattle.rules_and.specs.Says.{next_stage, Readies, Starts, Waits};
+ghost use Rattle.rules_and.specs.Says.{next_stage, Readies, Starts, wait_all, Waits};
 
 use children::{News, Told};
 use move_plan::Plan;
-use parlog::{Found, Move, Process, Spot, codes};
+use parlog::{Move, Process, Spot, codes};
 
 // A ready process is about to start next.
 pub fn ready(p: usize, x: Process) -> Plan
@@ -41,12 +40,25 @@ pub fn stop(p: usize, x: Process) -> Plan
 
 // The mover and two children.
 fn with_children(mv: Move, x: Process, one: Process, other: Process) -> Plan
-    ensures { (applied_of result ≡ by_rule mv (making x Nothing (one ∷ other ∷ []) 0)) × (result.count ≤ new_most) × (result.changes.count ≡ 0) }
+    ensures { (applied_of result ≡ by_rule mv (making x None (one ∷ other ∷ []) 0)) × (result.count ≤ new_most) × (result.changes.count ≡ 0) }
 {
     let mut new = [0u8; move_plan::NEW_SIZE];
     rows::append(&mut new, 0, one);
     rows::append(&mut new, 1, other);
-    move_plan::make(mv, x, Found::Nothing, 2, new, 0)
+    move_plan::make(mv, x, None, 2, new, 0)
+}
+
+// One failure decides, else all must succeed: a move for each.
+fn wait_all(told: Told, failed: Move, succeeded: Move, x: Process) -> Plan
+    ensures { (applied_of result ≡ wait_all failed succeeded told.failed told.succeeded x) × (result.count ≤ new_most) × (result.changes.count ≡ 0) }
+{
+    if told.failed {
+        return move_plan::report(failed, codes::FAILURE, x);
+    }
+    if told.succeeded {
+        return move_plan::report(succeeded, codes::SUCCESS, x);
+    }
+    move_plan::none()
 }
 
 // ---- and-par
@@ -83,11 +95,9 @@ fn members(
     requires { (rels ≤ 32) × (clauses ≤ 64) × (p ≤ 65535) × (k ≤ new_most) × (new_size ≤ length new.old) × Indexed image.now rels clauses ix.now }
     ensures { procs_of new.new k ≡ build (member (program_of image.now rels clauses) p z) k }
 {
-    let mut j = 0;
-    while j < k {
+    for j in 0..k {
         let y = member(image, rels, clauses, ix, p, z, j);
         rows::append(new, j, y);
-        j += 1;
     }
 }
 
@@ -125,20 +135,14 @@ pub fn start_and_par(
     let count = with_body(apart, p, x.spot, k, &mut new);
     let me = move_plan::with_mode(x, codes::WAITING);
     let q = move_plan::touched(n, p, count);
-    move_plan::make(Move::AndParStart(q), me, Found::Nothing, count, new, 0)
+    move_plan::make(Move::AndParStart(q), me, None, count, new, 0)
 }
 
 // One failure decides, else all must succeed.
 pub fn wait_and_par(told: Told, p: usize, x: Process) -> Plan
     ensures { ((ps : List Process) → Tells ps p told → Waits and_par ps p x (applied_of result)) × (result.count ≤ new_most) × (result.changes.count ≡ 0) }
 {
-    if told.failed {
-        return move_plan::report(Move::AndParFailure(p), codes::FAILURE, x);
-    }
-    if told.succeeded {
-        return move_plan::report(Move::AndParSuccess(p), codes::SUCCESS, x);
-    }
-    move_plan::none()
+    wait_all(told, Move::AndParFailure(p), Move::AndParSuccess(p), x)
 }
 
 // ---- and-seq
@@ -165,7 +169,7 @@ pub fn start_and_seq(
     let y = move_plan::literal_spot(x.spot, 0);
     let child = move_plan::new_process(t, codes::STARTING, p, y);
     let me = move_plan::with_mode(x, codes::WAITING);
-    move_plan::make_one(Move::AndSeqStart(n), me, Found::Nothing, child)
+    move_plan::make_one(Move::AndSeqStart(n), me, None, child)
 }
 
 // About to start the stage behind.
@@ -180,20 +184,20 @@ fn next_stage(x: Process) -> Process
 // The stage succeeded: it sleeps, and the stage behind it is next.
 fn pass_stage(p: usize, x: Process, c: usize) -> Plan
     requires { x.spot.stage < 255 }
-    ensures { (applied_of result ≡ by_rule (AndSeqNext p) (making (next_stage x) (At c) [] 0)) × (result.count ≤ new_most) × (result.changes.count ≡ 0) }
+    ensures { (applied_of result ≡ by_rule (AndSeqNext p) (making (next_stage x) (Some c) [] 0)) × (result.count ≤ new_most) × (result.changes.count ≡ 0) }
 {
     let me = next_stage(x);
     let new = [0u8; move_plan::NEW_SIZE];
-    move_plan::make(Move::AndSeqNext(p), me, Found::At(c), 0, new, 0)
+    move_plan::make(Move::AndSeqNext(p), me, Some(c), 0, new, 0)
 }
 
 // Goes on to the stage behind, or fails with its stage.
+// Kept, like the guard's: a match of three arms is as plain as a function that takes an answer for each.
 pub fn wait_and_seq(told: Told, p: usize, x: Process) -> Plan
     requires { x.spot.stage < 255 }
     ensures { ((ps : List Process) → Tells ps p told → Waits and_seq ps p x (applied_of result)) × (result.count ≤ new_most) × (result.changes.count ≡ 0) }
 {
-    let news = told.latest;
-    match news {
+    match told.latest {
         News::Silent => move_plan::none(),
         News::Good(c) => pass_stage(p, x, c),
         News::Bad(_) => move_plan::report(Move::AndSeqFailure(p), codes::FAILURE, x),
@@ -219,13 +223,12 @@ pub fn start_try_clause(n: usize, p: usize, x: Process) -> Plan
 pub fn wait_try_clause(told: Told, p: usize, x: Process) -> Plan
     ensures { ((ps : List Process) → Tells ps p told → Waits try_clause ps p x (applied_of result)) × (result.count ≤ new_most) × (result.changes.count ≡ 0) }
 {
-    if told.failed {
-        return move_plan::report(Move::TryClauseFailure(p), codes::FAILURE, x);
-    }
-    if told.succeeded {
-        return move_plan::report(Move::TryClauseSuccess(p), codes::SUCCESS, x);
-    }
-    move_plan::none()
+    wait_all(
+        told,
+        Move::TryClauseFailure(p),
+        Move::TryClauseSuccess(p),
+        x,
+    )
 }
 
 // ---- guard-eval
@@ -251,15 +254,14 @@ pub fn start_guard_eval(
     let t = program_goal::tag_of_goal(image, rels, clauses, ix, codes::THE_GUARD, x.spot.found);
     let child = move_plan::new_process(t, codes::STARTING, p, y);
     let me = move_plan::with_mode(x, codes::WAITING);
-    move_plan::make_one(Move::GuardEvalStart(n), me, Found::Nothing, child)
+    move_plan::make_one(Move::GuardEvalStart(n), me, None, child)
 }
 
 // Tells what the guard tells.
 pub fn wait_guard_eval(told: Told, p: usize, x: Process) -> Plan
     ensures { ((ps : List Process) → Tells ps p told → Waits guard_eval ps p x (applied_of result)) × (result.count ≤ new_most) × (result.changes.count ≡ 0) }
 {
-    let news = told.latest;
-    match news {
+    match told.latest {
         News::Silent => move_plan::none(),
         News::Good(_) => move_plan::report(Move::GuardEvalSuccess(p), codes::SUCCESS, x),
         News::Bad(_) => move_plan::report(Move::GuardEvalFailure(p), codes::FAILURE, x),

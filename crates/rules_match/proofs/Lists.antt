@@ -1,20 +1,20 @@
 -- Lists in four places, and the lists of a match cut to the shortest.
+use Rattle.std.specs.Prelude.{Option}
 use mathlib.Core.Path.{◌∙◌, ◌≡◌, ap, refl}
 use mathlib.Core.List.{[], ◌∷◌, List}
-use Prim.Native.Nat.{◌<◌, ◌≤◌, suc, zero, ℕ}
+use Prim.Native.Nat.{◌≤◌, min, suc, zero, ℕ}
 use lib.Dec.{ltb}
 use lib.ListN.{get_or, length, take}
-use borrow.Author.Tests.{le-ltb, lt-ltb, ltb-false, ltb-true}
+use borrow.Author.Tests.{ltb-false, ltb-true}
 use native.Mathlib.Omega.{arith}
 use Rattle.decide.proofs.Laws.{decide-cong}
 use Rattle.parlog.proofs.Bools.{split}
 use Rattle.parlog.specs.Image.{is_input}
 use Rattle.parlog.specs.Program.{out_count}
 use Rattle.parlog.specs.Unify.{input_value, match_of, out_after, pair_of, pairs_of}
-use Rattle.parlog.specs.declared.Binding.{Binding}
 use Rattle.parlog.specs.declared.Pair.{Pair}
 use Rattle.parlog.specs.declared.Term.{Term}
-use Rattle.rules_match.specs.Starts.{in_four, least}
+use Rattle.rules_match.specs.Starts.{in_four}
 
 -- ---- four places
 
@@ -61,27 +61,10 @@ shorter-right [] (y ∷ ys) h = absurd (omega arith)
 shorter-right (x ∷ xs) [] h = refl
 shorter-right (x ∷ xs) (y ∷ ys) h = ap (λ (k : ℕ). suc k) (shorter-right xs ys (omega arith))
 
-least-shorter : {A B : Type 0} (xs : List A) (ys : List B) → least (length xs) (length ys) ≡ shorter xs ys
-unfolding least
+least-shorter : {A B : Type 0} (xs : List A) (ys : List B) → min (length xs) (length ys) ≡ shorter xs ys
 least-shorter xs ys = split (ltb (length xs) (length ys))
-    (λ e. let h = ltb-true (length xs) (length ys) e in rw (e, shorter-left xs ys (omega arith)))
-    (λ e. rw (e, shorter-right xs ys (ltb-false (length xs) (length ys) e)))
-
-pub least_first : (a b : ℕ) → a < b → a ≡ least a b
-unfolding least
-least_first a b h = rw (lt-ltb a b h)
-
-pub least-second : (a b : ℕ) → b ≤ a → b ≡ least a b
-unfolding least
-least-second a b h = rw (le-ltb a b h)
-
-pub least-left : (a b : ℕ) → least a b ≤ a
-unfolding least
-least-left a b = split (ltb a b) (λ e. rw e (omega arith)) (λ e. rw e (ltb-false a b e))
-
-pub least-right : (a b : ℕ) → least a b ≤ b
-unfolding least
-least-right a b = split (ltb a b) (λ e. let h = ltb-true a b e in rw e (omega arith)) (λ e. rw e (omega arith))
+    (λ e. let h = ltb-true (length xs) (length ys) e in rw (shorter-left xs ys (omega arith)) (omega arith))
+    (λ e. let h = ltb-false (length xs) (length ys) e in rw (shorter-right xs ys h) (omega arith))
 
 pub outs-take : (k : ℕ) (ms : List ℕ) → out_count (take k ms) ≤ out_count ms
 unfolding out_count
@@ -97,14 +80,14 @@ pairs-cut (m ∷ ms) [] b ts first out h = refl
 pairs-cut (m ∷ ms) (x ∷ xs) b [] first out h = absurd (omega arith)
 pairs-cut (m ∷ ms) (x ∷ xs) b (t ∷ ts) first out h = ap (λ (es : List Pair). pair_of m x b t first out ∷ es) (pairs-cut ms xs b ts first (out_after m out) (omega arith))
 
-input-cut : (vs : List Binding) (ms : List ℕ) (xs : List Term) (b v : ℕ) → input_value vs (take (shorter ms xs) ms) (take (shorter ms xs) xs) b v ≡ input_value vs ms xs b v
+input-cut : (vs : List (Option Term)) (ms : List ℕ) (xs : List Term) (b v : ℕ) → input_value vs (take (shorter ms xs) ms) (take (shorter ms xs) xs) b v ≡ input_value vs ms xs b v
 unfolding input_value shorter
 input-cut vs [] xs b v = refl
 input-cut vs (m ∷ ms) [] b v = refl
 input-cut vs (m ∷ ms) (x ∷ xs) b v = rw (input-cut vs ms xs b v)
 
 -- a match with its lists cut so is the whole match
-pub match-cut : (vs : List Binding) (ms : List ℕ) (xs : List Term) (b : ℕ) (ts : List Term) (first own : ℕ) → length ms ≤ length ts → {k : ℕ} → k ≡ least (length ms) (length xs)
+pub match-cut : (vs : List (Option Term)) (ms : List ℕ) (xs : List Term) (b : ℕ) (ts : List Term) (first own : ℕ) → length ms ≤ length ts → {k : ℕ} → k ≡ min (length ms) (length xs)
     → match_of vs (take k ms) (take k xs) b (take k ts) first own ≡ match_of vs ms xs b ts first own
 unfolding match_of
 match-cut vs ms xs b ts first own h {k} e =

@@ -2,16 +2,16 @@
 #![tactic(auto)]
 
 ghost use Rattle.program_index.specs.Indexed.{Indexed};
-ghost use Rattle.std.specs.Prelude.{◌≡◌, cond, ◌*◌, ◌≤◌, eqb, get_or, length};
-ghost use Rattle.parlog.specs.declared.Term.TheVariants.{Const, Var};
+ghost use Rattle.std.specs.Prelude.{◌≡◌, ◌*◌, ◌≤◌, length};
+ghost use Rattle.parlog.specs.declared.Term.TheVariants.{Const};
 ghost use Rattle.parlog.specs.Program.{clause_at, modes_at, program_of};
 ghost use Rattle.parlog.specs.Rules.{equate_at, equate_start, input_match_start, match_at, wake_rule};
 ghost use Rattle.parlog.specs.Tables.{cell_size, noted, row_size, vars_in};
 ghost use Rattle.parlog.specs.Unify.{some_bound};
-ghost use Rattle.unify.specs.Pending.{no_change, Writable};
+ghost use Rattle.unify.specs.Pending.{Writable};
 ghost use Rattle.decide.specs.Decision.{decided_of, Decides, to_bind};
 ghost use Rattle.move_plan.specs.Plans.{applied_of, new_most, state_in, Within};
-ghost use Rattle.rules_match.specs.Starts.{EquateThere, in_four, least, MatchThere, start_by};
+ghost use Rattle.rules_match.specs.Starts.{equate_move, EquateThere, in_four, match_move, MatchThere, start_by, way_of};
 
 use decide::{Decision, Deed};
 use move_plan::{Changes, Plan};
@@ -19,59 +19,47 @@ use parlog::{Move, Process, Spot, Term, codes};
 
 // ---- what is decided, as a plan
 
-// The variable noted first.
-fn first_noted(d: Decision) -> Term
-    requires { length d.notes ≡ 4 }
-    ensures { result ≡ Var (get_or d.notes 0 0) }
-{
-    let notes = d.notes;
-    let v = notes[0];
-    Term::Var(v as u32)
+// How a decision ends, by which each rule names its move: with the variable noted or bound first.
+#[derive(Clone, Copy)]
+enum Way {
+    Failure,
+    Suspend(Term),
+    Success,
+    Bind(Term),
 }
 
-// The variable bound first.
-fn first_bound(d: Decision) -> Term
-    requires { length d.binds ≡ 4 }
-    ensures { result ≡ Var (get_or d.binds 0 no_change).var }
+fn way_of(d: Decision) -> Way
+    requires { Decides (decided_of d) d }
+    ensures { result ≡ way_of (decided_of d) }
 {
-    let binds = d.binds;
-    let c = binds[0];
-    Term::Var(c.var)
+    match d.deed {
+        Deed::Fails => Way::Failure,
+        Deed::Suspends => Way::Suspend(Term::Var(u32::from(d.notes[0]))),
+        Deed::Binds => if d.count == 0 {
+            Way::Success
+        } else {
+            Way::Bind(Term::Var(d.binds[0].var))
+        },
+    }
 }
 
-// The move of a success, by how many variables it binds.
-fn success_move(count: usize, plain: Move, bind: Move) -> Move
-    ensures { result ≡ cond (eqb count 0) plain bind }
-{
-    if count == 0 { plain } else { bind }
-}
-
-// Fails, suspends, or binds what is to be bound and succeeds: a move for each.
-fn start_by(
-    d: Decision,
-    m: usize,
-    fail: Move,
-    suspend: Move,
-    plain: Move,
-    bind: Move,
-    x: Process,
-) -> Plan
+// Fails, suspends, or binds what is to be bound and succeeds, by this move.
+fn start_by(d: Decision, m: usize, mv: Move, x: Process) -> Plan
     requires { Decides (decided_of d) d × Writable m (to_bind d) }
-    ensures { (applied_of result ≡ start_by fail suspend plain bind (decided_of d) x) × (result.count ≤ new_most) × (result.changes.count ≤ 4) × Within m result.changes.count result.changes.list }
+    ensures { (applied_of result ≡ start_by mv (decided_of d) x) × (result.count ≤ new_most) × (result.changes.count ≤ 4) × Within m result.changes.count result.changes.list }
 {
-    let deed = d.deed;
-    match deed {
-        Deed::Fails => move_plan::report(fail, codes::FAILURE, x),
+    match d.deed {
+        Deed::Fails => move_plan::report(mv, codes::FAILURE, x),
         Deed::Suspends => {
-            let notes = d.notes;
-            let y = move_plan::with_notes(x, d.noted, notes);
-            move_plan::only(suspend, y)
+            let y = move_plan::with_notes(x, d.noted, d.notes);
+            move_plan::only(mv, y)
         }
         Deed::Binds => {
             let list = d.binds;
-            let count = d.count;
-            let mv = success_move(count, plain, bind);
-            let changes = Changes { count, list };
+            let changes = Changes {
+                count: d.count,
+                list,
+            };
             move_plan::report_with(mv, codes::SUCCESS, x, changes)
         }
     }
@@ -115,12 +103,6 @@ fn four_terms(
     [a, b, c, d]
 }
 
-fn least(a: usize, b: usize) -> usize
-    ensures { result ≡ least a b }
-{
-    if a < b { a } else { b }
-}
-
 // The match that z names.
 fn match_at(
     image: &[u8],
@@ -135,20 +117,25 @@ fn match_at(
     ensures { Decides (match_at (program_of image.now rels clauses) (vars_in vars.now m) z) result }
 {
     let l = program_goal::literal(image, rels, clauses, ix, z);
-    let q = l.rel;
-    let size = l.arity;
-    let a = l.a;
-    let b = l.b;
-    let c = l.c;
-    let d = l.d;
     let k = z.found as usize;
-    let modes = four_modes(image, rels, clauses, ix, q);
+    let modes = four_modes(image, rels, clauses, ix, l.rel);
     let head = four_terms(image, rels, clauses, ix, k);
     let own = program_clause::clause_vars(image, rels, clauses, ix, k);
-    let count = program_clause::mode_count(image, rels, clauses, ix, q);
-    let arity = least(count, size);
-    let args = [a, b, c, d];
-    decide::match_of(vars, m, modes, args, z.base, head, z.first, own, arity)
+    let count = program_clause::mode_count(image, rels, clauses, ix, l.rel);
+    let arity = count.min(l.arity);
+    decide::match_of(vars, m, modes, l.args, z.base, head, z.first, own, arity)
+}
+
+// The move of process p.
+fn match_move(p: usize, w: Way) -> Move
+    ensures { result ≡ match_move p w }
+{
+    match w {
+        Way::Failure => Move::InputMatchFailure(p),
+        Way::Suspend(v) => Move::InputMatchSuspend(v),
+        Way::Success => Move::InputMatchSuccess(p),
+        Way::Bind(v) => Move::InputMatchBind(v),
+    }
 }
 
 // An input-match that starts.
@@ -165,19 +152,8 @@ pub fn start_input_match(
     requires { (rels ≤ 32) × (clauses ≤ 64) × (m * cell_size ≤ length vars.now) × (m ≤ 65535) × MatchThere (program_of image.now rels clauses) (vars_in vars.now m) x.spot × Indexed image.now rels clauses ix.now }
     ensures { (applied_of result ≡ input_match_start (match_at (program_of image.now rels clauses) (vars_in vars.now m) x.spot) p x) × (result.count ≤ new_most) × (result.changes.count ≤ 4) × Within m result.changes.count result.changes.list }
 {
-    let z = x.spot;
-    let d = match_at(image, rels, clauses, ix, vars, m, z);
-    let v = first_noted(d);
-    let w = first_bound(d);
-    start_by(
-        d,
-        m,
-        Move::InputMatchFailure(p),
-        Move::InputMatchSuspend(v),
-        Move::InputMatchSuccess(p),
-        Move::InputMatchBind(w),
-        x,
-    )
+    let d = match_at(image, rels, clauses, ix, vars, m, x.spot);
+    start_by(d, m, match_move(p, way_of(d)), x)
 }
 
 // ---- equate
@@ -199,10 +175,20 @@ fn equate_at(
     ensures { Decides (equate_at (program_of image.now rels clauses) (state_in procs.now n vars.now m) p z) result }
 {
     let l = program_goal::literal(image, rels, clauses, ix, z);
-    let t = l.a;
-    let u = l.b;
     let bar = tree::enclosing_first(procs, n, p);
-    decide::equate_of(vars, m, t, u, z.base, bar)
+    decide::equate_of(vars, m, l.args[0], l.args[1], z.base, bar)
+}
+
+// The move of process p.
+fn equate_move(p: usize, w: Way) -> Move
+    ensures { result ≡ equate_move p w }
+{
+    match w {
+        Way::Failure => Move::EquateFailure(p),
+        Way::Suspend(v) => Move::EquateSuspend(v),
+        Way::Success => Move::EquateSuccess(p),
+        Way::Bind(v) => Move::EquateBind(v),
+    }
 }
 
 // An equate that starts.
@@ -221,19 +207,8 @@ pub fn start_equate(
     requires { (rels ≤ 32) × (clauses ≤ 64) × (n * row_size ≤ length procs.now) × (m * cell_size ≤ length vars.now) × (m ≤ 65535) × EquateThere (program_of image.now rels clauses) (vars_in vars.now m) x.spot × Indexed image.now rels clauses ix.now }
     ensures { (applied_of result ≡ equate_start (equate_at (program_of image.now rels clauses) (state_in procs.now n vars.now m) p x.spot) p x) × (result.count ≤ new_most) × (result.changes.count ≤ 4) × Within m result.changes.count result.changes.list }
 {
-    let z = x.spot;
-    let d = equate_at(image, rels, clauses, ix, procs, n, vars, m, p, z);
-    let v = first_noted(d);
-    let w = first_bound(d);
-    start_by(
-        d,
-        m,
-        Move::EquateFailure(p),
-        Move::EquateSuspend(v),
-        Move::EquateSuccess(p),
-        Move::EquateBind(w),
-        x,
-    )
+    let d = equate_at(image, rels, clauses, ix, procs, n, vars, m, p, x.spot);
+    start_by(d, m, equate_move(p, way_of(d)), x)
 }
 
 // ---- wake

@@ -1,4 +1,5 @@
 -- The processes that try the clauses of a block, row by row.
+use Rattle.std.specs.Prelude.{None}
 use mathlib.Core.Path.{◌∙◌, ◌≡◌, ap, refl, sym}
 use mathlib.Core.List.{[], ◌++◌, ◌∷◌, List, append_assoc, append-nil}
 use Prim.Native.Nat.{◌+◌, ◌-◌, ◌<◌, suc, ℕ}
@@ -11,7 +12,6 @@ use Rattle.parlog.specs.Delta.{making, try_spot, with_mode}
 use Rattle.parlog.specs.Program.{block_of, literal_at, Program, vars_of}
 use Rattle.parlog.specs.Rules.{Applied, block_at, by_rule, first_made, or_search_start, start_rule, tries, tries_vars}
 use Rattle.parlog.specs.Tables.{new_process, procs_of, State}
-use Rattle.parlog.specs.declared.Found.TheVariants.{Nothing}
 use Rattle.parlog.specs.declared.Move.TheVariants.{OrSearchStart}
 use Rattle.parlog.specs.declared.Process.{Process}
 use Rattle.parlog.specs.declared.Spot.{Spot}
@@ -80,7 +80,7 @@ pub or-search-starts : (pr : Program) (s : State) (p : ℕ) (x : Process) {rel s
     → rel ≡ (literal_at pr x.spot).rel → size ≡ length (block_of pr rel x.spot.block)
     → procs_of rows size ≡ tries pr p x.spot m (block_of pr rel x.spot.block) → v ≡ m + tries_vars pr (block_of pr rel x.spot.block)
     → Of mode_code 3 (λ t. with_mode t x) me → first ≡ touched n p size
-    → {a : Applied} → a ≡ by_rule (OrSearchStart first) (making me Nothing (procs_of rows size) (v - m))
+    → {a : Applied} → a ≡ by_rule (OrSearchStart first) (making me None (procs_of rows size) (v - m))
     → length s.procs ≡ n → length s.vars ≡ m → a ≡ start_rule or_search pr s p x
 unfolding start_rule or_search_start block_at
 or-search-starts pr s p x {rel} {size} {n} {m} {v} {first} {me} rows er es et ev em ef ea en evs =

@@ -1,4 +1,6 @@
 -- The ways through the rules of or-par, seq-search and or-search.
+use Rattle.parlog.specs.declared.Term.{Term}
+use Rattle.std.specs.Prelude.{Option, Some, None}
 use mathlib.Core.Path.{◌∙◌, ◌≡◌, ap, refl, sym}
 use mathlib.Core.Bool.{Bool, false, true}
 use mathlib.Core.List.{[], ◌∷◌, List}
@@ -18,9 +20,6 @@ use Rattle.parlog.specs.Program.{block_count, body_tag, clause_at, committed_bod
 use Rattle.parlog.specs.Rules.{Applied, body_child, by_rule, no_rule, or_par_heard, or_par_start, or_par_wait, or_search_wait, searching, seq_search_next, seq_search_start, seq_search_wait, start_rule, wait_rule, with_found}
 use Rattle.parlog.specs.Tables.{at, goal_spot, new_process, procs_of, State}
 use Rattle.parlog.specs.Tree.{all_children, heard, lowest_child}
-use Rattle.parlog.specs.declared.Binding.{Binding}
-use Rattle.parlog.specs.declared.Found.{Found}
-use Rattle.parlog.specs.declared.Found.TheVariants.{At, Nothing}
 use Rattle.parlog.specs.declared.Move.{Move}
 use Rattle.parlog.specs.declared.Move.TheVariants.{OrParFailure, OrParSpawn, OrParStart, OrParSuccess, OrSearchCommit, OrSearchFailure, SeqSearchFailure, SeqSearchNext, SeqSearchNone, SeqSearchStart, SeqSearchSuccess}
 use Rattle.parlog.specs.declared.Process.{Process}
@@ -35,7 +34,7 @@ pub called_is : (pr : Program) (z : Spot) {l : Lit} → l ≡ shown (literal_at 
 unfolding shown
 called_is pr z e = ap (λ (l : Lit). l.rel) e
 
-module _ (ps : List Process) (vs : List Binding) (c : ℕ) (x : Process) where
+module _ (ps : List Process) (vs : List (Option Term)) (c : ℕ) (x : Process) where
   pub committed : {y : Process} {z : Spot} {me : Process} → y ≡ at ps c → z ≡ with_clause y.spot.found y.spot.first x.spot
       → Of mode_code 4 (λ m. with_spot m z x) me
       → {mv : Move} {a : Applied} → Of result_code 1 (λ t. by_rule mv (report t me)) a
@@ -49,7 +48,7 @@ module _ (ps : List Process) (vs : List Binding) (c : ℕ) (x : Process) where
 
 pub or-par-starts : (pr : Program) (s : State) (p : ℕ) (x : Process) {n : ℕ} {z : Spot} {y me : Process}
     → z ≡ literal_spot x.spot x.spot.literal → Born 3 2 p z y → Of mode_code 3 (λ m. with_mode m x) me
-    → {a : Applied} → a ≡ by_rule (OrParStart n) (making me Nothing (y ∷ []) 0) → length s.procs ≡ n → a ≡ start_rule or_par pr s p x
+    → {a : Applied} → a ≡ by_rule (OrParStart n) (making me None (y ∷ []) 0) → length s.procs ≡ n → a ≡ start_rule or_par pr s p x
 unfolding start_rule or_par_start call_spot
 or-par-starts pr s p x {n} {z} {y} {me} ez ey em ea en =
     let b : y ≡ new_process seq_search starting p z = ey seq_search refl starting refl in
@@ -63,7 +62,7 @@ body-made pr p k v et ez ey =
     ey (body_tag (is_split pr (clause_at pr k)) (committed_body pr (clause_at pr k))) (sym et) starting refl
     ∙ ap (new_process (body_tag (is_split pr (clause_at pr k)) (committed_body pr (clause_at pr k))) starting p) (ez the_body refl)
 
-module _ (pr : Program) (l : List ℕ) (n : ℕ) (vs : List Binding) (p : ℕ) (x : Process) where
+module _ (pr : Program) (l : List ℕ) (n : ℕ) (vs : List (Option Term)) (p : ℕ) (x : Process) where
   module _ (c : ℕ) {y : Process} (ey : y ≡ at (procs_of l n) c) {a : Applied} where
     pub body-done : (y.tag ≡ 3 → ⊥) → Of result_code 1 (λ t. by_rule (OrParSuccess p) (report t x)) a
         → a ≡ or_par_heard (is_tag seq_search (at (procs_of l n) c).tag) pr (record { procs = procs_of l n; vars = vs }) p x c
@@ -71,7 +70,7 @@ module _ (pr : Program) (l : List ℕ) (n : ℕ) (vs : List Binding) (p : ℕ) (
     body-done ne ea = rw (← ey, ne_eqb y.tag 3 ne) (ea success refl)
 
     pub clause-found : y.tag ≡ 3 → {b : Process} → b ≡ body_child pr p y.spot.found y.spot.first
-        → a ≡ by_rule (OrParSpawn n) (making x (At c) (b ∷ []) 0)
+        → a ≡ by_rule (OrParSpawn n) (making x (Some c) (b ∷ []) 0)
         → a ≡ or_par_heard (is_tag seq_search (at (procs_of l n) c).tag) pr (record { procs = procs_of l n; vars = vs }) p x c
     unfolding or_par_heard
     clause-found h eb ea = rw (← ey, eq-eqb y.tag 3 h, ← ey, ← eb, procs-length l n) ea
@@ -93,7 +92,7 @@ module _ (pr : Program) (l : List ℕ) (n : ℕ) (vs : List Binding) (p : ℕ) (
 
 -- ---- seq-search
 
-pub searching-made : (b p : ℕ) (x : Process) (nap : Found) {u z : Spot} {me y : Process}
+pub searching-made : (b p : ℕ) (x : Process) (nap : Option ℕ) {u z : Spot} {me y : Process}
     → u ≡ at_block b x.spot → Of mode_code 3 (λ m. with_spot m u x) me → z ≡ block_spot x.spot b → Born 4 2 p z y
     → {mv : Move} {a : Applied} → a ≡ by_rule mv (making me nap (y ∷ []) 0) → a ≡ by_rule mv (searching b p x nap)
 unfolding searching
@@ -114,7 +113,7 @@ module _ (pr : Program) (s : State) (p : ℕ) (x : Process) {count : ℕ} (ec : 
   unfolding start_rule seq_search_start
   no_block z ea = rw (← ec, le-ltb 0 count (omega arith)) (ea failure refl)
 
-  pub first_block : {n : ℕ} → (count ≡ 0 → ⊥) → a ≡ by_rule (SeqSearchStart n) (searching 0 p x Nothing) → length s.procs ≡ n → a ≡ start_rule seq_search pr s p x
+  pub first_block : {n : ℕ} → (count ≡ 0 → ⊥) → a ≡ by_rule (SeqSearchStart n) (searching 0 p x None) → length s.procs ≡ n → a ≡ start_rule seq_search pr s p x
   unfolding start_rule seq_search_start
   first_block ne ea en = rw (← ec, lt-ltb 0 count (positive count ne), en) ea
 
@@ -124,14 +123,14 @@ module _ (pr : Program) (s : State) (p : ℕ) (x : Process) {count : ℕ} (ec : 
     unfolding seq_search_next
     no-next h ea = rw (← ec, le-ltb (suc x.spot.block) count (omega arith)) (ea failure refl)
 
-    pub next-found : {n : ℕ} → x.spot.block + 1 < count → a ≡ by_rule (SeqSearchNext n) (searching (x.spot.block + 1) p x (At c)) → length s.procs ≡ n
+    pub next-found : {n : ℕ} → x.spot.block + 1 < count → a ≡ by_rule (SeqSearchNext n) (searching (x.spot.block + 1) p x (Some c)) → length s.procs ≡ n
         → a ≡ seq_search_next (ltb (suc x.spot.block) (block_count pr (literal_at pr x.spot).rel)) s p x c
     unfolding seq_search_next
     next-found {n} h ea en =
-        let q : a ≡ by_rule (SeqSearchNext n) (searching (suc x.spot.block) p x (At c)) = rw (add-one x.spot.block) at ea in
+        let q : a ≡ by_rule (SeqSearchNext n) (searching (suc x.spot.block) p x (Some c)) = rw (add-one x.spot.block) at ea in
         rw (← ec, lt-ltb (suc x.spot.block) count (omega arith), en) q
 
-module _ (pr : Program) (l : List ℕ) (n : ℕ) (vs : List Binding) (p : ℕ) (x : Process) {h : News} (eh : heard_of h ≡ heard (procs_of l n) p) {a : Applied} where
+module _ (pr : Program) (l : List ℕ) (n : ℕ) (vs : List (Option Term)) (p : ℕ) (x : Process) {h : News} (eh : heard_of h ≡ heard (procs_of l n) p) {a : Applied} where
   pub seq-silent : h ≡ Silent → a ≡ no_rule → a ≡ wait_rule seq_search pr (record { procs = procs_of l n; vars = vs }) p x
   unfolding wait_rule seq_search_wait
   seq-silent e ea = rw (← eh, e) ea
@@ -151,21 +150,21 @@ module _ (pr : Program) (l : List ℕ) (n : ℕ) (vs : List Binding) (p : ℕ) (
 
 module _ (p : ℕ) (x : Process) {a : Applied} where
   module _ (s : State) {b : Bool} where
-    pub all-fail : b ≡ true → Of result_code 2 (λ t. by_rule (OrSearchFailure p) (report t x)) a → a ≡ or_search_wait Nothing b s p x
+    pub all-fail : b ≡ true → Of result_code 2 (λ t. by_rule (OrSearchFailure p) (report t x)) a → a ≡ or_search_wait None b s p x
     unfolding or_search_wait
     all-fail h ea = rw h (ea failure refl)
 
-    pub some-try : b ≡ false → a ≡ no_rule → a ≡ or_search_wait Nothing b s p x
+    pub some-try : b ≡ false → a ≡ no_rule → a ≡ or_search_wait None b s p x
     unfolding or_search_wait
     some-try h ea = rw h ea
 
-  module _ (ps : List Process) (pr : Program) (vs : List Binding) {f : Found} (ef : f ≡ lowest_child success ps p) where
-    pub none_first : {b : Bool} → b ≡ all_children failure ps p → f ≡ Nothing → ((s : State) → a ≡ or_search_wait Nothing b s p x)
+  module _ (ps : List Process) (pr : Program) (vs : List (Option Term)) {f : Option ℕ} (ef : f ≡ lowest_child success ps p) where
+    pub none_first : {b : Bool} → b ≡ all_children failure ps p → f ≡ None → ((s : State) → a ≡ or_search_wait None b s p x)
         → a ≡ wait_rule or_search pr (record { procs = ps; vars = vs }) p x
     unfolding wait_rule
     none_first eb e ea = rw (← ef, e, ← eb) (ea (record { procs = ps; vars = vs }))
 
-    pub first-commits : {c : ℕ} → f ≡ At c → a ≡ by_rule (OrSearchCommit p) (report success (with_found (record { procs = ps; vars = vs }) c x))
+    pub first-commits : {c : ℕ} → f ≡ Some c → a ≡ by_rule (OrSearchCommit p) (report success (with_found (record { procs = ps; vars = vs }) c x))
         → a ≡ wait_rule or_search pr (record { procs = ps; vars = vs }) p x
     unfolding wait_rule or_search_wait
     first-commits e ea = rw (← ef, e) ea

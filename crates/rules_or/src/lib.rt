@@ -1,22 +1,21 @@
 // The rules of or-par, seq-search and or-search: each reads the tables and answers a plan.
 #![tactic(auto)]
 
+ghost use Rattle.parlog.specs.declared.Term.{Term};
 ghost use Rattle.program_index.specs.Indexed.{Indexed};
-ghost use Rattle.std.specs.Prelude.{◌≡◌, [], ◌∷◌, ◌++◌, List, ◌+◌, ◌*◌, ◌≤◌, ◌<◌, suc, ltb, get_or, length};
+ghost use Rattle.std.specs.Prelude.{◌≡◌, [], ◌∷◌, ◌++◌, List, ◌+◌, ◌*◌, ◌≤◌, ◌<◌, suc, ltb, get_or, length, Option, None};
 ghost use Rattle.children.specs.Telling.{Tells};
 ghost use Rattle.parlog.specs.Codes.{is_tag, or_par, or_search, ready, seq_search, success, try_clause};
 ghost use Rattle.parlog.specs.Delta.{report, try_spot};
 ghost use Rattle.parlog.specs.Program.{block_count, block_of, literal_at, Program, program_of, vars_of};
 ghost use Rattle.parlog.specs.Rules.{block_at, body_child, by_rule, or_par_heard, or_search_wait, searching, seq_search_next, start_rule, tries, tries_vars, wait_rule, with_found};
 ghost use Rattle.parlog.specs.Tables.{at, new_process, procs_of, row_size, State};
-ghost use Rattle.parlog.specs.declared.Binding.{Binding};
-ghost use Rattle.parlog.specs.declared.Found.TheVariants.{Nothing};
 ghost use Rattle.move_plan.specs.Plans.{applied_of, new_most};
 ghost use Rattle.rows.specs.Rows.{Table};
 
 use children::{News, Told};
 use move_plan::Plan;
-use parlog::{Found, Move, Process, Spot, codes};
+use parlog::{Move, Process, Spot, codes};
 
 // ---- what the rules share
 
@@ -31,14 +30,13 @@ fn called(
     requires { (rels ≤ 32) × (clauses ≤ 64) × Indexed image.now rels clauses ix.now }
     ensures { (result ≡ (literal_at (program_of image.now rels clauses) z).rel) × (result ≤ 255) }
 {
-    let l = program_goal::literal(image, rels, clauses, ix, z);
-    l.rel
+    program_goal::literal(image, rels, clauses, ix, z).rel
 }
 
 // Reports success with the clause that child c names.
 fn commit(mv: Move, procs: &[u8], n: usize, c: usize, x: Process) -> Plan
     requires { n * row_size ≤ length procs.now }
-    ensures { ((vs : List Binding) → applied_of result ≡ by_rule mv (report success (with_found (record { procs = procs_of procs.entry.now n; vars = vs }) c x))) × (result.count ≤ new_most) × (result.changes.count ≡ 0) }
+    ensures { ((vs : List (Option Term)) → applied_of result ≡ by_rule mv (report success (with_found (record { procs = procs_of procs.entry.now n; vars = vs }) c x))) × (result.count ≤ new_most) × (result.changes.count ≡ 0) }
 {
     let y = rows::get(procs, n, c);
     let z = move_plan::with_clause(x.spot, y.spot.found, y.spot.first);
@@ -56,7 +54,7 @@ pub fn start_or_par(n: usize, p: usize, x: Process) -> Plan
     let z = move_plan::literal_spot(x.spot, x.spot.literal);
     let y = move_plan::new_process(codes::SEQ_SEARCH, codes::STARTING, p, z);
     let me = move_plan::with_mode(x, codes::WAITING);
-    move_plan::make_one(Move::OrParStart(n), me, Found::Nothing, y)
+    move_plan::make_one(Move::OrParStart(n), me, None, y)
 }
 
 // The process for the committed body of clause k, its first variable v.
@@ -90,14 +88,14 @@ fn or_par_heard(
     c: usize,
 ) -> Plan
     requires { (rels ≤ 32) × (clauses ≤ 64) × (n * row_size ≤ length procs.now) × (n ≤ 65535) × (p < n) × Indexed image.now rels clauses ix.now }
-    ensures { ((vs : List Binding) → applied_of result ≡ or_par_heard (is_tag seq_search (at (procs_of procs.entry.now n) c).tag) (program_of image.now rels clauses) (record { procs = procs_of procs.entry.now n; vars = vs }) p x c) × (result.count ≤ new_most) × (result.changes.count ≡ 0) }
+    ensures { ((vs : List (Option Term)) → applied_of result ≡ or_par_heard (is_tag seq_search (at (procs_of procs.entry.now n) c).tag) (program_of image.now rels clauses) (record { procs = procs_of procs.entry.now n; vars = vs }) p x c) × (result.count ≤ new_most) × (result.changes.count ≡ 0) }
 {
     let y = rows::get(procs, n, c);
     if y.tag != codes::SEQ_SEARCH {
         return move_plan::report(Move::OrParSuccess(p), codes::SUCCESS, x);
     }
     let child = body_child(image, rels, clauses, ix, p, y.spot.found, y.spot.first);
-    move_plan::make_one(Move::OrParSpawn(n), x, Found::At(c), child)
+    move_plan::make_one(Move::OrParSpawn(n), x, Some(c), child)
 }
 
 // Waits for the search, then for the body.
@@ -113,20 +111,19 @@ pub fn wait_or_par(
     told: Told,
 ) -> Plan
     requires { (rels ≤ 32) × (clauses ≤ 64) × (n * row_size ≤ length procs.now) × (n ≤ 65535) × (p < n) × Tells (procs_of procs.now n) p told × Indexed image.now rels clauses ix.now }
-    ensures { ((vs : List Binding) → applied_of result ≡ wait_rule or_par (program_of image.now rels clauses) (record { procs = procs_of procs.entry.now n; vars = vs }) p x) × (result.count ≤ new_most) × (result.changes.count ≡ 0) }
+    ensures { ((vs : List (Option Term)) → applied_of result ≡ wait_rule or_par (program_of image.now rels clauses) (record { procs = procs_of procs.entry.now n; vars = vs }) p x) × (result.count ≤ new_most) × (result.changes.count ≡ 0) }
 {
-    let h = told.latest;
-    match h {
+    match told.latest {
         News::Silent => move_plan::none(),
         News::Good(c) => or_par_heard(image, rels, clauses, ix, procs, n, p, x, c),
-        News::Bad(c) => move_plan::report(Move::OrParFailure(p), codes::FAILURE, x),
+        News::Bad(_) => move_plan::report(Move::OrParFailure(p), codes::FAILURE, x),
     }
 }
 
 // ---- seq-search
 
 // At block b, with a process that tries it.
-fn searching(mv: Move, b: u8, p: usize, x: Process, nap: Found) -> Plan
+fn searching(mv: Move, b: u8, p: usize, x: Process, nap: Option<usize>) -> Plan
     requires { p ≤ 65535 }
     ensures { (applied_of result ≡ by_rule mv (searching b p x nap)) × (result.count ≤ new_most) × (result.changes.count ≡ 0) }
 {
@@ -169,7 +166,7 @@ pub fn start_seq_search(
     if count == 0 {
         return move_plan::report(Move::SeqSearchNone(p), codes::FAILURE, x);
     }
-    searching(Move::SeqSearchStart(n), 0, p, x, Found::Nothing)
+    searching(Move::SeqSearchStart(n), 0, p, x, None)
 }
 
 // Child c tells failure: tries the block behind, if there is one.
@@ -191,7 +188,7 @@ fn next_block(
     if count <= b as usize {
         return move_plan::report(Move::SeqSearchFailure(p), codes::FAILURE, x);
     }
-    searching(Move::SeqSearchNext(n), b, p, x, Found::At(c))
+    searching(Move::SeqSearchNext(n), b, p, x, Some(c))
 }
 
 // Waits for a block that succeeds.
@@ -207,10 +204,9 @@ pub fn wait_seq_search(
     told: Told,
 ) -> Plan
     requires { (rels ≤ 32) × (clauses ≤ 64) × (n * row_size ≤ length procs.now) × (n ≤ 65535) × (p < n) × (x.spot.block < 255) × Tells (procs_of procs.now n) p told × Indexed image.now rels clauses ix.now }
-    ensures { ((vs : List Binding) → applied_of result ≡ wait_rule seq_search (program_of image.now rels clauses) (record { procs = procs_of procs.entry.now n; vars = vs }) p x) × (result.count ≤ new_most) × (result.changes.count ≡ 0) }
+    ensures { ((vs : List (Option Term)) → applied_of result ≡ wait_rule seq_search (program_of image.now rels clauses) (record { procs = procs_of procs.entry.now n; vars = vs }) p x) × (result.count ≤ new_most) × (result.changes.count ≡ 0) }
 {
-    let h = told.latest;
-    match h {
+    match told.latest {
         News::Silent => move_plan::none(),
         News::Good(c) => commit(Move::SeqSearchSuccess(p), procs, n, c, x),
         News::Bad(c) => next_block(image, rels, clauses, ix, n, p, x, c),
@@ -269,10 +265,8 @@ fn try_all(
     ensures { (procs_of rows.new size ≡ tries (program_of image.now rels clauses) p z m (block_of (program_of image.now rels clauses) rel b)) × (result ≡ m + tries_vars (program_of image.now rels clauses) (block_of (program_of image.now rels clauses) rel b)) }
 {
     let mut v = m;
-    let mut j = 0;
-    while j < size {
+    for j in 0..size {
         v = try_one(image, rels, clauses, ix, rows, p, z, rel, b, j, v);
-        j += 1;
     }
     v
 }
@@ -300,19 +294,12 @@ pub fn start_or_search(
     );
     let me = move_plan::with_mode(x, codes::WAITING);
     let first = move_plan::touched(n, p, size);
-    move_plan::make(
-        Move::OrSearchStart(first),
-        me,
-        Found::Nothing,
-        size,
-        new,
-        v - m,
-    )
+    move_plan::make(Move::OrSearchStart(first), me, None, size, new, v - m)
 }
 
 // No child tells success: fails if all tell failure.
 fn or_search_none(hopeless: bool, p: usize, x: Process) -> Plan
-    ensures { ((s : State) → applied_of result ≡ or_search_wait Nothing hopeless s p x) × (result.count ≤ new_most) × (result.changes.count ≡ 0) }
+    ensures { ((s : State) → applied_of result ≡ or_search_wait None hopeless s p x) × (result.count ≤ new_most) × (result.changes.count ≡ 0) }
 {
     if hopeless {
         return move_plan::report(Move::OrSearchFailure(p), codes::FAILURE, x);
@@ -323,10 +310,9 @@ fn or_search_none(hopeless: bool, p: usize, x: Process) -> Plan
 // Commits to the first clause that succeeds.
 pub fn wait_or_search(procs: &[u8], n: usize, p: usize, x: Process, told: Told) -> Plan
     requires { (n * row_size ≤ length procs.now) × (n ≤ 65535) × (p < n) × Tells (procs_of procs.now n) p told }
-    ensures { ((pr : Program) (vs : List Binding) → applied_of result ≡ wait_rule or_search pr (record { procs = procs_of procs.entry.now n; vars = vs }) p x) × (result.count ≤ new_most) × (result.changes.count ≡ 0) }
+    ensures { ((pr : Program) (vs : List (Option Term)) → applied_of result ≡ wait_rule or_search pr (record { procs = procs_of procs.entry.now n; vars = vs }) p x) × (result.count ≤ new_most) × (result.changes.count ≡ 0) }
 {
-    let f = told.lowest;
-    let Found::At(c) = f else {
+    let Some(c) = told.lowest else {
         return or_search_none(told.hopeless, p, x);
     };
     commit(Move::OrSearchCommit(p), procs, n, c, x)

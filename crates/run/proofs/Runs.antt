@@ -1,4 +1,5 @@
 -- What a run comes to, by what its next turn is; and the loop of a run.
+use Rattle.std.specs.Prelude.{Ok, Some, None}
 use mathlib.Core.Path.{◌∙◌, ◌≡◌, ap, refl}
 use mathlib.Core.Logic.{◌≢◌}
 use mathlib.Core.Bool.{Bool, false, not, true}
@@ -16,9 +17,7 @@ use Rattle.parlog.specs.Run.{end_of, goal_ended, goal_result, halt, made, run_fr
 use Rattle.parlog.specs.Tables.{Lent, proc_count, put_tables, Tables, tables_in, var_count}
 use Rattle.parlog.specs.declared.End.{End}
 use Rattle.parlog.specs.declared.End.TheVariants.{Budget, Failure, Room, Success, Waiting}
-use Rattle.parlog.specs.declared.Found.TheVariants.{At, Nothing}
 use Rattle.parlog.specs.declared.Move.{Move}
-use Rattle.parlog.specs.declared.Ran.TheVariants.{Ended}
 use Rattle.rows.proofs.Exact.{table-bytes}
 use Rattle.rows.proofs.Tables.{procs-length, table_same}
 use Rattle.rows.specs.Rows.{Bytes}
@@ -54,12 +53,12 @@ module _ (lim : Limits) (pr : Program) (t : Tables) where
   run-ended (suc k) n e = rw e
 
   module _ (e : goal_ended t ≡ false) where
-    pub run-waits : (k n : ℕ) → turn_for pr t ≡ Nothing → run_from k lim pr n t ≡ halt Waiting n t
+    pub run-waits : (k n : ℕ) → turn_for pr t ≡ None → run_from k lim pr n t ≡ halt Waiting n t
     unfolding run_from run_test run_turn
     run-waits zero n f = rw (e, f)
     run-waits (suc k) n f = rw (e, f)
 
-    module _ {p : ℕ} (f : turn_for pr t ≡ At p) where
+    module _ {p : ℕ} (f : turn_for pr t ≡ Some p) where
       pub run-spent : (n : ℕ) → run_from 0 lim pr n t ≡ halt Budget n t
       unfolding run_from run_test run_turn
       run-spent n = rw (e, f)
@@ -122,7 +121,7 @@ module _ (lim : Limits) (s : List ℕ) (r c : ℕ) (l₀ : Lent) (limit : ℕ) w
 
   module _ (i₀ : Inside lim s r c l₀) (l : Lent) (k : ℕ) (g : Going lim s r c l₀ l limit k) where
     -- the run comes to this
-    pub comes-to : (e : End) → run_from (limit - k) lim (program_of s r c) k (tables_in l) ≡ halt e k (tables_in l) → RanSays lim s r c l₀ limit (Ended e k) l
+    pub comes-to : (e : End) → run_from (limit - k) lim (program_of s r c) k (tables_in l) ≡ halt e k (tables_in l) → RanSays lim s r c l₀ limit (Ok (e, k)) l
     comes-to e q =
         let z : run_tables limit lim (program_of s r c) (tables_in l₀) ≡ halt e k (tables_in l) = unfold run_tables in (g.rest ∙ q) in
         record { answer = rw z; head = rw z g.holds.head; procs = rw z g.holds.procs; vars = rw z g.holds.vars }

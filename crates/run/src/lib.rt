@@ -11,13 +11,13 @@ ghost use Rattle.program_index.specs.Indexed.{Indexed};
 ghost use Rattle.run.specs.Running.{LookSays, RanSays, RunSays, Turning, TurnedIn, TurnSays, WhoseSays};
 
 use children::Told;
-use parlog::{End, Found, Loaded, Ran, Stepped, codes};
+use parlog::{Answer, End, Move, codes};
 use turn_search::Turn;
 
 // What a run finds before a step: whose turn it is with what its children report, and the end where it is nobody's.
 #[derive(Clone, Copy)]
 pub struct View {
-    pub who: Found,
+    pub who: Option<usize>,
     pub told: Told,
     pub end: End,
 }
@@ -44,27 +44,27 @@ fn turn_in(
     head: &mut [u8],
     procs: &mut [u8],
     vars: &mut [u8],
-) -> Stepped
+) -> Answer<Move>
     requires { Inside small image.now rels clauses (lent head.old procs.old vars.old) × Indexed image.now rels clauses ix.now }
     ensures { TurnedIn small image.now rels clauses (lent head.old procs.old vars.old) result head.new procs.new vars.new }
 {
     let t = whose(head, procs, vars);
     let f = t.who;
-    let Found::At(p) = f else {
-        return Stepped::Unmoved(entry::refusal(codes::STILL));
+    let Some(p) = f else {
+        return Err(entry::refusal(codes::STILL));
     };
     step::stepped(image, rels, clauses, ix, head, procs, vars, p, t.told)
 }
 
 // The turn: the step of the first process that can move after the one stepped last.
-pub fn turn(image: &[u8], head: &mut [u8], procs: &mut [u8], vars: &mut [u8]) -> Stepped
+pub fn turn(image: &[u8], head: &mut [u8], procs: &mut [u8], vars: &mut [u8]) -> Answer<Move>
     ensures { TurnSays small image.now (lent head.old procs.old vars.old) result head.new procs.new vars.new }
 {
     let mut ix = [0u16; program_index::SIZE];
     let e = entry::enter(image, head, procs, vars, &mut ix);
-    let Loaded::Accepted(rels, clauses) = e else {
-        let r = load::refusal(e);
-        return Stepped::Unmoved(r);
+    let Ok((rels, clauses)) = e else {
+        let away = load::refusal(e);
+        return Err(away);
     };
     turn_in(image, rels, clauses, &ix, head, procs, vars)
 }
@@ -91,17 +91,17 @@ pub fn look(head: &[u8], procs: &[u8], vars: &[u8]) -> View
         let end = end_by(rows::result_at(procs, n, 0));
         let told = children::nothing();
         return View {
-            who: Found::Nothing,
-            told: told,
-            end: end,
+            who: None,
+            told,
+            end,
         };
     }
     let t = whose(head, procs, vars);
     let who = t.who;
     let told = t.told;
     View {
-        who: who,
-        told: told,
+        who,
+        told,
         end: End::Waiting,
     }
 }
@@ -116,39 +116,43 @@ fn going(
     procs: &mut [u8],
     vars: &mut [u8],
     limit: usize,
-) -> Ran
+) -> Answer<(End, usize)>
     requires { Inside small image.now rels clauses (lent head.old procs.old vars.old) × (limit ≤ 65535) × Indexed image.now rels clauses ix.now }
     ensures { RanSays small image.now rels clauses (lent head.old procs.old vars.old) limit result (lent head.new procs.new vars.new) }
 {
-    let mut k = 0;
-    while k <= limit {
+    for k in 0..=limit {
         let w = look(head, procs, vars);
         let f = w.who;
-        let Found::At(p) = f else {
+        let Some(p) = f else {
             let end = w.end;
-            return Ran::Ended(end, k);
+            return Ok((end, k));
         };
         if k == limit {
-            return Ran::Ended(End::Budget, k);
+            return Ok((End::Budget, k));
         }
         let a = step::stepped(image, rels, clauses, ix, head, procs, vars, p, w.told);
-        let Stepped::Moved(_) = a else {
-            return Ran::Ended(End::Room, k);
+        let Ok(_) = a else {
+            return Ok((End::Room, k));
         };
-        k += 1;
     }
-    Ran::Ended(End::Budget, k)
+    Ok((End::Budget, limit))
 }
 
 // The run: turns until the goal has ended, nothing can move, the limit is used up or a step has no room.
-pub fn run(image: &[u8], head: &mut [u8], procs: &mut [u8], vars: &mut [u8], limit: u16) -> Ran
+pub fn run(
+    image: &[u8],
+    head: &mut [u8],
+    procs: &mut [u8],
+    vars: &mut [u8],
+    limit: u16,
+) -> Answer<(End, usize)>
     ensures { RunSays small image.now (lent head.old procs.old vars.old) limit result head.new procs.new vars.new }
 {
     let mut ix = [0u16; program_index::SIZE];
     let e = entry::enter(image, head, procs, vars, &mut ix);
-    let Loaded::Accepted(rels, clauses) = e else {
+    let Ok((rels, clauses)) = e else {
         let r = load::refusal(e);
-        return Ran::Unrun(r);
+        return Err(r);
     };
     going(image, rels, clauses, &ix, head, procs, vars, limit as usize)
 }

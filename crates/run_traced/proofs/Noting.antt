@@ -1,4 +1,7 @@
 -- The ways through the run that records.
+use Rattle.parlog.specs.declared.End.{End}
+use Rattle.std.specs.Prelude.{Some, Ok, Err, None}
+use Rattle.parlog.specs.Answer.{Answer}
 use mathlib.Core.Path.{◌∙◌, ◌≡◌, ap, refl, sym}
 use mathlib.Core.Bool.{Bool, cond, false, true}
 use mathlib.Core.List.{[], List}
@@ -21,15 +24,8 @@ use Rattle.parlog.specs.Program.{Program, program_of}
 use Rattle.parlog.specs.Run.{goal_ended, made, turn_for}
 use Rattle.parlog.specs.Tables.{Lent, lent, tables_in}
 use Rattle.parlog.specs.declared.End.TheVariants.{Budget, Room}
-use Rattle.parlog.specs.declared.Found.TheVariants.{At, Nothing}
-use Rattle.parlog.specs.declared.Loaded.{Loaded}
-use Rattle.parlog.specs.declared.Loaded.TheVariants.{Accepted, Refused}
 use Rattle.parlog.specs.declared.Move.{Move}
-use Rattle.parlog.specs.declared.Ran.{Ran}
-use Rattle.parlog.specs.declared.Ran.TheVariants.{Ended, Unrun}
 use Rattle.parlog.specs.declared.Refusal.{Refusal}
-use Rattle.parlog.specs.declared.Stepped.{Stepped}
-use Rattle.parlog.specs.declared.Stepped.TheVariants.{Moved, Unmoved}
 use Rattle.rows.specs.Rows.{Bytes}
 use Rattle.run.proofs.Runs.{going_start, one_less}
 use Rattle.run.proofs.Turning.{going-none, going_on, going-room, going-spent, moved-is, run_ran, unmoved-is}
@@ -45,17 +41,17 @@ use Rattle.words.specs.Fits.{MoveWithin}
 
 -- ---- one move of a run
 
-module _ (lim : Limits) (s : List ℕ) (r c : ℕ) (l : Lent) (p : ℕ) {a : Stepped} {h ps vs : List ℕ} (x : SteppedSays lim s r c l p a h ps vs) where
-  pub rule-within : Usable lim → Inside lim s r c l → {m : Move} → a ≡ Moved m → MoveWithin 4294967295 m
+module _ (lim : Limits) (s : List ℕ) (r c : ℕ) (l : Lent) (p : ℕ) {a : Answer Move} {h ps vs : List ℕ} (x : SteppedSays lim s r c l p a h ps vs) where
+  pub rule-within : Usable lim → Inside lim s r c l → {m : Move} → a ≡ Ok m → MoveWithin 4294967295 m
   rule-within ok i {m} e =
       let z = moved-is (step_in lim s r c l p) l (tables_in l) (sym x.answer ∙ e) in
       rw z at (step-within lim ok (program_of s r c) (tables_in l) (omega (arith, count-procs l, i.procs_most)) p)
 
   module _ (row : List ℕ) (place stamp : ℕ) where
-    pub move-kept : {f : Refusal} → a ≡ Unmoved f → MoveSays lim s r c l row p place stamp a h ps vs row
-    move-kept e = record { step = x; row_is = rw e (sym (laid_none row place)) }
+    pub move-kept : {f : Refusal} → a ≡ Err f → MoveSays lim s r c l row p place stamp (Err f) h ps vs row
+    move-kept e = record { step = rw e at x; row_is = sym (laid_none row place) }
 
-    pub move_noted : {m : Move} → a ≡ Moved m → {rule : ℕ} → rule ≡ rule_number m → {w : List ℕ} → w ≡ laid row place (record_bytes step_kind p rule stamp) → MoveSays lim s r c l row p place stamp (Moved m) h ps vs w
+    pub move_noted : {m : Move} → a ≡ Ok m → {rule : ℕ} → rule ≡ rule_number m → {w : List ℕ} → w ≡ laid row place (record_bytes step_kind p rule stamp) → MoveSays lim s r c l row p place stamp (Ok m) h ps vs w
     move_noted e er ew = record { step = rw e at x; row_is = rw (← er) ew }
 
 -- ---- the loop of a run
@@ -78,23 +74,23 @@ module _ (lim : Limits) (s : List ℕ) (r c : ℕ) (l₀ : Lent) (row₀ : List 
     ends : run_records (limit - k) lim prog stamp (tables_in l) ≡ [] → row ≡ laid row₀ 0 (run_records limit lim prog stamp₀ (tables_in l₀))
     ends e = sym (g.row_is ∙ ap (λ (bs : List ℕ). laid row (k * trace_size) bs) e ∙ laid_none row (k * trace_size))
 
-    pub traced-none : w.who ≡ Nothing → RanTraced lim s r c l₀ row₀ limit stamp₀ (Ended w.end k) l row
+    pub traced-none : w.who ≡ None → RanTraced lim s r c l₀ row₀ limit stamp₀ (Ok (w.end, k)) l row
     traced-none q = record { ran = going-none lim s r c l₀ limit i₀ l k g.going d q; row_is = ends (records-none lim prog stamp (tables_in l) (sym (d.who prog) ∙ q) (limit - k)) }
 
-    module _ {p : ℕ} (q : w.who ≡ At p) where
-      whose : unless_ended (goal_ended (tables_in l)) (turn_for prog (tables_in l)) ≡ At p
+    module _ {p : ℕ} (q : w.who ≡ Some p) where
+      whose : unless_ended (goal_ended (tables_in l)) (turn_for prog (tables_in l)) ≡ Some p
       whose = sym (d.who prog) ∙ q
 
-      pub traced-spent : k ≡ limit → RanTraced lim s r c l₀ row₀ limit stamp₀ (Ended Budget k) l row
+      pub traced-spent : k ≡ limit → RanTraced lim s r c l₀ row₀ limit stamp₀ (Ok (Budget, k)) l row
       traced-spent e =
           let z : limit - k ≡ 0 = omega arith in
           record { ran = going-spent lim s r c l₀ limit i₀ l k g.going d q e; row_is = ends (rw z (unfold run_records in refl)) }
 
-      module _ (ne : k ≡ limit → ⊥) {a : Stepped} {h ps vs b : List ℕ} (x : MoveSays lim s r c l row p (k * trace_size) stamp a h ps vs b) where
+      module _ (ne : k ≡ limit → ⊥) {a : Answer Move} {h ps vs b : List ℕ} (x : MoveSays lim s r c l row p (k * trace_size) stamp a h ps vs b) where
         one : limit - k ≡ suc (limit - (k + 1))
         one = let m = g.going.most in let u = ne in one_less limit k (omega (arith, m, u))
 
-        pub traced-room : {f : Refusal} → a ≡ Unmoved f → RanTraced lim s r c l₀ row₀ limit stamp₀ (Ended Room k) (lent h ps vs) b
+        pub traced-room : {f : Refusal} → a ≡ Err f → RanTraced lim s r c l₀ row₀ limit stamp₀ (Ok (Room, k)) (lent h ps vs) b
         traced-room e =
             let (j, y) = unmoved-is (step_in lim s r c l p) l (sym x.step.answer ∙ e) in
             let same : b ≡ row = (rw e at x.row_is) ∙ laid_none row (k * trace_size) in
@@ -103,7 +99,7 @@ module _ (lim : Limits) (s : List ℕ) (r c : ℕ) (l₀ : Lent) (row₀ : List 
               row_is = same ∙ ends (rw one (records-room lim prog stamp (tables_in l) whose y (limit - (k + 1))));
             }
 
-        pub traced-on : {m : Move} → a ≡ Moved m → {next : ℕ} → next ≡ following stamp → GoingTraced lim s r c l₀ (lent h ps vs) row₀ b limit (k + 1) stamp₀ next
+        pub traced-on : {m : Move} → a ≡ Ok m → {next : ℕ} → next ≡ following stamp → GoingTraced lim s r c l₀ (lent h ps vs) row₀ b limit (k + 1) stamp₀ next
         traced-on {m} e en =
             let z = moved-is (step_in lim s r c l p) l (tables_in l) (sym x.step.answer ∙ e) in
             let y : step_in lim s r c l p ≡ made m (tables_in (lent h ps vs)) = rw x.step.tables z in
@@ -129,12 +125,12 @@ moves-most bytes limit = go (ltb (bytes / trace_size) limit) refl
     go true e = omega (arith, ltb-true (bytes / trace_size) limit e)
     go false e = omega arith
 
-module _ (lim : Limits) (s : List ℕ) (l : Lent) (row : List ℕ) (limit stamp : ℕ) {e : Loaded} (door : EnterSays lim s l e) where
-  pub run_away : {f g : Refusal} → e ≡ Refused f → g ≡ refusal_of e → RowSays (run_traced_call lim s l row limit stamp) (Unrun g) l.head l.procs l.vars row
+module _ (lim : Limits) (s : List ℕ) (l : Lent) (row : List ℕ) (limit stamp : ℕ) {e : Answer (ℕ × ℕ)} (door : EnterSays lim s l e) where
+  pub run_away : {f g : Refusal} → e ≡ Err f → g ≡ refusal_of e → RowSays (run_traced_call lim s l row limit stamp) (Err g) l.head l.procs l.vars row
   unfolding run_traced_call run_call
   run_away q eg = row-says (rw (door.entry, eg, q, laid_none row 0))
 
-  pub run-noted : {r c : ℕ} → e ≡ Accepted r c → {n : ℕ} → n ≡ moves_for (length row) limit → {a : Ran} {h ps vs w : List ℕ} → RanTraced lim s r c l row n stamp a (lent h ps vs) w
+  pub run-noted : {r c : ℕ} → e ≡ Ok (r, c) → {n : ℕ} → n ≡ moves_for (length row) limit → {a : Answer (End × ℕ)} {h ps vs w : List ℕ} → RanTraced lim s r c l row n stamp a (lent h ps vs) w
       → RowSays (run_traced_call lim s l row limit stamp) a h ps vs w
   unfolding run_traced_call
   run-noted {r} {c} q {n} en x =

@@ -1,4 +1,5 @@
 -- The records of a run, by what its next turn is.
+use Rattle.std.specs.Prelude.{Some, None}
 use mathlib.Core.Path.{◌∙◌, ◌≡◌, refl, sym}
 use mathlib.Core.List.{[], ◌++◌, List}
 use Prim.Native.Nat.{◌*◌, ◌+◌, suc, zero, ℕ}
@@ -11,19 +12,18 @@ use Rattle.parlog.specs.Numbers.{rule_number}
 use Rattle.parlog.specs.Program.{Program}
 use Rattle.parlog.specs.Run.{goal_ended, made, step_tables, turn_for, unmade}
 use Rattle.parlog.specs.Tables.{Tables}
-use Rattle.parlog.specs.declared.Found.TheVariants.{At, Nothing}
 use Rattle.parlog.specs.declared.Move.{Move}
 use Rattle.run.specs.Running.{unless_ended}
 use Rattle.run_traced.specs.Traced.{run_records}
 use Rattle.trace.specs.Trace.{following, record_bytes, step_kind, trace_size}
 
 module _ (lim : Limits) (pr : Program) (stamp : ℕ) (t : Tables) where
-  pub records-none : unless_ended (goal_ended t) (turn_for pr t) ≡ Nothing → (n : ℕ) → run_records n lim pr stamp t ≡ []
+  pub records-none : unless_ended (goal_ended t) (turn_for pr t) ≡ None → (n : ℕ) → run_records n lim pr stamp t ≡ []
   unfolding run_records
   records-none e zero = refl
   records-none e (suc n) = rw e
 
-  module _ {p : ℕ} (e : unless_ended (goal_ended t) (turn_for pr t) ≡ At p) where
+  module _ {p : ℕ} (e : unless_ended (goal_ended t) (turn_for pr t) ≡ Some p) where
     pub records-room : {j : ℕ} → step_tables lim pr t p ≡ unmade j → (n : ℕ) → run_records (suc n) lim pr stamp t ≡ []
     unfolding run_records
     records-room g n = rw (e, g)

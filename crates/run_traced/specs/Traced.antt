@@ -1,5 +1,8 @@
 -- The run that records: the records of its moves, and the call with one row more.
-use Rattle.std.specs.Prelude.{◌≡◌, cond, [], ◌++◌, List, ◌*◌, ◌-◌, ◌/◌, suc, zero, ℕ, ltb, length}
+use Rattle.parlog.specs.declared.Move.{Move}
+use Rattle.parlog.specs.declared.End.{End}
+use Rattle.parlog.specs.Answer.{Answer}
+use Rattle.std.specs.Prelude.{◌≡◌, cond, [], ◌++◌, List, ◌*◌, ◌-◌, ◌/◌, suc, zero, ℕ, ltb, length, Option, Some, None}
 use Rattle.bound.specs.Calls.{RowCall}
 use Rattle.lay.specs.Lay.{laid}
 use Rattle.parlog.specs.Calls.{enter, entered, Entry, run_call, turned_away}
@@ -8,10 +11,6 @@ use Rattle.parlog.specs.Numbers.{rule_number}
 use Rattle.parlog.specs.Program.{Program, program_of}
 use Rattle.parlog.specs.Run.{goal_ended, made, Stepping, step_tables, turn_for, unmade}
 use Rattle.parlog.specs.Tables.{Lent, Tables, tables_in}
-use Rattle.parlog.specs.declared.Found.{Found}
-use Rattle.parlog.specs.declared.Found.TheVariants.{At, Nothing}
-use Rattle.parlog.specs.declared.Ran.{Ran}
-use Rattle.parlog.specs.declared.Stepped.{Stepped}
 use Rattle.run.specs.Running.{Going, RanSays, unless_ended}
 use Rattle.step.specs.Stepping.{SteppedSays}
 use Rattle.trace.specs.Trace.{following, record_bytes, step_kind, trace_size}
@@ -25,9 +24,9 @@ record_then (unmade k) p stamp go = []
 record_then (made m t) p stamp go = record_bytes step_kind p (rule_number m) stamp ++ go t
 
 -- Traces 11: that of whose turn it is
-abbrev pub record_turn : Found → (ℕ → List ℕ) → List ℕ
-record_turn Nothing go = []
-record_turn (At p) go = go p
+abbrev pub record_turn : Option ℕ → (ℕ → List ℕ) → List ℕ
+record_turn None go = []
+record_turn (Some p) go = go p
 
 -- Traces 11: of at most n moves from these tables on, the first with this stamp
 unfoldable pub run_records : ℕ → Limits → Program → ℕ → Tables → List ℕ
@@ -46,17 +45,17 @@ records_of (turned_away r) n lim stamp = []
 records_of (entered pr t) n lim stamp = run_records n lim pr stamp t
 
 -- Traces 11: the plain run of so many moves, and the records of those that it makes
-abbrev pub run_traces : ℕ → Limits → List ℕ → Lent → List ℕ → ℕ → RowCall Ran
+abbrev pub run_traces : ℕ → Limits → List ℕ → Lent → List ℕ → ℕ → RowCall (Answer (End × ℕ))
 run_traces n lim s l row stamp = record { answer = (run_call lim s l n).answer; lent = (run_call lim s l n).lent; row = laid row 0 (records_of (enter lim s l) n lim stamp) }
 
 -- Traces 11: the run
-unfoldable pub run_traced_call : Limits → List ℕ → Lent → List ℕ → ℕ → ℕ → RowCall Ran
+unfoldable pub run_traced_call : Limits → List ℕ → Lent → List ℕ → ℕ → ℕ → RowCall (Answer (End × ℕ))
 run_traced_call lim s l row limit stamp = run_traces (moves_for (length row) limit) lim s l row stamp
 
 -- ---- contracts
 
 -- one move of a run: the plain step, and its record at this place
-pub record MoveSays (lim : Limits) (s : List ℕ) (r c : ℕ) (l : Lent) (row : List ℕ) (p place stamp : ℕ) (a : Stepped) (h ps vs w : List ℕ) : Type 0 where
+pub record MoveSays (lim : Limits) (s : List ℕ) (r c : ℕ) (l : Lent) (row : List ℕ) (p place stamp : ℕ) (a : Answer Move) (h ps vs w : List ℕ) : Type 0 where
   pub step : SteppedSays lim s r c l p a h ps vs
   pub row_is : w ≡ laid row place (move_record a p stamp)
 
@@ -66,6 +65,6 @@ pub record GoingTraced (lim : Limits) (s : List ℕ) (r c : ℕ) (l₀ l : Lent)
   pub row_is : laid row₀ 0 (run_records limit lim (program_of s r c) stamp₀ (tables_in l₀)) ≡ laid row (k * trace_size) (run_records (limit - k) lim (program_of s r c) stamp (tables_in l))
 
 -- Traces 11: a run in good tables
-pub record RanTraced (lim : Limits) (s : List ℕ) (r c : ℕ) (l : Lent) (row : List ℕ) (limit stamp : ℕ) (a : Ran) (l' : Lent) (w : List ℕ) : Type 0 where
+pub record RanTraced (lim : Limits) (s : List ℕ) (r c : ℕ) (l : Lent) (row : List ℕ) (limit stamp : ℕ) (a : Answer (End × ℕ)) (l' : Lent) (w : List ℕ) : Type 0 where
   pub ran : RanSays lim s r c l limit a l'
   pub row_is : w ≡ laid row 0 (run_records limit lim (program_of s r c) stamp (tables_in l))

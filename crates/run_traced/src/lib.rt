@@ -11,7 +11,7 @@ ghost use Rattle.program_index.specs.Indexed.{Indexed};
 ghost use Rattle.run_traced.specs.Traced.{MoveSays, moves_for, RanTraced, run_traced_call};
 
 use children::Told;
-use parlog::{End, Found, Loaded, Ran, Stepped};
+use parlog::{Answer, End, Move};
 
 // One move of a run, and its record at this place.
 fn move_noted(
@@ -27,17 +27,14 @@ fn move_noted(
     told: Told,
     place: usize,
     stamp: u16,
-) -> Stepped
+) -> Answer<Move>
     requires { Inside small image.now rels clauses (lent head.old procs.old vars.old) × (p < proc_count head.old) × ((at (procs_of procs.old (proc_count head.old)) p).mode ≡ 3 → Tells (procs_of procs.old (proc_count head.old)) p told) × Indexed image.now rels clauses ix.now × (place ≤ 4294967280) }
     ensures { MoveSays small image.now rels clauses (lent head.old procs.old vars.old) trace.old p place stamp result head.new procs.new vars.new trace.new }
 {
-    let a = step::stepped(image, rels, clauses, ix, head, procs, vars, p, told);
-    let Stepped::Moved(m) = a else {
-        return a;
-    };
+    let m = step::stepped(image, rels, clauses, ix, head, procs, vars, p, told)?;
     let rule = words::rule_number(m);
     trace::put_record(trace, place, trace::STEP, p, rule, stamp);
-    a
+    Ok(m)
 }
 
 // A run in tables that keep the rules: each move leaves its record behind those before.
@@ -52,21 +49,20 @@ fn going(
     trace: &mut [u8],
     limit: usize,
     stamp: u16,
-) -> Ran
+) -> Answer<(End, usize)>
     requires { Inside small image.now rels clauses (lent head.old procs.old vars.old) × (limit ≤ 65535) × Indexed image.now rels clauses ix.now }
     ensures { RanTraced small image.now rels clauses (lent head.old procs.old vars.old) trace.old limit stamp result (lent head.new procs.new vars.new) trace.new }
 {
-    let mut k = 0;
     let mut next = stamp;
-    while k <= limit {
+    for k in 0..=limit {
         let w = run::look(head, procs, vars);
         let f = w.who;
-        let Found::At(p) = f else {
+        let Some(p) = f else {
             let end = w.end;
-            return Ran::Ended(end, k);
+            return Ok((end, k));
         };
         if k == limit {
-            return Ran::Ended(End::Budget, k);
+            return Ok((End::Budget, k));
         }
         let a = move_noted(
             image,
@@ -82,13 +78,12 @@ fn going(
             k * trace::SIZE,
             next,
         );
-        let Stepped::Moved(_) = a else {
-            return Ran::Ended(End::Room, k);
+        let Ok(_) = a else {
+            return Ok((End::Room, k));
         };
         next = trace::following(next);
-        k += 1;
     }
-    Ran::Ended(End::Budget, k)
+    Ok((End::Budget, limit))
 }
 
 // How many moves a run may make whose records have so many bytes.
@@ -111,14 +106,14 @@ pub fn run_traced(
     trace: &mut [u8],
     limit: u16,
     stamp: u16,
-) -> Ran
+) -> Answer<(End, usize)>
     ensures { RowSays (run_traced_call small image.now (lent head.old procs.old vars.old) trace.old limit stamp) result head.new procs.new vars.new trace.new }
 {
     let mut ix = [0u16; program_index::SIZE];
     let e = entry::enter(image, head, procs, vars, &mut ix);
-    let Loaded::Accepted(rels, clauses) = e else {
+    let Ok((rels, clauses)) = e else {
         let r = load::refusal(e);
-        return Ran::Unrun(r);
+        return Err(r);
     };
     let most = moves_for(trace.len(), limit as usize);
     going(

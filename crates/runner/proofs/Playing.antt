@@ -1,4 +1,7 @@
 -- A start and a run: what the tables hold then.
+use Rattle.parlog.specs.declared.End.{End}
+use Rattle.std.specs.Prelude.{⊤, Ok}
+use Rattle.parlog.specs.Answer.{Answer}
 use mathlib.Core.Path.{◌∙◌, ◌≡◌}
 use mathlib.Core.Bool.{true}
 use mathlib.Core.List.{List}
@@ -17,10 +20,6 @@ use Rattle.parlog.specs.Program.{Program, program_of}
 use Rattle.parlog.specs.Run.{Running, run_tables}
 use Rattle.parlog.specs.TableRules.{tables_ok}
 use Rattle.parlog.specs.Tables.{cell_size, fresh_tables, head_size, Lent, put_tables, row_size, started_lent, var_count, vars_in}
-use Rattle.parlog.specs.declared.Loaded.TheVariants.{Accepted}
-use Rattle.parlog.specs.declared.Ran.{Ran}
-use Rattle.parlog.specs.declared.Ran.TheVariants.{Ended}
-use Rattle.parlog.specs.declared.Started.{Started}
 use Rattle.run.specs.Running.{RunSays}
 
 -- ---- what the runner counts on after its run
@@ -29,14 +28,14 @@ use Rattle.run.specs.Running.{RunSays}
 abbrev pub the_run : Limits → Program → Running
 the_run lim pr = run_tables 60000 lim pr (fresh_tables pr)
 
-pub record Played (lim : Limits) (pr : Program) (a : Ran) (h v : List ℕ) : Type 0 where
-  pub answer : a ≡ Ended (the_run lim pr).end (the_run lim pr).moves
+pub record Played (lim : Limits) (pr : Program) (a : Answer (End × ℕ)) (h v : List ℕ) : Type 0 where
+  pub answer : a ≡ Ok ((the_run lim pr).end, (the_run lim pr).moves)
   pub head : length h ≡ head_size
   pub cells : var_count h * cell_size ≤ length v
   pub goal : pr.goal_vars ≤ var_count h
   pub vars : vars_in v (var_count h) ≡ (the_run lim pr).tables.state.vars
 
-module _ (lim : Limits) (usable : Usable lim) (s : List ℕ) (r c : ℕ) (el : load_of s ≡ Accepted r c) (few : (program_of s r c).goal_vars ≤ 255) where
+module _ (lim : Limits) (usable : Usable lim) (s : List ℕ) (r c : ℕ) (el : load_of s ≡ Ok (r, c)) (few : (program_of s r c).goal_vars ≤ 255) where
   -- a start over rows of the full size
   begins : (l : Lent) → length l.head ≡ head_size → length l.procs ≡ lim.procs * row_size → length l.vars ≡ lim.vars * cell_size → (start_call lim s l).lent ≡ started_lent lim (program_of s r c)
   unfolding start_call
@@ -51,7 +50,7 @@ module _ (lim : Limits) (usable : Usable lim) (s : List ℕ) (r c : ℕ) (el : l
   good-run = run-keeps lim (program_of s r c) (accepted-sane s r c el) 60000 (fresh_tables (program_of s r c)) (fresh-good lim usable (program_of s r c) few)
 
   ran : run_call lim s (started_lent lim (program_of s r c)) 60000 ≡ record {
-    answer = Ended (the_run lim (program_of s r c)).end (the_run lim (program_of s r c)).moves;
+    answer = Ok ((the_run lim (program_of s r c)).end, (the_run lim (program_of s r c)).moves);
     lent = put_tables (started_lent lim (program_of s r c)) (the_run lim (program_of s r c)).tables;
   }
   unfolding run_call
@@ -63,7 +62,7 @@ module _ (lim : Limits) (usable : Usable lim) (s : List ℕ) (r c : ℕ) (el : l
       let k = assume-counts lim (program_of s r c) t.state (tables-state lim (program_of s r c) t good-run) in
       (k.0, k.2, k.3)
 
-  from-run : (a : Ran) (h v : List ℕ) → a ≡ Ended (the_run lim (program_of s r c)).end (the_run lim (program_of s r c)).moves
+  from-run : (a : Answer (End × ℕ)) (h v : List ℕ) → a ≡ Ok ((the_run lim (program_of s r c)).end, (the_run lim (program_of s r c)).moves)
       → h ≡ (put_tables (started_lent lim (program_of s r c)) (the_run lim (program_of s r c)).tables).head → v ≡ (put_tables (started_lent lim (program_of s r c)) (the_run lim (program_of s r c)).tables).vars
       → Played lim (program_of s r c) a h v
   from-run a h v ea eh ev =
@@ -76,7 +75,7 @@ module _ (lim : Limits) (usable : Usable lim) (s : List ℕ) (r c : ℕ) (el : l
       let w : length v ≡ length l.vars = rw ev (vars-sized l t n) in
       record { answer = ea; head = rw eh (head-sized l t); cells = omega (arith, m, w, n); goal = omega (arith, m, k.1); vars = rw (eh, ev) (vars-back l t n) }
 
-  played : (l l₁ : Lent) {b : Started} {a : Ran} {h p v : List ℕ} → length l.head ≡ head_size → length l.procs ≡ lim.procs * row_size → length l.vars ≡ lim.vars * cell_size
+  played : (l l₁ : Lent) {b : Answer ⊤} {a : Answer (End × ℕ)} {h p v : List ℕ} → length l.head ≡ head_size → length l.procs ≡ lim.procs * row_size → length l.vars ≡ lim.vars * cell_size
       → StartSays lim s l b l₁.head l₁.procs l₁.vars → RunSays lim s l₁ 60000 a h p v → Played lim (program_of s r c) a h v
   played l l₁ {a = a} {h = h} {v = v} nh np nv st ru =
       let e = begins l nh np nv in
@@ -85,7 +84,7 @@ module _ (lim : Limits) (usable : Usable lim) (s : List ℕ) (r c : ℕ) (el : l
       from-run a h v (q.answer ∙ rw ran) (q.head ∙ rw ran) (q.vars ∙ rw ran)
 
 -- THE LAW: what the runner counts on once it has started and run an accepted image
-pub plays : (lim : Limits) → Usable lim → (s : List ℕ) (r c : ℕ) {g : ℕ} (l l₁ : Lent) {b : Started} {a : Ran} {h p v : List ℕ} → load_of s ≡ Accepted r c → g ≡ (program_of s r c).goal_vars → g ≤ 255
+pub plays : (lim : Limits) → Usable lim → (s : List ℕ) (r c : ℕ) {g : ℕ} (l l₁ : Lent) {b : Answer ⊤} {a : Answer (End × ℕ)} {h p v : List ℕ} → load_of s ≡ Ok (r, c) → g ≡ (program_of s r c).goal_vars → g ≤ 255
     → length l.head ≡ head_size → length l.procs ≡ lim.procs * row_size → length l.vars ≡ lim.vars * cell_size
     → StartSays lim s l b l₁.head l₁.procs l₁.vars → RunSays lim s l₁ 60000 a h p v → Played lim (program_of s r c) a h v
 plays lim ok s r c l l₁ el eg hg nh np nv st ru = played lim ok s r c el (rw eg at hg) l l₁ nh np nv st ru

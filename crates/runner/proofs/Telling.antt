@@ -1,4 +1,7 @@
 -- The runner's text from its lines.
+use Rattle.parlog.proofs.Answered.{ok-both}
+use Rattle.std.specs.Prelude.{Option, Err, Ok}
+use Rattle.parlog.specs.Answer.{Answer}
 use mathlib.Core.Path.{◌∙◌, ◌≡◌, ap, refl, sym}
 use mathlib.Core.List.{[], ◌++◌, List}
 use Prim.Native.Nat.{◌*◌, ◌+◌, ◌-◌, ◌<◌, ◌≤◌, suc, ℕ}
@@ -13,12 +16,7 @@ use Rattle.parlog.specs.Program.{Program, program_of}
 use Rattle.parlog.specs.Tables.{var_count, vars_in}
 use Rattle.parlog.specs.Text.{refused_text, runner_text, run_text, var_line, var_lines}
 use Rattle.parlog.specs.Unify.{value}
-use Rattle.parlog.specs.declared.Binding.{Binding}
 use Rattle.parlog.specs.declared.End.{End}
-use Rattle.parlog.specs.declared.Loaded.{Loaded}
-use Rattle.parlog.specs.declared.Loaded.TheVariants.{Accepted, Refused}
-use Rattle.parlog.specs.declared.Ran.{Ran}
-use Rattle.parlog.specs.declared.Ran.TheVariants.{Ended, Unrun}
 use Rattle.parlog.specs.declared.Refusal.{Refusal}
 use Rattle.parlog.specs.declared.Term.{Term}
 use Rattle.parlog.specs.declared.Term.TheVariants.{Var}
@@ -29,7 +27,7 @@ use Rattle.runner_text.specs.Fronting.{Fronted, line_text, ran_text}
 -- ---- the lines of the variables
 
 -- those from v on are put
-pub record Listing (o : List ℕ) (vs : List Binding) (goal : ℕ) (o' : List ℕ) (p v : ℕ) : Type 0 where
+pub record Listing (o : List ℕ) (vs : List (Option Term)) (goal : ℕ) (o' : List ℕ) (p v : ℕ) : Type 0 where
   pub size : length o' ≡ length o
   pub text : drop p o' ≡ var_lines vs v (goal - v)
   pub front : take p o' ≡ take p o
@@ -37,15 +35,15 @@ pub record Listing (o : List ℕ) (vs : List Binding) (goal : ℕ) (o' : List �
   pub near : 16384 ≤ p + (goal - v) * 49
   pub some : v ≤ goal
 
-lines_none : (vs : List Binding) (i m : ℕ) → m ≡ 0 → [] ≡ var_lines vs i m
+lines_none : (vs : List (Option Term)) (i m : ℕ) → m ≡ 0 → [] ≡ var_lines vs i m
 unfolding var_lines
 lines_none vs i m e = rw e
 
-lines_more : (vs : List Binding) (i m : ℕ) → line_text i (value vs (Var i)) ++ var_lines vs (suc i) m ≡ var_lines vs i (suc m)
+lines_more : (vs : List (Option Term)) (i m : ℕ) → line_text i (value vs (Var i)) ++ var_lines vs (suc i) m ≡ var_lines vs i (suc m)
 unfolding var_lines var_line line_text
 lines_more vs i m = refl
 
-module _ (o : List ℕ) (vs : List Binding) (goal : ℕ) where
+module _ (o : List ℕ) (vs : List (Option Term)) (goal : ℕ) where
   pub list-start : length o ≡ 16384 → Listing o vs goal o (length o) goal
   list-start n = record { size = refl; text = drop-length o ∙ lines_none vs goal (goal - goal) (omega arith); front = refl; lower = omega arith; near = omega arith; some = omega arith }
 
@@ -81,33 +79,33 @@ module _ (o : List ℕ) (vs : List Binding) (goal : ℕ) where
 
 -- ---- the whole text
 
-pub never-unrun : {lim : Limits} {pr : Program} {a : Ran} {h v : List ℕ} {f : Refusal} → Played lim pr a h v → a ≡ Unrun f → ⊥
+pub never-unrun : {lim : Limits} {pr : Program} {a : Answer (End × ℕ)} {h v : List ℕ} {f : Refusal} → Played lim pr a h v → a ≡ Err f → ⊥
 never-unrun x e = let z = sym e ∙ x.answer in let w : ◌≡◌ {A = ℕ} 0 1 = cc in omega arith
 
 -- the tables after the run have a row for each of the goal's variables
-pub lines_fit : {lim : Limits} {pr : Program} {a : Ran} {h v : List ℕ} {g k : ℕ} → Played lim pr a h v → g ≡ pr.goal_vars → k ≡ var_count h → (k * 4 ≤ length v) × (g ≤ k)
+pub lines_fit : {lim : Limits} {pr : Program} {a : Answer (End × ℕ)} {h v : List ℕ} {g k : ℕ} → Played lim pr a h v → g ≡ pr.goal_vars → k ≡ var_count h → (k * 4 ≤ length v) × (g ≤ k)
 lines_fit x eg ek = rw (eg, ek) (x.cells, x.goal)
 
-ended-end : {e e' : End} {n n' : ℕ} → Ended e n ≡ Ended e' n' → e ≡ e'
-ended-end z = cc
+ended-end : {e e' : End} {n n' : ℕ} → ◌≡◌ {A = Answer (End × ℕ)} (Ok (e, n)) (Ok (e', n')) → e ≡ e'
+ended-end z = (ok-both z).0
 
-ended-moves : {e e' : End} {n n' : ℕ} → Ended e n ≡ Ended e' n' → n ≡ n'
-ended-moves z = cc
+ended-moves : {e e' : End} {n n' : ℕ} → ◌≡◌ {A = Answer (End × ℕ)} (Ok (e, n)) (Ok (e', n')) → n ≡ n'
+ended-moves z = (ok-both z).1
 
-run-text : (lim : Limits) (s : List ℕ) {r c : ℕ} → load_of s ≡ Accepted r c → (e : End) (n : ℕ) (vs : List Binding) (g : ℕ) → e ≡ (the_run lim (program_of s r c)).end → n ≡ (the_run lim (program_of s r c)).moves
+run-text : (lim : Limits) (s : List ℕ) {r c : ℕ} → load_of s ≡ Ok (r, c) → (e : End) (n : ℕ) (vs : List (Option Term)) (g : ℕ) → e ≡ (the_run lim (program_of s r c)).end → n ≡ (the_run lim (program_of s r c)).moves
     → vs ≡ (the_run lim (program_of s r c)).tables.state.vars → g ≡ (program_of s r c).goal_vars → ran_text e n (var_lines vs 0 g) ≡ runner_text lim s
 unfolding runner_text run_text ran_text
 run-text lim s el e n vs g ee en ev eg = rw (el, ee, en, ev, eg)
 
 module _ (lim : Limits) (s : List ℕ) {o o₁ : List ℕ} {p : ℕ} where
-  pub told-refused : {l : Loaded} {f r : Refusal} → l ≡ load_of s → l ≡ Refused f → r ≡ refusal_of l → length o ≡ 16384 → Fronted o (length o) 53 (refused_text r) o₁ p → Fronted o 16384 12534 (runner_text lim s) o₁ p
+  pub told-refused : {l : Answer (ℕ × ℕ)} {f r : Refusal} → l ≡ load_of s → l ≡ Err f → r ≡ refusal_of l → length o ≡ 16384 → Fronted o (length o) 53 (refused_text r) o₁ p → Fronted o 16384 12534 (runner_text lim s) o₁ p
   unfolding runner_text
   told-refused el e er n x =
       let y = rw n at x in
       as-text y (rw (sym el ∙ e, er, e)) (omega arith)
 
-  module _ {r c : ℕ} (el : load_of s ≡ Accepted r c) where
-    pub told-run : {a : Ran} {h v o₂ : List ℕ} {e : End} {n g k q : ℕ} → Played lim (program_of s r c) a h v → a ≡ Ended e n → g ≡ (program_of s r c).goal_vars → k ≡ var_count h
+  module _ {r c : ℕ} (el : load_of s ≡ Ok (r, c)) where
+    pub told-run : {a : Answer (End × ℕ)} {h v o₂ : List ℕ} {e : End} {n g k q : ℕ} → Played lim (program_of s r c) a h v → a ≡ Ok (e, n) → g ≡ (program_of s r c).goal_vars → k ≡ var_count h
         → Fronted o 16384 12495 (var_lines (vars_in v k) 0 g) o₁ p → Fronted o₁ p 39 (ran_text e n (drop p o₁)) o₂ q → Fronted o 16384 12534 (runner_text lim s) o₂ q
     told-run {v = v} {e = e} {n = n} {g = g} {k = k} x ea eg ek f y =
         let z = sym ea ∙ x.answer in

@@ -1,15 +1,14 @@
 // Reads an image from standard input, runs it and prints how it ended.
 #![tactic(auto)]
 
-ghost use Rattle.std.specs.Prelude.{◌≡◌, ◌*◌, ◌≤◌, length};
+ghost use Rattle.std.specs.Prelude.{◌≡◌, ◌*◌, ◌≤◌, length, Ok};
 ghost use Rattle.parlog.specs.Limits.{small};
 ghost use Rattle.parlog.specs.Load.{load_of};
 ghost use Rattle.parlog.specs.Tables.{cell_size, head_size, vars_in};
 ghost use Rattle.parlog.specs.Text.{runner_text, var_lines};
-ghost use Rattle.parlog.specs.declared.Loaded.TheVariants.{Accepted};
 ghost use Rattle.runner_text.specs.Fronting.{Fronted};
 
-use parlog::{Loaded, Ran, Term, codes};
+use parlog::{Term, codes};
 
 // The numbers of standard input and standard output.
 const STDIN: i32 = 0;
@@ -25,9 +24,7 @@ fn lines(vars: &[u8], n: usize, goal: usize, out: &mut [u8]) -> usize
     ensures { Fronted out.old 16384 12495 (var_lines (vars_in vars.now n) 0 goal) out.new result }
 {
     let mut p = out.len();
-    let mut v = goal;
-    while 0 < v {
-        v -= 1;
+    for v in (0..goal).rev() {
         let t = unify::value_of(vars, n, Term::Var(v as u32));
         p = runner_text::line(out, p, v, t);
     }
@@ -44,15 +41,15 @@ fn play(
     vars: &mut [u8],
     out: &mut [u8],
 ) -> usize
-    requires { (load_of image.now ≡ Accepted rels clauses) × (rels ≤ 32) × (clauses ≤ 64) × (length head.old ≡ head_size) × (length procs.old ≡ 12288) × (length vars.old ≡ 4096) × (length out.old ≡ 16384) }
+    requires { (load_of image.now ≡ Ok (rels, clauses)) × (rels ≤ 32) × (clauses ≤ 64) × (length head.old ≡ head_size) × (length procs.old ≡ 12288) × (length vars.old ≡ 4096) × (length out.old ≡ 16384) }
     ensures { Fronted out.old 16384 12534 (runner_text small image.now) out.new result }
 {
     let mut ix = [0u16; program_index::SIZE];
-    load::load_indexed(image, &mut ix);
+    let _ = load::load_indexed(image, &mut ix);
     let goal = program_clause::goal_vars(image, rels, clauses, &ix);
     let begun = machine::start(image, head, procs, vars);
     let ran = run::run(image, head, procs, vars, LIMIT);
-    let Ran::Ended(end, steps) = ran else {
+    let Ok((end, steps)) = ran else {
         return out.len();
     };
     let n = head::var_count(head);
@@ -66,7 +63,7 @@ fn answer(image: &[u8], out: &mut [u8]) -> usize
     ensures { Fronted out.old 16384 12534 (runner_text small image.now) out.new result }
 {
     let l = load::load(image);
-    let Loaded::Accepted(rels, clauses) = l else {
+    let Ok((rels, clauses)) = l else {
         let r = load::refusal(l);
         return runner_text::refused(out, r);
     };

@@ -1,9 +1,9 @@
 -- Text written from the back: one byte more, a word, the digits of a number, and one piece after another.
 use mathlib.Core.Path.{◌∙◌, ◌≡◌, ap, refl, sym}
-use mathlib.Core.List.{[], ◌++◌, ◌∷◌, List}
+use mathlib.Core.List.{[], ◌∷◌, List}
 use Prim.Native.Nat.{◌%◌, ◌+◌, ◌-◌, ◌/◌, ◌<◌, ◌≤◌, suc, zero, ℕ}
-use lib.ListN.{drop, get_or, length, length-set, set, take}
-use lib.Seq.{drop-cons, drop-length, take-set-le}
+use lib.ListN.{drop, length, length-set, set, take}
+use lib.Seq.{take-set-le}
 use borrow.Author.Tests.{le-ltb, lt-ltb}
 use native.Mathlib.Omega.{arith}
 use Rattle.parlog.specs.Text.{decimal, digits}
@@ -57,95 +57,53 @@ as-text x e h =
     let v = x.near in
     record { size = x.size; text = x.text ∙ e; front = x.front; lower = x.lower; near = omega arith }
 
--- ---- a word
-
--- the word's bytes from k on are put
-pub record Wording (o : List ℕ) (p : ℕ) (w o' : List ℕ) (r k : ℕ) : Type 0 where
-  pub size : length o' ≡ length o
-  pub text : drop r o' ≡ drop k w ++ drop p o
-  pub front : take r o' ≡ take r o
-  pub lower : r ≤ p
-  pub near : p + k ≤ r + length w
-  pub some : k ≤ length w
-
-module _ (o : List ℕ) (p : ℕ) (w : List ℕ) where
-  pub word-start : Wording o p w o p (length w)
-  word-start = record { size = refl; text = ap (λ (v : List ℕ). v ++ drop p o) (sym (drop-length w)); front = refl; lower = omega arith; near = omega arith; some = omega arith }
-
-  pub word_on : (o' o'' : List ℕ) (r q k : ℕ) → 0 < k → Wording o p w o' r k → Fronted o' r 1 (get_or w (k - 1) 0 ∷ drop r o') o'' q → Wording o p w o'' q (k - 1)
-  word_on o' o'' r q k h x y =
-      let e : suc (k - 1) ≡ k = omega arith in
-      let i = x.some in
-      let j = x.near in
-      let l = x.lower in
-      let u = y.near in
-      let v = y.lower in
-      let d : drop (k - 1) w ≡ get_or w (k - 1) 0 ∷ drop k w = drop-cons w (k - 1) 0 (omega arith) ∙ ap (λ (a : ℕ). get_or w (k - 1) 0 ∷ drop a w) e in
-      record {
-        size = y.size ∙ x.size;
-        text = y.text ∙ ap (λ (t : List ℕ). get_or w (k - 1) 0 ∷ t) x.text ∙ ap (λ (t : List ℕ). t ++ drop p o) (sym d);
-        front = still o o' o'' r q v x.front y.front;
-        lower = omega arith;
-        near = omega arith;
-        some = omega arith;
-      }
-
-  pub word-done : (o' : List ℕ) (r k : ℕ) → k ≤ 0 → Wording o p w o' r k → Fronted o p (length w) (w ++ drop p o) o' r
-  word-done o' r k h x =
-      let e : k ≡ 0 = omega arith in
-      let j = x.near in
-      record { size = x.size; text = x.text ∙ ap (λ (a : ℕ). drop a w ++ drop p o) e; front = x.front; lower = x.lower; near = omega arith }
-
 -- ---- a number
 
 module _ (n : ℕ) (rest : List ℕ) where
-  digits-none : (k : ℕ) → k ≤ 0 → digits k n rest ≡ rest
+  digits-none : {k : ℕ} → k ≡ 0 → digits k n rest ≡ rest
   unfolding digits
-  digits-none zero h = refl
-  digits-none (suc k) h = absurd (omega arith)
+  digits-none e = rw e
 
-  digits_last : (k : ℕ) → 0 < k → n < 10 → digits k n rest ≡ (48 + n) ∷ rest
+  digits_last : {k : ℕ} (j : ℕ) → k ≡ suc j → n < 10 → digits k n rest ≡ (48 + n) ∷ rest
   unfolding digits
-  digits_last zero h g = absurd (omega arith)
-  digits_last (suc k) h g = rw (lt-ltb n 10 g)
+  digits_last j e g = rw (e, lt-ltb n 10 g)
 
-  digits_more : (k : ℕ) → 0 < k → 10 ≤ n → digits k n rest ≡ digits (k - 1) (n / 10) ((48 + n % 10) ∷ rest)
+  digits_more : {k : ℕ} (j : ℕ) → k ≡ suc j → 10 ≤ n → digits k n rest ≡ digits j (n / 10) ((48 + n % 10) ∷ rest)
   unfolding digits
-  digits_more zero h g = absurd (omega arith)
-  digits_more (suc k) h g = let e : suc k - 1 ≡ k = omega arith in rw (le-ltb n 10 g, e)
+  digits_more j e g = rw (e, le-ltb n 10 g)
 
--- the digits that are left stand in front of those put
-pub record Counting (o : List ℕ) (p n : ℕ) (o' : List ℕ) (r m k : ℕ) : Type 0 where
+-- i digits are put, and those that are left stand in front of them
+pub record Counting (o : List ℕ) (p n : ℕ) (o' : List ℕ) (r m i : ℕ) : Type 0 where
   pub size : length o' ≡ length o
-  pub text : digits k m (drop r o') ≡ decimal n (drop p o)
+  pub text : digits (20 - i) m (drop r o') ≡ decimal n (drop p o)
   pub front : take r o' ≡ take r o
   pub lower : r ≤ p
-  pub near : p + k ≤ r + 20
-  pub some : k ≤ 20
+  pub near : p ≤ r + i
 
 module _ (o : List ℕ) (p n : ℕ) where
-  pub number-start : Counting o p n o p n 20
+  pub number-start : Counting o p n o p n 0
   unfolding decimal
-  number-start = record { size = refl; text = refl; front = refl; lower = omega arith; near = omega arith; some = omega arith }
+  number-start = record { size = refl; text = refl; front = refl; lower = omega arith; near = omega arith }
 
-  module _ (o' : List ℕ) (r m k : ℕ) (x : Counting o p n o' r m k) where
-    pub number-on : (o'' : List ℕ) (q d : ℕ) → 0 < k → 10 ≤ m → d ≡ 48 + m % 10 → Fronted o' r 1 (d ∷ drop r o') o'' q → Counting o p n o'' q (m / 10) (k - 1)
+  module _ (o' : List ℕ) (r m i : ℕ) (x : Counting o p n o' r m i) where
+    one_less : i < 20 → 20 - i ≡ suc (20 - (i + 1))
+    one_less h = omega arith
+
+    pub number-on : (o'' : List ℕ) (q d : ℕ) → i < 20 → 10 ≤ m → d ≡ 48 + m % 10 → Fronted o' r 1 (d ∷ drop r o') o'' q → Counting o p n o'' q (m / 10) (i + 1)
     number-on o'' q d h g e y =
-        let i = x.some in
         let j = x.near in
         let l = x.lower in
         let u = y.near in
         let v = y.lower in
         record {
           size = y.size ∙ x.size;
-          text = ap (digits (k - 1) (m / 10)) (y.text ∙ ap (λ (a : ℕ). a ∷ drop r o') e) ∙ sym (digits_more m (drop r o') k h g) ∙ x.text;
+          text = ap (digits (20 - (i + 1)) (m / 10)) (y.text ∙ ap (λ (a : ℕ). a ∷ drop r o') e) ∙ sym (digits_more m (drop r o') (20 - (i + 1)) (one_less h) g) ∙ x.text;
           front = still o o' o'' r q v x.front y.front;
           lower = omega arith;
           near = omega arith;
-          some = omega arith;
         }
 
-    pub number-last : (o'' : List ℕ) (q d : ℕ) → 0 < k → m < 10 → d ≡ 48 + m → Fronted o' r 1 (d ∷ drop r o') o'' q → Fronted o p 20 (decimal n (drop p o)) o'' q
+    pub number-last : (o'' : List ℕ) (q d : ℕ) → i < 20 → m < 10 → d ≡ 48 + m → Fronted o' r 1 (d ∷ drop r o') o'' q → Fronted o p 20 (decimal n (drop p o)) o'' q
     number-last o'' q d h g e y =
         let j = x.near in
         let l = x.lower in
@@ -153,13 +111,13 @@ module _ (o : List ℕ) (p n : ℕ) where
         let v = y.lower in
         record {
           size = y.size ∙ x.size;
-          text = y.text ∙ ap (λ (a : ℕ). a ∷ drop r o') e ∙ sym (digits_last m (drop r o') k h g) ∙ x.text;
+          text = y.text ∙ ap (λ (a : ℕ). a ∷ drop r o') e ∙ sym (digits_last m (drop r o') (20 - (i + 1)) (one_less h) g) ∙ x.text;
           front = still o o' o'' r q v x.front y.front;
           lower = omega arith;
           near = omega arith;
         }
 
-    pub number-done : k ≤ 0 → Fronted o p 20 (decimal n (drop p o)) o' r
+    pub number-done : i ≡ 20 → Fronted o p 20 (decimal n (drop p o)) o' r
     number-done h =
         let j = x.near in
-        record { size = x.size; text = sym (digits-none m (drop r o') k h) ∙ x.text; front = x.front; lower = x.lower; near = omega arith }
+        record { size = x.size; text = sym (digits-none m (drop r o') (omega arith)) ∙ x.text; front = x.front; lower = x.lower; near = omega arith }

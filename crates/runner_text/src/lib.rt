@@ -20,17 +20,13 @@ fn put(out: &mut [u8], p: usize, b: u8) -> usize
     at
 }
 
-// A word, from its last byte on.
+// A word.
 fn word(out: &mut [u8], p: usize, w: &[u8]) -> usize
     requires { (length w.now ≤ p) × (p ≤ length out.old) }
     ensures { Fronted out.old p (length w.now) (w.now ++ drop p out.old) out.new result }
 {
-    let mut k = w.len();
-    let mut at = p;
-    while 0 < k {
-        k -= 1;
-        at = put(out, at, w[k]);
-    }
+    let at = p - w.len();
+    out[at..p].copy_from_slice(w);
     at
 }
 
@@ -49,14 +45,12 @@ fn number(out: &mut [u8], p: usize, n: u64) -> usize
 {
     let mut at = p;
     let mut left = n;
-    let mut k: usize = MOST_DIGITS;
-    while 0 < k {
+    for _ in 0..MOST_DIGITS {
         if left < 10 {
             return put(out, at, digit(left));
         }
         at = put(out, at, digit(left % 10));
         left /= 10;
-        k -= 1;
     }
     at
 }

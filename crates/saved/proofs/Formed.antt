@@ -1,4 +1,6 @@
 -- A saved run is read exactly where it is formed so, and refused exactly where one of its records is wrong.
+use Rattle.std.specs.Prelude.{Err, Ok}
+use Rattle.parlog.specs.Answer.{Answer}
 use mathlib.Core.Path.{◌∙◌, ◌≡◌, refl, sym}
 use mathlib.Core.Logic.{◌≢◌}
 use mathlib.Core.Bool.{◌||◌, Bool, cond, false, not, true}
@@ -18,8 +20,6 @@ use Rattle.saved.proofs.Passing.{ends, goes, stops}
 use Rattle.saved.specs.Form.{current_rule, former_length, head_kind, head_length, length_of, process_kind, process_length, variable_kind, variable_length}
 use Rattle.saved.specs.Formed.{at_front, BadSaved, Behind, Formed, Former, Front, is_first, is_later, KindFits, LengthFits, no_record, one_more, RightAt, RuleFits, saved_body, saved_cut, saved_former, saved_kind, saved_rule, WholeAt}
 use Rattle.saved.specs.Reading.{cut_at, former, form_fault, kind_wrong, length_wrong, nothing_seen, read_end, read_one, reads, read_saved, rule_at, rule_wrong, seen_with}
-use Rattle.saved.specs.declared.Reading.{Reading}
-use Rattle.saved.specs.declared.Reading.TheVariants.{Broken, Whole}
 use Rattle.saved.specs.declared.Seen.{Seen}
 
 -- ---- the tests of a record, and the facts
@@ -141,12 +141,12 @@ behind-known x (one_more {at} {before} b r) =
     record { known = seen_with k.known (kind_at x at); kind_is = refl; same = k.same ∙ goes x at k.known (omega arith) p }
 
 -- the form of the first record
-first-form : (x : List ℕ) → 0 < length x → WholeAt x 0 → kind_at x 0 ≡ head_kind → {n : ℕ} → n ≡ form_fault x 0 → (n ≡ 0 → ⊥) → read_saved x ≡ Broken (refusal n 0)
+first-form : (x : List ℕ) → 0 < length x → WholeAt x 0 → kind_at x 0 ≡ head_kind → {n : ℕ} → n ≡ form_fault x 0 → (n ≡ 0 → ⊥) → read_saved x ≡ Err (refusal n 0)
 unfolding read_saved
 first-form x h w k en some =
     stops x 0 nothing_seen h (fault-form x 0 0 refl (whole-uncut x 0 w) refl refl (fits-kind 0 (kind_at x 0) (is_first refl k)) en) some
 
-pub bad-read : (x : List ℕ) {n o : ℕ} → BadSaved x n o → read_saved x ≡ Broken (refusal n o)
+pub bad-read : (x : List ℕ) {n o : ℕ} → BadSaved x n o → read_saved x ≡ Err (refusal n o)
 bad-read x (no_record e) = unfold read_saved in (ends x 0 nothing_seen (omega arith))
 bad-read x (saved_cut {at} {before} b h w) =
     let k = behind-known x b in
@@ -257,9 +257,9 @@ module _ (x : List ℕ) where
           let w = long 18 8 q refl in
           after-variable at g Q (record_end x at) r.whole.inside (seen_with g (kind_at x at)) q (rw q) (rw q) (omega arith) (record { size_is = w; kind_is = q }))
 
-  abbrev Told : Reading → Type 0
-  Told (Whole a b) = Formed x a b
-  Told (Broken f) = BadSaved x f.number f.offset
+  abbrev Told : Answer (ℕ × ℕ) → Type 0
+  Told (Ok (a, b)) = Formed x a b
+  Told (Err f) = BadSaved x f.number f.offset
 
   record Here (at : ℕ) (g : Seen) : Type 0 where
     behind : Behind x at g.kind
@@ -284,17 +284,17 @@ module _ (x : List ℕ) where
       rw z (saved_rule (rw z at more) (rw z at (whole-exactly x at e)) (rw z at k.0) (rw z at (right-length x at b)) (rw z at k.1))
   refused at g h more e eb n some (is_right a b d) = absurd (some refl)
 
-  told-one : (at : ℕ) (g : Seen) → Here at g → at < length x → cut x at ≡ false → (rest : Seen → Reading) → ((t : Seen) → Here (record_end x at) t → Told (rest t)) → Told (read_one x rest at g)
+  told-one : (at : ℕ) (g : Seen) → Here at g → at < length x → cut x at ≡ false → (rest : Seen → Answer (ℕ × ℕ)) → ((t : Seen) → Here (record_end x at) t → Told (rest t)) → Told (read_one x rest at g)
   told-one at g h more e rest on = go (kind_wrong g.kind (kind_at x at)) refl
     where
-      form : kind_wrong g.kind (kind_at x at) ≡ false → (b : Bool) → eqb (form_fault x at) 0 ≡ b → Told (cond b (rest (seen_with g (kind_at x at))) (Broken (refusal (form_fault x at) at)))
+      form : kind_wrong g.kind (kind_at x at) ≡ false → (b : Bool) → eqb (form_fault x at) 0 ≡ b → Told (cond b (rest (seen_with g (kind_at x at))) (Err (refusal (form_fault x at) at)))
       form eb true y =
           let r = passes-right x g.kind at (record { uncut = e; kind = eb; form = eqb-true (form_fault x at) 0 y }) in
           on (seen_with g (kind_at x at)) (record { behind = one_more h.behind r; before = some-yet (next at g h.before r) })
       form eb false y = refused at g h more e eb (form_fault x at) (eqb-false (form_fault x at) 0 y) (form_of x at)
 
       go : (b : Bool) → kind_wrong g.kind (kind_at x at) ≡ b
-          → Told (cond b (Broken (refusal 3 at)) (cond (eqb (form_fault x at) 0) (rest (seen_with g (kind_at x at))) (Broken (refusal (form_fault x at) at))))
+          → Told (cond b (Err (refusal 3 at)) (cond (eqb (form_fault x at) 0) (rest (seen_with g (kind_at x at))) (Err (refusal (form_fault x at) at))))
       go true eb = saved_kind h.behind more (whole-exactly x at e) (λ f. never (sym (fits-kind g.kind (kind_at x at) f) ∙ eb))
       go false eb = form eb (eqb (form_fault x at) 0) refl
 
@@ -322,10 +322,10 @@ module _ (x : List ℕ) where
       (omega arith)
       (record { behind = at_front; before = nothing_yet refl refl refl refl })
 
-  pub read-formed : {a b : ℕ} → read_saved x ≡ Whole a b → Formed x a b
+  pub read-formed : {a b : ℕ} → read_saved x ≡ Ok (a, b) → Formed x a b
   read-formed e = rw e at told
 
-  pub read-bad : {f : Refusal} → read_saved x ≡ Broken f → BadSaved x f.number f.offset
+  pub read-bad : {f : Refusal} → read_saved x ≡ Err f → BadSaved x f.number f.offset
   read-bad e = rw e at told
 
 -- ---- from the form to the reading
@@ -345,7 +345,7 @@ module _ (x : List ℕ) (a b : ℕ) (F : Formed x a b) where
   abbrev seen : ℕ → ℕ → ℕ → Seen
   seen q n m = record { kind = q; procs = n; vars = m }
 
-  vars-through : (n v : ℕ) → v + n ≡ b → (q : ℕ) → 16 ≤ q → q ≤ 18 → reads x (length x) (18 + a * 28 + v * 8) (seen q a v) ≡ Whole a b
+  vars-through : (n v : ℕ) → v + n ≡ b → (q : ℕ) → 16 ≤ q → q ≤ 18 → reads x (length x) (18 + a * 28 + v * 8) (seen q a v) ≡ Ok (a, b)
   vars-through zero v e q lo hi =
       let s = F.size in
       let same : v ≡ b = omega arith in
@@ -356,7 +356,7 @@ module _ (x : List ℕ) (a b : ℕ) (F : Formed x a b) where
       step (18 + a * 28 + v * 8) 8 18 (seen q a v) (F.vars v (omega arith)) refl (omega arith) (omega arith) (is_later (λ z. omega arith) (omega arith) (omega arith) (omega arith)) (λ z. absurd (omega arith))
       ∙ rw p (vars-through n (v + 1) (omega arith) 18 (omega arith) (omega arith))
 
-  procs-through : (n i : ℕ) → i + n ≡ a → (q : ℕ) → 16 ≤ q → q ≤ 17 → reads x (length x) (18 + i * 28) (seen q i 0) ≡ Whole a b
+  procs-through : (n i : ℕ) → i + n ≡ a → (q : ℕ) → 16 ≤ q → q ≤ 17 → reads x (length x) (18 + i * 28) (seen q i 0) ≡ Ok (a, b)
   procs-through zero i e q lo hi =
       let same : i ≡ a = omega arith in
       let p : 18 + a * 28 ≡ 18 + a * 28 + 0 * 8 = omega arith in
@@ -368,7 +368,7 @@ module _ (x : List ℕ) (a b : ℕ) (F : Formed x a b) where
       ∙ rw p (procs-through n (i + 1) (omega arith) 17 (omega arith) (omega arith))
 
   -- THE LAW: what is formed so is read
-  pub formed-read : read_saved x ≡ Whole a b
+  pub formed-read : read_saved x ≡ Ok (a, b)
   unfolding read_saved
   formed-read =
       let s = F.size in

@@ -1,4 +1,6 @@
 -- From record to record, as the loop goes.
+use Rattle.std.specs.Prelude.{Err, Ok}
+use Rattle.parlog.specs.Answer.{Answer}
 use mathlib.Core.Path.{◌∙◌, ◌≡◌, refl, sym}
 use mathlib.Core.Bool.{Bool, cond, false, true}
 use mathlib.Core.List.{List}
@@ -14,8 +16,6 @@ use Rattle.parlog.specs.Records.{cut, kind_at, record_end, word_at}
 use Rattle.saved.proofs.Faults.{begun, long-is, Passes, passes}
 use Rattle.saved.specs.Form.{length_of, process_kind, variable_kind}
 use Rattle.saved.specs.Reading.{cut_at, fault_at, form_fault, kind_wrong, read_end, read_one, reads, read_saved, seen_with}
-use Rattle.saved.specs.declared.Reading.{Reading}
-use Rattle.saved.specs.declared.Reading.TheVariants.{Broken, Whole}
 use Rattle.saved.specs.declared.Seen.{Seen}
 
 -- one more at most
@@ -26,13 +26,13 @@ module _ (s : List ℕ) (at : ℕ) (g : Seen) (more : at < length s) where
   pub goes : Passes s g.kind at → reads s (length s) at g ≡ reads s (length s) (record_end s at) (seen_with g (kind_at s at))
   goes p = rw (p.kind, p.form) at (walk-one s cut_at (read_one s) read_end (length s) at g (omega arith) more p.uncut)
 
-  pub stops : {n : ℕ} → n ≡ fault_at s g.kind at → (n ≡ 0 → ⊥) → reads s (length s) at g ≡ Broken (refusal n at)
+  pub stops : {n : ℕ} → n ≡ fault_at s g.kind at → (n ≡ 0 → ⊥) → reads s (length s) at g ≡ Err (refusal n at)
   stops {n} e some = go (cut s at) refl (kind_wrong g.kind (kind_at s at)) refl (unfold fault_at in e)
     where
       whole : cut s at ≡ false → reads s (length s) at g ≡ read_one s (reads s (length s) (record_end s at)) at g
       whole eb = walk-one s cut_at (read_one s) read_end (length s) at g (omega arith) more eb
 
-      go : (b : Bool) → cut s at ≡ b → (k : Bool) → kind_wrong g.kind (kind_at s at) ≡ k → n ≡ cond b 2 (cond k 3 (form_fault s at)) → reads s (length s) at g ≡ Broken (refusal n at)
+      go : (b : Bool) → cut s at ≡ b → (k : Bool) → kind_wrong g.kind (kind_at s at) ≡ k → n ≡ cond b 2 (cond k 3 (form_fault s at)) → reads s (length s) at g ≡ Err (refusal n at)
       go true eb k ek z = rw z (walk-cut s cut_at (read_one s) read_end (length s) at g (omega arith) more eb)
       go false eb true ek z = rw z (whole eb ∙ rw ek)
       go false eb false ek z = rw z (whole eb ∙ rw (ek, ne_eqb (form_fault s at) 0 (λ y. some (z ∙ y))))
@@ -67,10 +67,10 @@ pub ends : (s : List ℕ) (at : ℕ) (g : Seen) → length s ≤ at → reads s 
 ends s at g h = walk_end s cut_at (read_one s) read_end (length s) at g h
 
 module _ (s : List ℕ) (at : ℕ) (g : Seen) (past : length s ≤ at) (i : reads s (length s) at g ≡ read_saved s) where
-  pub end_none : g.kind ≡ 0 → {r : Reading} → r ≡ Broken (refusal 3 0) → r ≡ read_saved s
+  pub end_none : g.kind ≡ 0 → {r : Answer (ℕ × ℕ)} → r ≡ Err (refusal 3 0) → r ≡ read_saved s
   end_none e q = q ∙ sym (ends s at g past ∙ rw (eq-eqb g.kind 0 e)) ∙ i
 
-  pub end_whole : (g.kind ≡ 0 → ⊥) → Whole g.procs g.vars ≡ read_saved s
+  pub end_whole : (g.kind ≡ 0 → ⊥) → Ok (g.procs, g.vars) ≡ read_saved s
   end_whole n = sym (ends s at g past ∙ rw (ne_eqb g.kind 0 n)) ∙ i
 
 -- ---- what is known behind a record, kind by kind

@@ -1,13 +1,14 @@
 -- What the loops of the writers and readers keep.
-use mathlib.Core.Path.{◌∙◌, ◌≡◌, ap, sym}
+use mathlib.Core.Path.{◌∙◌, ◌≡◌, sym}
 use mathlib.Core.Bool.{◌&&◌, Bool}
 use mathlib.Core.List.{[], ◌++◌, ◌∷◌, append-nil, List}
 use Prim.Native.Nat.{◌*◌, ◌+◌, ◌<◌, ◌≤◌, ℕ}
 use lib.Dec.{eqb, lit<}
-use lib.ListN.{drop, drop_of_length-le, get_or, length}
+use lib.ListN.{drop, drop_of_length-le, get_or, length, take}
 use native.Mathlib.Omega.{arith}
 use native.Mathlib.Nat.{add_assoc, add-zero, zero-add}
-use Rattle.lay.proofs.Laws.{laid-length, laid_none, laid-start, laid_then, lays-then}
+use Rattle.std.proofs.lemmas.List.{get_or-drop, get_or-take}
+use Rattle.lay.proofs.Laws.{laid_none, laid-start, laid_then, lays-then}
 use Rattle.lay.specs.Lay.{laid, Lays}
 use Rattle.parlog.specs.Records.{front_size}
 use Rattle.parlog.specs.Tables.{cell_size, head_size, Lent, proc_count, rows_bytes, row_size, u16_at, var_count, written, zeros}
@@ -19,9 +20,6 @@ use Rattle.saved.specs.Restored.{counts_agree, head_in, process_in, variable_in}
 
 -- ---- laid one behind the other
 
-pub lays-length : {o p bs : List ℕ} {at r : ℕ} → Lays o p at bs r → length p ≡ length o
-lays-length {o} {p} {bs} {at} a = ap length a.row ∙ laid-length bs o at
-
 module _ (o row : List ℕ) (at from : ℕ) where
   pub bytes-none : Lays o o at (bytes_from row from 0) at
   bytes-none = record { row = rw (from-none row from) (sym (laid_none o at)); place = rw (from-none row from) (sym (add-zero at)) }
@@ -30,14 +28,12 @@ module _ (o row : List ℕ) (at from : ℕ) where
   bytes-more k a b = rw (from-snoc row from k) (lays-then a b)
 
   -- one byte more
-  pub bytes-step : (k : ℕ) {p q : List ℕ} {m r : ℕ} → m ≡ at + k → length p ≡ length o → Lays o p at (bytes_from row from k) m → Lays p q m (get_or row (from + k) 0 ∷ []) r
-      → (r ≡ at + (k + 1)) × (length q ≡ length o) × Lays o q at (bytes_from row from (k + 1)) r
-  bytes-step k {m = m} {r} e n a b =
+  pub bytes-step : (k n : ℕ) {p q : List ℕ} {m r : ℕ} → k < n → m ≡ at + k → Lays o p at (bytes_from row from k) m → Lays p q m (get_or (take n (drop from row)) k 0 ∷ []) r
+      → (r ≡ at + (k + 1)) × Lays o q at (bytes_from row from (k + 1)) r
+  bytes-step k n {m = m} {r} h e a b =
       let z : r ≡ m + 1 = b.place in
-      (omega arith, lays-length b ∙ n, bytes-more k a b)
-
-  pub bytes-end : (k n : ℕ) {p : List ℕ} {m : ℕ} → k ≤ n → n ≤ k → Lays o p at (bytes_from row from k) m → Lays o p at (bytes_from row from n) m
-  bytes-end k n g h a = let e : n ≡ k = omega arith in rw e a
+      let same : get_or (take n (drop from row)) k 0 ≡ get_or row (from + k) 0 = get_or-take n (drop from row) k 0 h ∙ get_or-drop from row k 0 in
+      (omega arith, bytes-more k a (rw same at b))
 
   pub bytes-place : (n : ℕ) {p : List ℕ} {r : ℕ} → Lays o p at (bytes_from row from n) r → r ≡ at + n
   bytes-place n a = a.place ∙ rw (from-length row from n)
@@ -47,12 +43,9 @@ module _ (f : ℕ → List ℕ) (o : List ℕ) (at : ℕ) where
   stack-none = record { row = rw (rows_none f) (sym (laid_none o at)); place = rw (rows_none f) (sym (add-zero at)) }
 
   -- one record more
-  pub stack-step : (i size : ℕ) {p q : List ℕ} {m r : ℕ} → length (f i) ≡ size → length p ≡ length o → Lays o p at (rows_bytes f (numbers i)) m → Lays p q m (f i) r
-      → (r ≡ m + size) × (length q ≡ length o) × Lays o q at (rows_bytes f (numbers (i + 1))) r
-  stack-step i size sized n a b = (b.place ∙ rw sized, lays-length b ∙ n, rw (rows_more f i) (lays-then a b))
-
-  pub stack-end : (i n : ℕ) {p : List ℕ} {m : ℕ} → i ≤ n → n ≤ i → Lays o p at (rows_bytes f (numbers i)) m → Lays o p at (rows_bytes f (numbers n)) m
-  stack-end i n g h a = let e : n ≡ i = omega arith in rw e a
+  pub stack-step : (i size : ℕ) {p q : List ℕ} {m r : ℕ} → length (f i) ≡ size → Lays o p at (rows_bytes f (numbers i)) m → Lays p q m (f i) r
+      → (r ≡ m + size) × Lays o q at (rows_bytes f (numbers (i + 1))) r
+  stack-step i size sized a b = (b.place ∙ rw sized, rw (rows_more f i) (lays-then a b))
 
 pub record-place : (o row : List ℕ) (at from n size kind : ℕ) {p : List ℕ} {r : ℕ} → Lays o p at (record_of size kind (bytes_from row from n)) r → r ≡ at + (4 + n)
 record-place o row at from n size kind {r = r} a = let e : r ≡ at + length (record_of size kind (bytes_from row from n)) = a.place in omega (arith, from-length row from n)

@@ -1,12 +1,10 @@
 -- The tests of a saved run's records: refusals 2, 3, 4 and 18, or how many processes and variables there are.
-use Rattle.std.specs.Prelude.{◌&&◌, ◌||◌, Bool, cond, not, List, ◌+◌, ℕ, eqb, ltb, length}
+use Rattle.parlog.specs.Answer.{Answer}
+use Rattle.std.specs.Prelude.{◌&&◌, ◌||◌, Bool, cond, not, List, ◌+◌, ℕ, eqb, ltb, length, Err, Ok}
 use Rattle.parlog.specs.Load.{refusal}
 use Rattle.parlog.specs.Records.{cut, front_size, kind_at, walk, word_at}
 use Rattle.parlog.specs.Tables.{head_size}
-use Rattle.parlog.specs.declared.Refusal.{Refusal}
 use Rattle.saved.specs.Form.{current_rule, former_length, head_kind, length_of, process_kind, variable_kind}
-use Rattle.saved.specs.declared.Reading.{Reading}
-use Rattle.saved.specs.declared.Reading.TheVariants.{Broken, Whole}
 use Rattle.saved.specs.declared.Seen.{Seen}
 
 -- Saved 6: the first record is the head's; a later one is no head's, of a kind that there is, and no lower than the one before
@@ -50,32 +48,27 @@ seen_with g kind = record {
 }
 
 -- Saved 5: one that is cut gives its own place
-abbrev pub cut_at : ℕ → Reading
-cut_at at = Broken (refusal 2 at)
+abbrev pub cut_at : ℕ → Answer (ℕ × ℕ)
+cut_at at = Err (refusal 2 at)
 
 -- Saved 5: so does a whole one that is refused; else the records behind it decide
-abbrev pub read_one : List ℕ → (Seen → Reading) → ℕ → Seen → Reading
+abbrev pub read_one : List ℕ → (Seen → Answer (ℕ × ℕ)) → ℕ → Seen → Answer (ℕ × ℕ)
 read_one x rest at g =
-    cond (kind_wrong g.kind (kind_at x at)) (Broken (refusal 3 at))
-    (cond (eqb (form_fault x at) 0) (rest (seen_with g (kind_at x at))) (Broken (refusal (form_fault x at) at)))
+    cond (kind_wrong g.kind (kind_at x at)) (Err (refusal 3 at))
+    (cond (eqb (form_fault x at) 0) (rest (seen_with g (kind_at x at))) (Err (refusal (form_fault x at) at)))
 
 -- Saved 6: there was a record, or none
-abbrev pub read_end : Seen → Reading
-read_end g = cond (eqb g.kind 0) (Broken (refusal 3 0)) (Whole g.procs g.vars)
+abbrev pub read_end : Seen → Answer (ℕ × ℕ)
+read_end g = cond (eqb g.kind 0) (Err (refusal 3 0)) (Ok (g.procs, g.vars))
 
 -- nothing is known before the first record
 abbrev pub nothing_seen : Seen
 nothing_seen = record { kind = 0; procs = 0; vars = 0 }
 
 -- Saved 5: one record after the other
-abbrev pub reads : List ℕ → ℕ → ℕ → Seen → Reading
+abbrev pub reads : List ℕ → ℕ → ℕ → Seen → Answer (ℕ × ℕ)
 reads x n at g = walk x cut_at (read_one x) read_end n at g
 
 -- Saved 5: from the first on
-unfoldable pub read_saved : List ℕ → Reading
+unfoldable pub read_saved : List ℕ → Answer (ℕ × ℕ)
 read_saved x = reads x (length x) 0 nothing_seen
-
--- 0 at 0 for an answer that is none
-abbrev pub refusal_in : Reading → Refusal
-refusal_in (Whole a b) = refusal 0 0
-refusal_in (Broken r) = r

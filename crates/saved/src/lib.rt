@@ -1,17 +1,16 @@
 // A run as a file in the house form: its records written one behind the other, tested, and read back into tables.
 #![tactic(auto)]
 
-ghost use Rattle.std.specs.Prelude.{◌≡◌, cond, false, not, ◌+◌, ◌*◌, ◌≤◌, ◌<◌, eqb, length};
+ghost use Rattle.std.specs.Prelude.{◌≡◌, cond, false, not, ◌+◌, ◌*◌, ◌≤◌, ◌<◌, eqb, length, Err};
 ghost use Rattle.parlog.specs.Load.{refusal};
 ghost use Rattle.parlog.specs.Records.{cut, kind_at, word_at};
 ghost use Rattle.parlog.specs.Tables.{cell_size, head_size, lent, proc_count, rows_bytes, row_size, var_count};
 ghost use Rattle.lay.specs.Lay.{Lays};
 ghost use Rattle.saved.specs.Form.{bytes_from, head_record, length_of, numbers, process_record, record_of, saved_bytes, saved_size, variable_record};
-ghost use Rattle.saved.specs.Reading.{fault_at, form_fault, kind_wrong, read_saved, refusal_in, seen_with};
+ghost use Rattle.saved.specs.Reading.{fault_at, form_fault, kind_wrong, read_saved, seen_with};
 ghost use Rattle.saved.specs.Restored.{cells_in, counts_agree, image_length, RestoreSays, rows_in};
-ghost use Rattle.saved.specs.declared.Reading.TheVariants.{Broken};
 
-use parlog::{Refusal, codes};
+use parlog::{Answer, Refusal, codes};
 
 // ---- the form
 
@@ -55,13 +54,6 @@ pub struct Seen {
     pub vars: usize,
 }
 
-// The answer to a saved run's records: how many processes and variables there are, or the first refusal.
-#[derive(Clone, Copy)]
-pub enum Reading {
-    Whole(usize, usize),
-    Broken(Refusal),
-}
-
 // How many bytes a saved run of n processes and m variables has.
 pub fn size(n: usize, m: usize) -> usize
     requires { (n ≤ 65535) × (m ≤ 65535) }
@@ -78,10 +70,8 @@ fn put_bytes(out: &mut [u8], at: usize, row: &[u8], from: usize, n: usize) -> us
     ensures { Lays out.old out.new at (bytes_from row.now from n) result }
 {
     let mut next = at;
-    let mut k = 0;
-    while k < n {
-        next = lay::put(out, next, row[from + k]);
-        k += 1;
+    for byte in &row[from..from + n] {
+        next = lay::put(out, next, *byte);
     }
     next
 }
@@ -120,8 +110,7 @@ fn put_processes(out: &mut [u8], at: usize, procs: &[u8], n: usize) -> usize
     ensures { Lays out.old out.new at (rows_bytes (process_record procs.now) (numbers n)) result }
 {
     let mut next = at;
-    let mut i = 0;
-    while i < n {
+    for i in 0..n {
         next = put_record(
             out,
             next,
@@ -131,7 +120,6 @@ fn put_processes(out: &mut [u8], at: usize, procs: &[u8], n: usize) -> usize
             i * codes::ROW_SIZE,
             codes::ROW_SIZE,
         );
-        i += 1;
     }
     next
 }
@@ -142,8 +130,7 @@ fn put_variables(out: &mut [u8], at: usize, vars: &[u8], n: usize) -> usize
     ensures { Lays out.old out.new at (rows_bytes (variable_record vars.now) (numbers n)) result }
 {
     let mut next = at;
-    let mut i = 0;
-    while i < n {
+    for i in 0..n {
         next = put_record(
             out,
             next,
@@ -153,7 +140,6 @@ fn put_variables(out: &mut [u8], at: usize, vars: &[u8], n: usize) -> usize
             i * codes::CELL_SIZE,
             codes::CELL_SIZE,
         );
-        i += 1;
     }
     next
 }
@@ -263,37 +249,30 @@ fn seen_with(g: Seen, kind: usize) -> Seen
 {
     if kind == PROCESS_KIND {
         return Seen {
-            kind: kind,
+            kind,
             procs: g.procs + 1,
-            vars: g.vars,
+            ..g
         };
     }
     if kind == VARIABLE_KIND {
         return Seen {
-            kind: kind,
-            procs: g.procs,
+            kind,
             vars: g.vars + 1,
+            ..g
         };
     }
-    Seen {
-        kind: kind,
-        procs: g.procs,
-        vars: g.vars,
-    }
+    Seen { kind, ..g }
 }
 
 // A refusal with its number and offset.
-fn broken(number: u8, offset: usize) -> Reading
-    ensures { result ≡ Broken (refusal number offset) }
+fn broken(number: u8, offset: usize) -> Answer<(usize, usize)>
+    ensures { result ≡ Err (refusal number offset) }
 {
-    Reading::Broken(Refusal {
-        number: number,
-        offset: offset,
-    })
+    Err(Refusal { number, offset })
 }
 
 // The records of a saved run in their order: how many processes and variables, or the first refusal.
-pub fn read(s: &[u8]) -> Reading
+pub fn read(s: &[u8]) -> Answer<(usize, usize)>
     ensures { result ≡ read_saved s.now }
 {
     let n = s.len();
@@ -315,20 +294,7 @@ pub fn read(s: &[u8]) -> Reading
     if g.kind == 0 {
         return broken(codes::KIND, 0);
     }
-    Reading::Whole(g.procs, g.vars)
-}
-
-// The refusal that an answer holds.
-pub fn refusal(a: Reading) -> Refusal
-    ensures { result ≡ refusal_in a }
-{
-    match a {
-        Reading::Whole(_, _) => Refusal {
-            number: 0,
-            offset: 0,
-        },
-        Reading::Broken(r) => r,
-    }
+    Ok((g.procs, g.vars))
 }
 
 // ---- reading back
@@ -357,11 +323,9 @@ fn take_processes(s: &[u8], n: usize, procs: &mut [u8])
     ensures { procs.new ≡ rows_in s.now n (length procs.old) }
 {
     rows::wipe(procs, 0, procs.len());
-    let mut i = 0;
-    while i < n {
+    for i in 0..n {
         let from = HEAD_LENGTH + i * PROCESS_LENGTH + codes::RECORD_BODY;
         put_bytes(procs, i * codes::ROW_SIZE, s, from, codes::ROW_SIZE);
-        i += 1;
     }
 }
 
@@ -371,11 +335,9 @@ fn take_variables(s: &[u8], a: usize, n: usize, vars: &mut [u8])
     ensures { vars.new ≡ cells_in s.now a n (length vars.old) }
 {
     rows::wipe(vars, 0, vars.len());
-    let mut i = 0;
-    while i < n {
+    for i in 0..n {
         let from = HEAD_LENGTH + a * PROCESS_LENGTH + i * VARIABLE_LENGTH + codes::RECORD_BODY;
         put_bytes(vars, i * codes::CELL_SIZE, s, from, codes::CELL_SIZE);
-        i += 1;
     }
 }
 

@@ -1,4 +1,5 @@
 -- Where `spelling` stops is the first byte with which no text goes on.
+use Rattle.std.specs.Prelude.{Result, ⊤, Ok, Err}
 use mathlib.Core.Path.{◌∙◌, ◌≡◌, ap, refl}
 use mathlib.Core.Bool.{Bool, false, true}
 use mathlib.Core.List.{[], ◌++◌, ◌∷◌, append_assoc, List}
@@ -12,30 +13,28 @@ use Rattle.spell.proofs.Language.{afters-back, afters-off, any-ends, ends-any, f
 use Rattle.spell.specs.Forms.{Form, Reads}
 use Rattle.spell.specs.Grammar.{ClauseText, text}
 use Rattle.spell.specs.Stuck.{afters, any_ends, ended, goes, spelling, spelling_of, StuckAt}
-use Rattle.spell.specs.declared.Spelt.{Spelt}
-use Rattle.spell.specs.declared.Spelt.TheVariants.{Right, Stuck}
 
 -- ---- nothing is found exactly where the text can be read
 
-ended-none : (h : Bool) (i : ℕ) → ended h i ≡ Right → h ≡ true
+ended-none : (h : Bool) (i : ℕ) → ended h i ≡ Ok tt → h ≡ true
 ended-none true i e = refl
 ended-none false i e = absurd (let z : ◌≡◌ {A = ℕ} 0 1 = cc in omega arith)
 
-pub none_read : (s : List ℕ) (xs : List Form) (i : ℕ) → spelling s xs i ≡ Right → Off xs s []
+pub none_read : (s : List ℕ) (xs : List Form) (i : ℕ) → spelling s xs i ≡ Ok tt → Off xs s []
 unfolding spelling
 none_read [] xs i e = ends-any xs (ended-none (any_ends xs) i e)
 none_read (b ∷ s) xs i e = afters-back b xs (go (λ ys j. none_read s ys j) (afters b xs) e)
   where
-    go : ((ys : List Form) (j : ℕ) → spelling s ys j ≡ Right → Off ys s []) → (l : List Form) → goes (spelling s) l i ≡ Right → Off l s []
+    go : ((ys : List Form) (j : ℕ) → spelling s ys j ≡ Ok tt → Off ys s []) → (l : List Form) → goes (spelling s) l i ≡ Ok tt → Off l s []
     go f [] e = absurd (let z : ◌≡◌ {A = ℕ} 0 1 = cc in omega arith)
     go f (y ∷ ys) e = f (y ∷ ys) (i + 1) e
 
-pub read_none : (s : List ℕ) (xs : List Form) (i : ℕ) → Off xs s [] → spelling s xs i ≡ Right
+pub read_none : (s : List ℕ) (xs : List Form) (i : ℕ) → Off xs s [] → spelling s xs i ≡ Ok tt
 unfolding spelling
 read_none [] xs i p = rw (any-ends xs p)
 read_none (b ∷ s) xs i p = go (λ ys j. read_none s ys j) (afters b xs) (afters-off b xs p)
   where
-    go : ((ys : List Form) (j : ℕ) → Off ys s [] → spelling s ys j ≡ Right) → (l : List Form) → Off l s [] → goes (spelling s) l i ≡ Right
+    go : ((ys : List Form) (j : ℕ) → Off ys s [] → spelling s ys j ≡ Ok tt) → (l : List Form) → Off l s [] → goes (spelling s) l i ≡ Ok tt
     go f [] p = off_nil [] p refl
     go f (y ∷ ys) p = f (y ∷ ys) (i + 1) p
 
@@ -54,7 +53,7 @@ Spelt-here xs s i j = (k : ℕ) × (j ≡ i + k) × Here xs s k
 begins : (x : Form) (xs : List Form) → Off (x ∷ xs) (finish x ++ []) []
 begins x xs = here (finish-reads x)
 
-at-end : (x : Form) (xs : List Form) (i j : ℕ) (h : Bool) → any_ends (x ∷ xs) ≡ h → ended h i ≡ Stuck j → Spelt-here (x ∷ xs) [] i j
+at-end : (x : Form) (xs : List Form) (i j : ℕ) (h : Bool) → any_ends (x ∷ xs) ≡ h → ended h i ≡ Err j → Spelt-here (x ∷ xs) [] i j
 at-end x xs i j true e f = absurd (let z : ◌≡◌ {A = ℕ} 0 1 = cc in omega arith)
 at-end x xs i j false e f = (
   zero,
@@ -68,7 +67,7 @@ at-end x xs i j false e f = (
 )
 
 module _ (x : Form) (xs : List Form) (b : ℕ) (s : List ℕ) where
-  at_byte : (i j : ℕ) → afters b (x ∷ xs) ≡ [] → Stuck i ≡ Stuck j → Spelt-here (x ∷ xs) (b ∷ s) i j
+  at_byte : (i j : ℕ) → afters b (x ∷ xs) ≡ [] → ◌≡◌ {A = Result ⊤ ℕ} (Err i) (Err j) → Spelt-here (x ∷ xs) (b ∷ s) i j
   at_byte i j e f = (
     zero,
     (let g : i ≡ j = cc in omega arith),
@@ -92,13 +91,13 @@ module _ (x : Form) (xs : List Form) (b : ℕ) (s : List ℕ) where
     },
   )
 
-pub found_here : (s : List ℕ) (x : Form) (xs : List Form) (i j : ℕ) → spelling s (x ∷ xs) i ≡ Stuck j → Spelt-here (x ∷ xs) s i j
+pub found_here : (s : List ℕ) (x : Form) (xs : List Form) (i j : ℕ) → spelling s (x ∷ xs) i ≡ Err j → Spelt-here (x ∷ xs) s i j
 unfolding spelling
 found_here [] x xs i j e = at-end x xs i j (any_ends (x ∷ xs)) refl e
 found_here (b ∷ s) x xs i j e = go (λ y ys k. found_here s y ys k j) (afters b (x ∷ xs)) refl e
   where
-    go : ((y : Form) (ys : List Form) (k : ℕ) → spelling s (y ∷ ys) k ≡ Stuck j → Spelt-here (y ∷ ys) s k j) →
-        (l : List Form) → afters b (x ∷ xs) ≡ l → goes (spelling s) l i ≡ Stuck j → Spelt-here (x ∷ xs) (b ∷ s) i j
+    go : ((y : Form) (ys : List Form) (k : ℕ) → spelling s (y ∷ ys) k ≡ Err j → Spelt-here (y ∷ ys) s k j) →
+        (l : List Form) → afters b (x ∷ xs) ≡ l → goes (spelling s) l i ≡ Err j → Spelt-here (x ∷ xs) (b ∷ s) i j
     go f [] d e = at_byte x xs b s i j d e
     go f (y ∷ ys) d e = further x xs b s (y ∷ ys) i j d (f y ys (i + 1) e)
 
@@ -108,15 +107,15 @@ off-one : {x : Form} {s t : List ℕ} → Off (x ∷ []) s t → Reads x s t
 off-one (here p) = p
 off-one (there p) = off_nil [] p refl
 
-pub accepted-right : (s : List ℕ) → spelling_of s ≡ Right → ClauseText s
+pub accepted-right : (s : List ℕ) → spelling_of s ≡ Ok tt → ClauseText s
 unfolding spelling_of ClauseText
 accepted-right s e = off-one (none_read s (text ∷ []) 0 e)
 
-pub right-accepted : (s : List ℕ) → ClauseText s → spelling_of s ≡ Right
+pub right-accepted : (s : List ℕ) → ClauseText s → spelling_of s ≡ Ok tt
 unfolding spelling_of ClauseText
 right-accepted s p = read_none s (text ∷ []) 0 (here p)
 
-pub stuck-exact : (s : List ℕ) (i : ℕ) → spelling_of s ≡ Stuck i → StuckAt s i
+pub stuck-exact : (s : List ℕ) (i : ℕ) → spelling_of s ≡ Err i → StuckAt s i
 unfolding spelling_of ClauseText
 stuck-exact s i e = go (found_here s text [] 0 i e)
   where
@@ -148,12 +147,12 @@ stuck-only s i j a b = go (ltb i j) refl (ltb j i) refl
     go false e false f = let g = ltb-false i j e in let h = ltb-false j i f in omega arith
 
 -- exactly: a text is spelling where the definition says
-pub stuck-found : (s : List ℕ) (i : ℕ) → StuckAt s i → spelling_of s ≡ Stuck i
+pub stuck-found : (s : List ℕ) (i : ℕ) → StuckAt s i → spelling_of s ≡ Err i
 stuck-found s i a = go (spelling_of s) refl
   where
-    go : (r : Spelt) → spelling_of s ≡ r → spelling_of s ≡ Stuck i
-    go (Stuck j) e = e ∙ ap Stuck (stuck-only s j i (stuck-exact s j e) a)
-    go Right e = absurd (wrong (accepted-right s e) (ltb i (length s)) refl)
+    go : (r : Result ⊤ ℕ) → spelling_of s ≡ r → spelling_of s ≡ Err i
+    go (Err j) e = e ∙ ap Err (stuck-only s j i (stuck-exact s j e) a)
+    go (Ok tt) e = absurd (wrong (accepted-right s e) (ltb i (length s)) refl)
       where
         wrong : ClauseText s → (b : Bool) → ltb i (length s) ≡ b → ⊥
         wrong p true f = a.past (ltb-true i (length s) f) (drop (suc i) s) (rw (take-append-drop (suc i) s) p)

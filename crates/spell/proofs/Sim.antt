@@ -1,4 +1,5 @@
 -- The run over the table is the run over forms.
+use Rattle.std.specs.Prelude.{Result, ⊤, Err}
 use mathlib.Core.Path.{◌∙◌, ◌≡◌, ap, refl, sym}
 use mathlib.Core.Bool.{Bool, beq, false, true}
 use mathlib.Core.List.{[], ◌∷◌, List}
@@ -19,8 +20,6 @@ use Rattle.spell.specs.Grammar.{text}
 use Rattle.spell.specs.Rows.{cell_count, kind_count, kinds, last_state, rows, states}
 use Rattle.spell.specs.Stuck.{afters, any_ends, ended, goes, spelling, spelling_of}
 use Rattle.spell.specs.Table.{follows, moves, row_after, row_run, run, steps}
-use Rattle.spell.specs.declared.Spelt.{Spelt}
-use Rattle.spell.specs.declared.Spelt.TheVariants.{Stuck}
 
 -- ---- bytes
 
@@ -82,15 +81,15 @@ state-empty q h = beq-is _ _ (both_true (beq (any_ends (stands q)) (eqb q last_s
 abbrev pub Bytes : List ℕ → Type 0
 Bytes s = (j : ℕ) → get_or s j 0 < 256
 
-goes_on : (f : List Form → ℕ → Spelt) (xs : List Form) (i : ℕ) → empty xs ≡ false → goes f xs i ≡ f xs (i + 1)
+goes_on : (f : List Form → ℕ → Result ⊤ ℕ) (xs : List Form) (i : ℕ) → empty xs ≡ false → goes f xs i ≡ f xs (i + 1)
 goes_on f [] i e = absurd (let z : ◌≡◌ {A = ℕ} 0 1 = cc in omega arith)
 goes_on f (x ∷ xs) i e = refl
 
-goes-not : (f : List Form → ℕ → Spelt) (xs : List Form) (i : ℕ) → empty xs ≡ true → goes f xs i ≡ Stuck i
+goes-not : (f : List Form → ℕ → Result ⊤ ℕ) (xs : List Form) (i : ℕ) → empty xs ≡ true → goes f xs i ≡ Err i
 goes-not f [] i e = refl
 goes-not f (x ∷ xs) i e = absurd (let z : ◌≡◌ {A = ℕ} 0 1 = cc in omega arith)
 
-sim-step : (f : List Form → ℕ → Spelt) (g : ℕ → ℕ → Spelt) (q i : ℕ) → q < states → (f (stands q) (i + 1) ≡ g q (i + 1)) → goes f (stands q) i ≡ moves g q i
+sim-step : (f : List Form → ℕ → Result ⊤ ℕ) (g : ℕ → ℕ → Result ⊤ ℕ) (q i : ℕ) → q < states → (f (stands q) (i + 1) ≡ g q (i + 1)) → goes f (stands q) i ≡ moves g q i
 sim-step f g zero i h e = goes-not f (stands zero) i (state-empty zero h)
 sim-step f g (suc q) i h e = goes_on f (stands (suc q)) i (state-empty (suc q) h ∙ ne_eqb (suc q) 0 (λ z. omega arith)) ∙ e
 
@@ -119,11 +118,11 @@ row-follows : (q b : ℕ) → row_after (q * kind_count) b ≡ follows q b * kin
 unfolding row_after follows
 row-follows q b = step-at (q * kind_count + get_or kinds b 0)
 
-moves-go : (f : ℕ → ℕ → Spelt) (q i : ℕ) → (q ≡ 0 → ⊥) → moves f q i ≡ f q (i + 1)
+moves-go : (f : ℕ → ℕ → Result ⊤ ℕ) (q i : ℕ) → (q ≡ 0 → ⊥) → moves f q i ≡ f q (i + 1)
 moves-go f zero i h = absurd (h refl)
 moves-go f (suc q) i h = refl
 
-row-moves : (f g : ℕ → ℕ → Spelt) (q i : ℕ) → f (q * kind_count) (i + 1) ≡ g q (i + 1) → moves f (q * kind_count) i ≡ moves g q i
+row-moves : (f g : ℕ → ℕ → Result ⊤ ℕ) (q i : ℕ) → f (q * kind_count) (i + 1) ≡ g q (i + 1) → moves f (q * kind_count) i ≡ moves g q i
 row-moves f g zero i e = refl
 row-moves f g (suc q) i e = moves-go f (suc q * kind_count) i (λ z. omega arith) ∙ e
 
@@ -148,7 +147,7 @@ run-cons s p i h = rw (add-one, drop-cons s i 0)
 pub run-go : (s : List ℕ) (p r i : ℕ) → i < length s → r ≡ row_after p (get_or s i 0) → (r ≡ 0 → ⊥) → row_run (drop i s) p i ≡ row_run (drop (i + 1) s) r (i + 1)
 run-go s p r i h e f = rw (run-cons s p i h, ← e) (moves-go (row_run (drop (i + 1) s)) r i f)
 
-pub run-stop : (s : List ℕ) (p r i : ℕ) → i < length s → r ≡ row_after p (get_or s i 0) → r ≡ 0 → row_run (drop i s) p i ≡ Stuck i
+pub run-stop : (s : List ℕ) (p r i : ℕ) → i < length s → r ≡ row_after p (get_or s i 0) → r ≡ 0 → row_run (drop i s) p i ≡ Err i
 run-stop s p r i h e f = rw (run-cons s p i h, ← e, f)
 
 pub run_end : (s : List ℕ) (p i : ℕ) → length s ≤ i → row_run (drop i s) p i ≡ ended (eqb p (last_state * kind_count)) i

@@ -1,7 +1,6 @@
 -- Worked examples of clause texts, and of texts that are none.
-use Rattle.std.specs.Prelude.{[], ◌∷◌, List, ◌≡◌, ℕ}
+use Rattle.std.specs.Prelude.{[], ◌∷◌, List, ◌≡◌, ℕ, Ok, Err}
 use Rattle.spell.specs.Stuck.{spelling_of}
-use Rattle.spell.specs.declared.Spelt.TheVariants.{Right, Stuck}
 
 -- `p <- .`: a body without a literal has no `<-`
 abbrev pub no_body : List ℕ
@@ -49,14 +48,14 @@ many_forms = 109 ∷ 111 ∷ 100 ∷ 101 ∷ 32 ∷ 109 ∷ 111 ∷ 100 ∷ 101 
 
 -- Text 9: where each of them is stuck, or that it is a clause text
 pub record Spellings : Type 0 where
-  pub no_body_is : spelling_of no_body ≡ Stuck 13
-  pub half_arrow_is : spelling_of half_arrow ≡ Stuck 11
-  pub late_mode_is : spelling_of late_mode ≡ Stuck 16
-  pub no_end_is : spelling_of no_end ≡ Stuck 12
-  pub empty_is : spelling_of empty ≡ Stuck 0
-  pub no_guard_is : spelling_of no_guard ≡ Stuck 13
-  pub digit_first_is : spelling_of digit_first ≡ Stuck 13
-  pub open_mode_line_is : spelling_of open_mode_line ≡ Stuck 7
-  pub behind_goal_is : spelling_of behind_goal ≡ Stuck 5
-  pub one_fact_is : spelling_of one_fact ≡ Right
-  pub many_forms_is : spelling_of many_forms ≡ Right
+  pub no_body_is : spelling_of no_body ≡ Err 13
+  pub half_arrow_is : spelling_of half_arrow ≡ Err 11
+  pub late_mode_is : spelling_of late_mode ≡ Err 16
+  pub no_end_is : spelling_of no_end ≡ Err 12
+  pub empty_is : spelling_of empty ≡ Err 0
+  pub no_guard_is : spelling_of no_guard ≡ Err 13
+  pub digit_first_is : spelling_of digit_first ≡ Err 13
+  pub open_mode_line_is : spelling_of open_mode_line ≡ Err 7
+  pub behind_goal_is : spelling_of behind_goal ≡ Err 5
+  pub one_fact_is : spelling_of one_fact ≡ Ok tt
+  pub many_forms_is : spelling_of many_forms ≡ Ok tt

@@ -1,9 +1,7 @@
 -- Where a text leaves the clause texts: as a fact, and computed from the forms that may follow, byte by byte.
-use Rattle.std.specs.Prelude.{◌&&◌, ◌||◌, Bool, false, true, [], ◌++◌, ◌∷◌, List, ◌≡◌, ◌+◌, ◌<◌, ◌≤◌, suc, ℕ, length, take}
+use Rattle.std.specs.Prelude.{◌&&◌, ◌||◌, Bool, false, true, [], ◌++◌, ◌∷◌, List, ◌≡◌, ◌+◌, ◌<◌, ◌≤◌, suc, ℕ, length, take, Result, ⊤, Ok, Err}
 use Rattle.spell.specs.Forms.{◌or◌, ◌then◌, Form, in_span, many, nothing, span}
 use Rattle.spell.specs.Grammar.{ClauseText, text}
-use Rattle.spell.specs.declared.Spelt.{Spelt}
-use Rattle.spell.specs.declared.Spelt.TheVariants.{Right, Stuck}
 
 -- Text 9: what stands before place i begins a clause text; with the byte there it does not, or there is none and the text is not yet one
 pub record StuckAt (s : List ℕ) (i : ℕ) : Type 0 where
@@ -62,20 +60,20 @@ any_ends [] = false
 any_ends (x ∷ xs) = ends x || any_ends xs
 
 -- the bytes end at place i
-abbrev pub ended : Bool → ℕ → Spelt
-ended true i = Right
-ended false i = Stuck i
+abbrev pub ended : Bool → ℕ → Result ⊤ ℕ
+ended true i = Ok tt
+ended false i = Err i
 
 -- where nothing may follow, the byte at place i is the one
-abbrev pub goes : (List Form → ℕ → Spelt) → List Form → ℕ → Spelt
-goes f [] i = Stuck i
+abbrev pub goes : (List Form → ℕ → Result ⊤ ℕ) → List Form → ℕ → Result ⊤ ℕ
+goes f [] i = Err i
 goes f (x ∷ xs) i = f (x ∷ xs) (i + 1)
 
 -- what is left of a text from place i on, with one of these forms to be read off it
-unfoldable pub spelling : List ℕ → List Form → ℕ → Spelt
+unfoldable pub spelling : List ℕ → List Form → ℕ → Result ⊤ ℕ
 spelling [] xs i = ended (any_ends xs) i
 spelling (b ∷ s) xs i = goes (spelling s) (afters b xs) i
 
 -- Text 9: a clause text, or the place of the first byte that no clause text could continue with
-unfoldable pub spelling_of : List ℕ → Spelt
+unfoldable pub spelling_of : List ℕ → Result ⊤ ℕ
 spelling_of s = spelling s (text ∷ []) 0

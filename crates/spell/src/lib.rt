@@ -8,13 +8,6 @@ ghost use Rattle.spell.specs.Rows.{cell_count, kind_count, kinds};
 ghost use Rattle.spell.specs.Stuck.{spelling_of};
 ghost use Rattle.spell.specs.Table.{row_after, steps};
 
-// A clause text, or the place of the first byte that no clause text could continue with.
-#[derive(Clone, Copy)]
-pub enum Spelt {
-    Right,
-    Stuck(usize),
-}
-
 // The row that follows the one at place row, at byte b.
 fn follows(ks: &[u8; 256], rs: &[u16; 1240], row: usize, b: u8) -> usize
     requires { (ks.now ≡ kinds) × (rs.now ≡ steps) × (row + kind_count ≤ cell_count) }
@@ -26,27 +19,25 @@ fn follows(ks: &[u8; 256], rs: &[u16; 1240], row: usize, b: u8) -> usize
 }
 
 // The run over the tables.
-fn scan(ks: &[u8; 256], rs: &[u16; 1240], text: &[u8]) -> Spelt
+fn scan(ks: &[u8; 256], rs: &[u16; 1240], text: &[u8]) -> Result<(), usize>
     requires { (ks.now ≡ kinds) × (rs.now ≡ steps) }
     ensures { result ≡ spelling_of text.now }
 {
     let mut row: usize = tables::FIRST_ROW;
-    let mut i: usize = 0;
-    while i < text.len() {
-        row = follows(ks, rs, row, text[i]);
+    for (i, b) in text.iter().enumerate() {
+        row = follows(ks, rs, row, *b);
         if row == 0 {
-            return Spelt::Stuck(i);
+            return Err(i);
         }
-        i += 1;
     }
     if row == tables::LAST_ROW {
-        return Spelt::Right;
+        return Ok(());
     }
-    Spelt::Stuck(i)
+    Err(text.len())
 }
 
 // 16, TEXT.
-pub fn spelling(text: &[u8]) -> Spelt
+pub fn spelling(text: &[u8]) -> Result<(), usize>
     ensures { result ≡ spelling_of text.now }
 {
     scan(&tables::KINDS, &tables::STEPS, text)

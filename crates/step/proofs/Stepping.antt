@@ -1,8 +1,11 @@
 -- The ways through a step.
-use mathlib.Core.Path.{◌∙◌, ◌≡◌, refl}
+use Rattle.parlog.specs.declared.Move.{Move}
+use Rattle.std.specs.Prelude.{Ok, Err}
+use Rattle.parlog.specs.Answer.{Answer}
+use mathlib.Core.Path.{◌∙◌, ◌≡◌, refl, ap}
 use mathlib.Core.Bool.{Bool, false, true}
 use mathlib.Core.List.{List}
-use Prim.Native.Nat.{◌+◌, ◌<◌, ◌≤◌, suc, zero, ℕ}
+use Prim.Native.Nat.{◌+◌, ◌<◌, ◌≤◌, ℕ}
 use lib.Dec.{ltb}
 use lib.ListN.{length}
 use borrow.Author.Tests.{le-ltb}
@@ -19,35 +22,59 @@ use Rattle.parlog.specs.Load.{refusal}
 use Rattle.parlog.specs.Program.{program_of}
 use Rattle.parlog.specs.Rules.{rule_of}
 use Rattle.parlog.specs.Run.{counted, made, procs_in, stepped, step_tables, unmade}
-use Rattle.parlog.specs.Tables.{head_bytes, Lent, marker_steps, proc_count, procs_of, Tables, tables_in, var_count}
-use Rattle.parlog.specs.declared.Loaded.{Loaded}
-use Rattle.parlog.specs.declared.Loaded.TheVariants.{Accepted, Refused}
+use Rattle.parlog.specs.Tables.{head_bytes, Lent, marker_steps, proc_count, procs_of, tables_in, var_count}
 use Rattle.parlog.specs.declared.Refusal.{Refusal}
-use Rattle.parlog.specs.declared.Stepped.{Stepped}
-use Rattle.parlog.specs.declared.Stepped.TheVariants.{Moved, Unmoved}
 use Rattle.rows.proofs.Tables.{procs-length}
 use Rattle.rows.specs.Rows.{Bytes, Table}
 use Rattle.step.proofs.Deciding.{parents-fall, room_for, rule-made, step-full, step-made, step-still}
 use Rattle.step.proofs.Making.{made-head, made_inside, made-procs, made-tables, made-vars, procs-after, vars-after}
-use Rattle.step.specs.Stepping.{CarriedOut, Carries, PlannedSays, step_in, step_of, SteppedSays, StepSays}
-use Rattle.step.specs.declared.Planning.{Planning}
+use Rattle.step.specs.Stepping.{CarriedOut, Carries, PlannedSays, step_in, SteppedSays, StepSays}
 use Rattle.tree.specs.Family.{most_rows}
 use Rattle.vars.specs.Cells.{Cells}
 
 -- ---- what is decided
 
+no-refusal : {P : Type 0} {pl : Plan} {f : Refusal} → ◌≡◌ {A = Answer Plan} (Ok pl) (Err f) → P
+no-refusal e = absurd (let z : ◌≡◌ {A = ℕ} 0 1 = cc in omega arith)
+
+no-plan : {P : Type 0} {pl : Plan} {f : Refusal} → ◌≡◌ {A = Answer Plan} (Err f) (Ok pl) → P
+no-plan e = absurd (let z : ◌≡◌ {A = ℕ} 0 1 = cc in omega arith)
+
+plan-is : {pl ql : Plan} → ◌≡◌ {A = Answer Plan} (Ok pl) (Ok ql) → pl ≡ ql
+plan-is e = cc
+
+refusal-is : {f g : Refusal} → ◌≡◌ {A = Answer Plan} (Err f) (Err g) → f ≡ g
+refusal-is e = cc
+
+-- a decision that is a refusal without an offset
+refused_by : {lim : Limits} {s : List ℕ} {r c : ℕ} {l : Lent} {p k : ℕ} {f : Refusal} → f ≡ refusal k 0 → step_in lim s r c l p ≡ unmade k → PlannedSays lim s r c l p (Err f)
+refused_by {k = k} {f = f} ef e = record {
+  step = e ∙ rw ef;
+  plain = λ z. plainly z;
+  rule = λ z. no-plan z;
+  carries = λ z. no-plan z;
+}
+  where
+    plainly : {g : Refusal} → ◌≡◌ {A = Answer Plan} (Err f) (Err g) → g ≡ refusal g.number 0
+    plainly z = let y = refusal-is z in rw (← y, ef)
+
 module _ (lim : Limits) (s : List ℕ) (r c : ℕ) (l : Lent) (i : Inside lim s r c l) (p : ℕ) (h : p < proc_count l.head) {n m : ℕ} (en : n ≡ proc_count l.head) (em : m ≡ var_count l.head)
     (pl : Plan) (is : applied_of pl ≡ rule_of (program_of s r c) (state_in l.procs n l.vars m) p) where
-  pub planned-still : pl.acts ≡ false → PlannedSays lim s r c l p (record { number = 10; plan = pl })
-  planned-still e = record { step = step-still lim s r c l p h en em pl is e; rule = λ z. absurd (omega arith); carries = λ z. absurd (omega arith) }
+  pub planned-still : pl.acts ≡ false → {f : Refusal} → f ≡ refusal 10 0 → PlannedSays lim s r c l p (Err f)
+  planned-still e ef = refused_by ef (step-still lim s r c l p h en em pl is e)
 
   module _ (e : pl.acts ≡ true) {b : Bool} (eb : b ≡ fits_in lim.procs lim.vars n m pl) where
-    pub planned-full : b ≡ false → PlannedSays lim s r c l p (record { number = 11; plan = pl })
-    planned-full q = record { step = step-full lim s r c l p h en em pl is e eb q; rule = λ z. absurd (omega arith); carries = λ z. absurd (omega arith) }
+    pub planned-full : b ≡ false → {f : Refusal} → f ≡ refusal 11 0 → PlannedSays lim s r c l p (Err f)
+    planned-full q ef = refused_by ef (step-full lim s r c l p h en em pl is e eb q)
 
     pub planned-made : b ≡ true → lim.procs ≤ most_rows → pl.count ≤ new_most → pl.changes.count ≤ 4 → Within m pl.changes.count pl.changes.list
-        → PlannedSays lim s r c l p (record { number = 0; plan = pl })
-    planned-made q most few changes w = record { step = step-made lim s r c l p h en em pl is e eb q; rule = λ z. rule-made lim s r c l p h en em pl is e; carries = λ z. carries_so }
+        → PlannedSays lim s r c l p (Ok pl)
+    planned-made q most few changes w = record {
+      step = step-made lim s r c l p h en em pl is e eb q;
+      plain = λ z. no-refusal z;
+      rule = λ z. rw (← plan-is z) (rule-made lim s r c l p h en em pl is e);
+      carries = λ z. rw (← plan-is z) carries_so;
+    }
       where
         carries_so : Carries lim l p pl
         carries_so =
@@ -68,33 +95,33 @@ module _ (lim : Limits) (s : List ℕ) (r c : ℕ) (l : Lent) (i : Inside lim s 
 
 -- ---- the step
 
-pub step-unmade : (k : ℕ) (pl : Plan) (t : Tables) (p : ℕ) → (k ≡ 0 → ⊥) → step_of k pl t p ≡ unmade k
-step-unmade zero pl t p h = absurd (h refl)
-step-unmade (suc k) pl t p h = refl
+module _ (lim : Limits) (s : List ℕ) (r c : ℕ) (l : Lent) (i : Inside lim s r c l) (p : ℕ) {d : Answer Plan} (says : PlannedSays lim s r c l p d) where
+  -- a step that is refused is not made
+  pub step-unmade : {f : Refusal} → d ≡ Err f → step_in lim s r c l p ≡ unmade f.number
+  step-unmade z = rw z at says.step
 
-module _ (lim : Limits) (s : List ℕ) (r c : ℕ) (l : Lent) (i : Inside lim s r c l) (p : ℕ) {d : Planning} (says : PlannedSays lim s r c l p d) where
-  pub stepped-refused : (d.number ≡ 0 → ⊥) → {f : Refusal} → f ≡ refusal d.number 0 → SteppedSays lim s r c l p (Unmoved f) l.head l.procs l.vars
-  stepped-refused h ef =
-      let e = says.step ∙ step-unmade d.number d.plan (tables_in l) p h in
-      record { answer = rw (e, ef); head = rw e; procs = rw e; vars = rw e; inside = i; tables = rw e; more_procs = omega arith; more_vars = omega arith }
+  pub stepped-refused : {f : Refusal} → d ≡ Err f → SteppedSays lim s r c l p (Err f) l.head l.procs l.vars
+  stepped-refused {f} z =
+      let e = step-unmade z in
+      record { answer = rw e (ap Err (says.plain z)); head = rw e; procs = rw e; vars = rw e; inside = i; tables = rw e; more_procs = omega arith; more_vars = omega arith }
 
-  module _ (z : d.number ≡ 0) {h ps vs : List ℕ} (out : CarriedOut l p d.plan h ps vs) where
+  module _ {pl : Plan} (z : d ≡ Ok pl) {h ps vs : List ℕ} (out : CarriedOut l p pl h ps vs) where
     abbrev dl : Delta
-    dl = delta_of d.plan
+    dl = delta_of pl
 
-    made_so : step_in lim s r c l p ≡ made d.plan.mv (stepped (tables_in l) p dl)
+    made_so : step_in lim s r c l p ≡ made pl.mv (stepped (tables_in l) p dl)
     made_so = says.step ∙ rw z
 
     few : proc_count l.head + length dl.new ≤ lim.procs
-    few = omega (arith, delta-new d.plan, (says.carries z).few_procs)
+    few = omega (arith, delta-new pl, (says.carries z).few_procs)
 
     few-vars : var_count l.head + dl.fresh ≤ lim.vars
-    few-vars = omega (arith, delta-fresh d.plan, (says.carries z).few-vars)
+    few-vars = omega (arith, delta-fresh pl, (says.carries z).few-vars)
 
     head-is-so : h ≡ head_bytes (proc_count l.head + length dl.new) (var_count l.head + dl.fresh) p (counted (marker_steps l.head))
-    head-is-so = out.head ∙ rw (delta-new d.plan, delta-fresh d.plan)
+    head-is-so = out.head ∙ rw (delta-new pl, delta-fresh pl)
 
-    pub stepped-moved : SteppedSays lim s r c l p (Moved d.plan.mv) h ps vs
+    pub stepped-moved : SteppedSays lim s r c l p (Ok pl.mv) h ps vs
     stepped-moved = record {
       answer = rw made_so;
       head = rw made_so (made-head lim s r c l i p dl made_so few few-vars head-is-so out.procs out.vars);
@@ -122,27 +149,27 @@ carried-out l p pl en em ek ej tp tv ea bp bv = record {
 
 -- ---- the call
 
-module _ (lim : Limits) (s : List ℕ) (l : Lent) (p : ℕ) {e : Loaded} (told : EnterSays lim s l e) where
-  pub step-refused : {f g : Refusal} → e ≡ Refused f → g ≡ refusal_of e → StepSays lim s l p (Unmoved g) l.head l.procs l.vars
+module _ (lim : Limits) (s : List ℕ) (l : Lent) (p : ℕ) {e : Answer (ℕ × ℕ)} (told : EnterSays lim s l e) where
+  pub step-refused : {f g : Refusal} → e ≡ Err f → g ≡ refusal_of e → StepSays lim s l p (Err g) l.head l.procs l.vars
   unfolding step_call
   step-refused q eg = record { answer = rw (told.entry, eg, q); head = rw (told.entry, q); procs = rw (told.entry, q); vars = rw (told.entry, q) }
 
-  module _ {r c : ℕ} (q : e ≡ Accepted r c) where
+  module _ {r c : ℕ} (q : e ≡ Ok (r, c)) where
     call-is : step_call lim s l p ≡ step_answer (step_in lim s r c l p) l
     unfolding step_call
     call-is = rw (told.entry, q)
 
     -- 9: there is no such process
-    pub step-nobody : {n : ℕ} → n ≡ proc_count l.head → n ≤ p → {f : Refusal} → f ≡ refusal 9 0 → StepSays lim s l p (Unmoved f) l.head l.procs l.vars
+    pub step-nobody : {n : ℕ} → n ≡ proc_count l.head → n ≤ p → {f : Refusal} → f ≡ refusal 9 0 → StepSays lim s l p (Err f) l.head l.procs l.vars
     step-nobody en h ef =
-        let k : step_call lim s l p ≡ record { answer = Unmoved (refusal 9 0); lent = l } = call-is ∙ nobody in
+        let k : step_call lim s l p ≡ record { answer = Err (refusal 9 0); lent = l } = call-is ∙ nobody in
         record { answer = rw (k, ef); head = rw k; procs = rw k; vars = rw k }
       where
         past : ltb p (procs_in (tables_in l)) ≡ false
         past = unfold tables_in in le-ltb p (length (procs_of l.procs (proc_count l.head))) (omega (arith, procs-length l.procs (proc_count l.head), en, h))
 
-        nobody : step_answer (step_in lim s r c l p) l ≡ record { answer = Unmoved (refusal 9 0); lent = l }
+        nobody : step_answer (step_in lim s r c l p) l ≡ record { answer = Err (refusal 9 0); lent = l }
         nobody = unfold step_tables in rw past
 
-    pub step-done : {a : Stepped} {h ps vs : List ℕ} → SteppedSays lim s r c l p a h ps vs → StepSays lim s l p a h ps vs
+    pub step-done : {a : Answer Move} {h ps vs : List ℕ} → SteppedSays lim s r c l p a h ps vs → StepSays lim s l p a h ps vs
     step-done d = record { answer = rw call-is d.answer; head = rw call-is d.head; procs = rw call-is d.procs; vars = rw call-is d.vars }

@@ -12,7 +12,7 @@ ghost use Rattle.step.specs.Stepping.{CarriedOut, Carries, PlannedSays, StepSays
 
 use children::Told;
 use move_plan::Plan;
-use parlog::{Loaded, Stepped, codes};
+use parlog::{Answer, Move, codes};
 
 // The limits of a run.
 const PROCS: usize = codes::MOST_PROCS;
@@ -29,14 +29,7 @@ fn count(steps: u32) -> u32
     steps
 }
 
-// What a step was decided to be: what refuses it, 0 where nothing does, and its plan.
-#[derive(Clone, Copy)]
-pub struct Planning {
-    pub number: u8,
-    pub plan: Plan,
-}
-
-// What the step of process p will do, in tables that keep the rules; it only reads.
+// What the step of process p will do, in tables that keep the rules, or what refuses it; it only reads.
 pub fn planned(
     image: &[u8],
     rels: usize,
@@ -47,7 +40,7 @@ pub fn planned(
     vars: &[u8],
     p: usize,
     told: Told,
-) -> Planning
+) -> Answer<Plan>
     requires { Inside small image.now rels clauses (lent head.now procs.now vars.now) × (p < proc_count head.now) × ((at (procs_of procs.now (proc_count head.now)) p).mode ≡ 3 → Tells (procs_of procs.now (proc_count head.now)) p told) × Indexed image.now rels clauses ix.now }
     ensures { PlannedSays small image.now rels clauses (lent head.now procs.now vars.now) p result }
 {
@@ -55,18 +48,12 @@ pub fn planned(
     let m = head::var_count(head);
     let plan = moves::rule_of(image, rels, clauses, ix, procs, n, vars, m, p, told);
     if !plan.acts {
-        return Planning {
-            number: codes::STILL,
-            plan,
-        };
+        return Err(entry::refusal(codes::STILL));
     }
     if !move_plan::fits(PROCS, VARS, n, m, plan) {
-        return Planning {
-            number: codes::ROOM,
-            plan,
-        };
+        return Err(entry::refusal(codes::ROOM));
     }
-    Planning { number: 0, plan }
+    Ok(plan)
 }
 
 // The step of process p by its plan, which nothing refuses: it writes the tables.
@@ -92,19 +79,14 @@ pub fn stepped(
     vars: &mut [u8],
     p: usize,
     told: Told,
-) -> Stepped
+) -> Answer<Move>
     requires { Inside small image.now rels clauses (lent head.old procs.old vars.old) × (p < proc_count head.old) × ((at (procs_of procs.old (proc_count head.old)) p).mode ≡ 3 → Tells (procs_of procs.old (proc_count head.old)) p told) × Indexed image.now rels clauses ix.now }
     ensures { SteppedSays small image.now rels clauses (lent head.old procs.old vars.old) p result head.new procs.new vars.new }
 {
-    let d = planned(image, rels, clauses, ix, head, procs, vars, p, told);
-    let number = d.number;
-    if number != 0 {
-        return Stepped::Unmoved(entry::refusal(number));
-    }
-    let plan = d.plan;
+    let plan = planned(image, rels, clauses, ix, head, procs, vars, p, told)?;
     let mv = plan.mv;
     carry_out(head, procs, vars, p, plan);
-    Stepped::Moved(mv)
+    Ok(mv)
 }
 
 // What process p is told of its children; only one that waits asks.
@@ -125,19 +107,19 @@ pub fn step(
     procs: &mut [u8],
     vars: &mut [u8],
     process: u32,
-) -> Stepped
+) -> Answer<Move>
     ensures { StepSays small image.now (lent head.old procs.old vars.old) process result head.new procs.new vars.new }
 {
     let mut ix = [0u16; program_index::SIZE];
     let e = entry::enter(image, head, procs, vars, &mut ix);
-    let Loaded::Accepted(rels, clauses) = e else {
+    let Ok((rels, clauses)) = e else {
         let r = load::refusal(e);
-        return Stepped::Unmoved(r);
+        return Err(r);
     };
     let p = process as usize;
     let n = head::proc_count(head);
     if n <= p {
-        return Stepped::Unmoved(entry::refusal(codes::NODE));
+        return Err(entry::refusal(codes::NODE));
     }
     let told = ask(procs, n, p);
     stepped(image, rels, clauses, &ix, head, procs, vars, p, told)

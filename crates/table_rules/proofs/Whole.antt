@@ -1,16 +1,16 @@
 -- Scans over the rows, and the tables as a whole.
 use mathlib.Core.Path.{◌∙◌, ◌≡◌, ap, refl, sym}
-use mathlib.Core.Bool.{◌&&◌, Bool, false, true}
+use mathlib.Core.Bool.{◌&&◌, Bool, false, true, true≢false}
 use mathlib.Core.List.{List}
-use Prim.Native.Nat.{◌*◌, ◌-◌, ◌<◌, ◌≤◌, suc, zero, ℕ}
+use Prim.Native.Nat.{◌*◌, ◌+◌, ◌<◌, ◌≤◌, suc, zero, ℕ}
 use lib.Dec.{eqb, leb, ltb}
 use lib.ListN.{length}
 use borrow.Author.Tests.{leb-true}
 use native.Mathlib.Omega.{arith}
-use native.Mathlib.Nat.{not-suc-le-zero}
-use Rattle.parlog.proofs.Along.{less_one}
+use native.Mathlib.Numerals.{add-one}
 use Rattle.parlog.proofs.Assume.{full-sizes}
-use Rattle.parlog.proofs.Bools.{and-true}
+use Rattle.parlog.proofs.Bools.{and-true, split}
+use Rattle.parlog.proofs.Scans.{every-at}
 use Rattle.parlog.specs.Limits.{Limits}
 use Rattle.parlog.specs.Program.{Program}
 use Rattle.parlog.specs.Scan.{every, implies}
@@ -21,22 +21,19 @@ use Rattle.table_rules.proofs.Places.{and_none}
 use Rattle.table_rules.specs.Parts.{cell_ok}
 use Rattle.vars.proofs.Tables.{vars-at, vars-length}
 
--- ---- counting down
+-- ---- counting up
 
 module _ (f : ℕ → Bool) where
-  pub down_step : (q : ℕ) → 0 < q → {b : Bool} → b ≡ f (q - 1) → b ≡ true → every f q ≡ every f (q - 1)
+  pub up-none : every f 0 ≡ true
   unfolding every
-  down_step zero h e t = absurd (not-suc-le-zero h)
-  down_step (suc q) h e t = rw less_one (rw (sym (rw less_one at e) ∙ t))
+  up-none = refl
 
-  pub down-stop : (q : ℕ) → 0 < q → {b : Bool} → b ≡ f (q - 1) → b ≡ false → every f q ≡ false
+  pub up_step : (q : ℕ) → every f q ≡ true → {b : Bool} → b ≡ f q → b ≡ true → every f (q + 1) ≡ true
   unfolding every
-  down-stop zero h e t = absurd (not-suc-le-zero h)
-  down-stop (suc q) h e t = rw (sym (rw less_one at e) ∙ t)
+  up_step q h e t = rw (add-one q, ← e, t) h
 
-  pub down-none : (q : ℕ) → q ≡ 0 → every f q ≡ true
-  unfolding every
-  down-none q e = rw e
+  pub up-stop : (n q : ℕ) → q < n → {b : Bool} → b ≡ f q → b ≡ false → every f n ≡ false
+  up-stop n q h e z = split (every f n) (λ y. absurd (true≢false (sym (every-at f n q y h) ∙ sym e ∙ z))) (λ y. y)
 
 -- ---- variables
 

@@ -281,9 +281,7 @@ fn rows_ok(
     requires { (rels ≤ 32) × (clauses ≤ 64) × (count * row_size ≤ length procs.now) × Indexed image.now rels clauses ix.now }
     ensures { result ≡ every (row_ok (program_of image.now rels clauses) (procs_of procs.now count) n) count }
 {
-    let mut q = count;
-    while 0 < q {
-        q -= 1;
+    for q in 0..count {
         let ok = row_ok(image, rels, clauses, ix, procs, count, n, q);
         if !ok {
             return false;
@@ -307,9 +305,7 @@ fn cells_ok(vars: &[u8], n: usize) -> bool
     requires { n * cell_size ≤ length vars.now }
     ensures { result ≡ (every (cell_known vars.now) n && every (var_ok (vars_in vars.now n)) n) }
 {
-    let mut q = n;
-    while 0 < q {
-        q -= 1;
+    for q in 0..n {
         let ok = cell_ok(vars, n, q);
         if !ok {
             return false;

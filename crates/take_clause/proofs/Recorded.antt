@@ -24,10 +24,12 @@ use Rattle.read_clause.specs.Parts.{ClauseIn, part_of}
 use Rattle.read_clause.specs.declared.ClauseAt.{ClauseAt}
 use Rattle.read_goal.specs.Spans.{goal_right, Spans}
 use Rattle.read_goal.specs.declared.Span.{Span}
+use Rattle.read_names.proofs.Lined.{arity_known, arity-or}
+use Rattle.std.specs.Prelude.{is_some, unwrap_or}
 use Rattle.read_names.specs.Tables.{Adds, Finds, mode_names, sorted}
 use Rattle.read_names.specs.declared.Entry.{Entry}
 use Rattle.take_clause.proofs.Lines.{and-swap, line_taken, vars_counted}
-use Rattle.take_clause.specs.TakesClause.{ask_front, clause_front, front_bytes, parts_bytes, said_at, starting, taken_as, TakesAsk, TakesClause, TakesLine, TakesParts}
+use Rattle.take_clause.specs.TakesClause.{ask_front, clause_front, front_bytes, parts_bytes, said_at, starting, taken_as, TakesAsk, TakesClause, TakesLine, TakesPart, TakesParts}
 use Rattle.take_clause.specs.declared.Taken.{Taken}
 use Rattle.take_goal.specs.TakesGoal.{TakesGoal}
 use Rattle.take_term.proofs.Laws.{takes-as, takes-from, takes-then, takes-writes}
@@ -38,7 +40,7 @@ use Rattle.text_names.specs.Names.{look, Name}
 use Rattle.text_program.specs.Encoded.{ask_bytes, clause_bytes, goal_bytes, record_bytes, word_bytes}
 use Rattle.text_program.specs.Numbered.{clause_terms, goal_numbered, goal_terms, joined, mark_by, Numbering, term_numbered, variable_names}
 use Rattle.text_program.specs.Parsing.{all_of}
-use Rattle.text_program.specs.Source.{ModeLine, read_body, read_brackets, read_clause, read_term, Said, SaidClause}
+use Rattle.text_program.specs.Source.{ModeLine, read_body, read_brackets, read_clause, Reader, read_term, Said, SaidClause}
 
 -- ---- fronts
 
@@ -56,20 +58,23 @@ lay-clause-front size number arity mark opens vars e a b c d f =
 
 -- ---- a goal
 
-pub part-nothing : {s : List ℕ} {a : Rows} {w x : Reading} {p : List ℕ} {v y : To} (ms : List ModeLine) (how : ℕ) → how ≡ 0 → Ready s a w → Writes a.out v (lows (0 ∷ [])) true p y → v.at ≡ w.at → x ≡ stands w w.end 0 y.at →
-    TakesGoal s ms a w (part_of how (drop w.end s)) (relaid a p) x
-unfolding part_of goal_bytes joined goal_fits all_of
-part-nothing {w = w} ms how h r f e g = rw h (takes-writes w.end 0 (0 ∷ []) r f e g refl r.inside)
+pub part-nothing : {s : List ℕ} {a : Rows} {w x : Reading} {p : List ℕ} {v y : To} (ms : List ModeLine) → Ready s a w → Writes a.out v (lows (0 ∷ [])) true p y → v.at ≡ w.at → x ≡ stands w w.end 0 y.at →
+    TakesPart s ms a w [] (relaid a p) x
+unfolding goal_bytes joined goal_fits all_of
+part-nothing {s} {w = w} ms r f e g = let i = ap (λ (z : Reading). drop z.end s) g in takes-as (sym i) refl refl (λ cs vs. refl) refl refl (takes-writes w.end 0 (0 ∷ []) r f e g refl r.inside)
+
+-- one that was read at a place
+pub part-some : {s : List ℕ} {a b : Rows} {w y x : Reading} (ms : List ModeLine) (read : Reader (List (List Said))) (at : ℕ) → y ≡ moved w at 0 → TakesGoal s ms a y (read (drop y.end s)) b x → TakesPart s ms a w (read (drop at s)).value b x
+part-some {s} ms read at e t =
+    let i = ap (λ (z : Reading). z.end) e in
+    rw (← i) (takes-as (sym t.end) refl refl (λ cs vs. refl) refl refl (takes-from at 0 e t))
 
 -- ---- terms, guard and body
 
-pub parts-taken : {s : List ℕ} {a b d g : Rows} {w x y z u v : Reading} (ms : List ModeLine) (c : ClauseAt) → w.end ≡ c.terms → TakesTerms s a w (read_brackets read_term (drop w.end s)) b x → y ≡ moved x c.guard 0 →
-    TakesGoal s ms b y (part_of c.guarded (drop y.end s)) d z → u ≡ moved z c.body 0 → TakesGoal s ms d u (part_of c.bodied (drop u.end s)) g v → TakesParts s ms a w (said_at s c) g v
-parts-taken ms c e t f p h q =
-    let i = ap (λ (r : Reading). r.end) f in
-    let j = ap (λ (r : Reading). r.end) h in
-    rw (← e, ← i, ← j)
-    (takes-as (sym q.end) (sym q.count) refl (λ cs vs. refl) refl refl (takes-then (t (mode_names ms)) (takes-then (takes-from c.guard 0 f p) (takes-from c.body 0 h q))))
+pub parts-taken : {s : List ℕ} {a b d g : Rows} {w x z v : Reading} (ms : List ModeLine) (c : ClauseAt) → w.end ≡ c.terms → TakesTerms s a w (read_brackets read_term (drop w.end s)) b x →
+    TakesPart s ms b x (part_of s c.guard) d z → TakesPart s ms d z (part_of s c.body) g v → TakesParts s ms a w (said_at s c) g v
+parts-taken ms c e t p q =
+    rw (← e) (takes-as refl (sym q.count) refl (λ cs vs. refl) refl refl (takes-then (t (mode_names ms)) (takes-then p q)))
 
 -- ---- states to take from
 
@@ -100,16 +105,16 @@ module _ (s : List ℕ) (ms : List ModeLine) (from : ℕ) (c : ClauseAt) (h : En
   parts_said : {a b : Rows} {w x : Reading} → TakesParts s ms a w (said_at s c) b x → TakesParts s ms a w q b x
   parts_said t = rw (← is.terms, ← is.guard, ← is.body) t
 
-  head-fits : (eqb c.arity h.arity && (goal_fits true ms q.guard && goal_fits true ms q.body)) ≡ clause_fits true ms q
+  head-fits : (eqb c.arity (unwrap_or h.arity 0) && (goal_fits true ms q.guard && goal_fits true ms q.body)) ≡ clause_fits true ms q
   unfolding clause_fits literal_fits
-  head-fits = rw (is.arity, found.arity, is.name) refl
+  head-fits = rw (is.arity, found.arity, arity-or ms (front (drop from s)), is.name) refl
 
-  head-known : (h.known && (goal_fits false ms q.guard && goal_fits false ms q.body)) ≡ clause_fits false ms q
+  head-known : (is_some h.arity && (goal_fits false ms q.guard && goal_fits false ms q.body)) ≡ clause_fits false ms q
   unfolding clause_fits literal_fits
-  head-known = rw (found.known, is.name) refl
+  head-known = rw (found.arity, arity_known ms (front (drop from s)), is.name) refl
 
   pub clause-taken : {o t l v : List ℕ} {w x : Reading} {b : Rows} {p : List ℕ} {y : To} (at n : ℕ) (opens : Bool) (r : Taken) → length v ≡ 17 → at ≤ 65536 →
-      w ≡ starting c.terms (at + 8) n (eqb c.arity h.arity) h.known → TakesParts s ms (rows o t l v) w (said_at s c) b x →
+      w ≡ starting c.terms (at + 8) n (eqb c.arity (unwrap_or h.arity 0)) (is_some h.arity) → TakesParts s ms (rows o t l v) w (said_at s c) b x →
       Writes b.out (record { at = at; named = true }) (lows (clause_front (x.at - at) h.number c.arity opens x.vars)) true p y →
       r ≡ taken_as c.next h.number c.semicolon c.right x → TakesClause s ms o t at n opens (read_clause (drop from s)) p b.consts b.links r
   clause-taken {o} {t} {l} {v} {w} {x} {b} {p} {y} at n opens r hv ha e tk f g =
@@ -117,7 +122,7 @@ module _ (s : List ℕ) (ms : List ModeLine) (from : ℕ) (c : ClauseAt) (h : En
       let added : Adds s v 0 b.vars x.vars (sorted true (clause_terms q)) = rw e at tq.vars in
       let number : h.number ≡ look (mode_names ms) q.name = found.number ∙ ap (look (mode_names ms)) is.name in
       let line : TakesLine s o t at n (read_clause (drop from s)).rest (clause_terms q) (λ cs. clause_bytes (clause_in (with_vars (mode_names ms) cs q) (mark_by opens) q)) (clause_right q) (clause_fits true ms q) (clause_fits false ms q) p b.consts b.links r =
-      line_taken at n c.terms (clause_front (x.at - at) h.number c.arity opens x.vars) (eqb c.arity h.arity) h.known (clause_right q) (clause_fits true ms q) (clause_fits false ms q)
+      line_taken at n c.terms (clause_front (x.at - at) h.number c.arity opens x.vars) (eqb c.arity (unwrap_or h.arity 0)) (is_some h.arity) (clause_right q) (clause_fits true ms q) (clause_fits false ms q)
       (λ cs. clause_bytes (clause_in (with_vars (mode_names ms) cs q) (mark_by opens) q)) r hv ha (omega arith) e tq f
       (λ k. (right-parts q k).vars) (λ k cs vs. parts-short (numbers_by (mode_names ms) cs vs) q k)
       (λ k many cs place. clause-whole (with_vars (mode_names ms) cs q) q opens at x.at h.number c.arity x.vars place number is.arity many)

@@ -13,12 +13,13 @@ use Rattle.read_clause.specs.Parts.{part_of}
 use Rattle.read_clause.specs.declared.ClauseAt.{ClauseAt}
 use Rattle.read_names.specs.Tables.{Adds, mode_names, names_at, sorted}
 use Rattle.take_clause.specs.declared.Taken.{Taken}
+use Rattle.take_goal.specs.TakesGoal.{TakesGoal}
 use Rattle.take_term.specs.Takes.{Extends, numbers_by, Rows, Takes}
 use Rattle.take_term.specs.declared.Reading.{Reading}
 use Rattle.text_names.specs.Names.{look, Name}
 use Rattle.text_program.specs.Encoded.{clause_bytes, goal_bytes, term_bytes, word_bytes}
 use Rattle.text_program.specs.Numbered.{clause_terms, goal_numbered, goal_terms, joined, mark_by, Numbering, term_numbered}
-use Rattle.text_program.specs.Source.{Got, ModeLine, read_brackets, read_term, Said, SaidClause}
+use Rattle.text_program.specs.Source.{Got, got, ModeLine, read_brackets, read_term, Said, SaidClause}
 
 -- a line of the text with these terms: it is taken from row o into row p at a place, its constants are added to those in table t, and it passes its tests or not
 pub record TakesLine (s : List ℕ) (o t : List ℕ) (at n : ℕ) (rest : List ℕ) (terms : List Name) (bs : List Name → List ℕ) (ok arities known : Bool) (p u l : List ℕ) (r : Taken) : Type 0 where
@@ -70,14 +71,18 @@ abbrev pub said_at : List ℕ → ClauseAt → SaidClause
 said_at s c = record {
   name = [];
   terms = (read_brackets read_term (drop c.terms s)).value;
-  guard = (part_of c.guarded (drop c.guard s)).value;
-  body = (part_of c.bodied (drop c.body s)).value;
+  guard = part_of s c.guard;
+  body = part_of s c.body;
   semicolon = c.semicolon;
 }
 
 -- their bytes
 abbrev pub parts_bytes : Numbering → SaidClause → List ℕ
 parts_bytes n c = joined term_bytes (map (term_numbered n) c.terms) ++ (goal_bytes (goal_numbered n c.guard) ++ goal_bytes (goal_numbered n c.body))
+
+-- a goal of a clause, up to where it was taken
+abbrev pub TakesPart : List ℕ → List ModeLine → Rows → Reading → List (List Said) → Rows → Reading → Type 0
+TakesPart s ms a w g b x = TakesGoal s ms a w (got g (drop x.end s)) b x
 
 -- terms, guard and body taken
 abbrev pub TakesParts : List ℕ → List ModeLine → Rows → Reading → SaidClause → Rows → Reading → Type 0

@@ -6,10 +6,9 @@ ghost use Rattle.lay_literal.specs.Lows.{lows};
 ghost use Rattle.lay_text.specs.Laying.{Writes};
 ghost use Rattle.mode_table.specs.Moded.{Moded};
 ghost use Rattle.name_index.specs.Index.{Indexed};
-ghost use Rattle.read_clause.specs.Parts.{part_of};
+ghost use Rattle.read_clause.specs.Parts.{part_of, PartIn};
 ghost use Rattle.read_names.specs.Tables.{Finds, modes_from};
-ghost use Rattle.take_clause.specs.TakesClause.{ask_front, clause_front, front_bytes, said_at, starting, taken_as, TakesAsk, TakesClause, TakesParts};
-ghost use Rattle.take_goal.specs.TakesGoal.{TakesGoal};
+ghost use Rattle.take_clause.specs.TakesClause.{ask_front, clause_front, front_bytes, said_at, starting, taken_as, TakesAsk, TakesClause, TakesPart, TakesParts};
 ghost use Rattle.take_term.specs.Takes.{Ready, rows, stands};
 ghost use Rattle.text_names.specs.Bytes.{front};
 ghost use Rattle.text_program.specs.Numbered.{mark_by};
@@ -18,25 +17,12 @@ ghost use Rattle.text_program.specs.Source.{read_body, read_clause};
 use lay_text::To;
 use mode_table::Lines;
 use parlog::codes;
-use read_clause::ClauseAt;
+use read_clause::{ClauseAt, Part};
 use read_names::Entry;
 use take_term::Reading;
 
 // One more than the variables that a clause may have.
-const VARIABLES: usize = 17;
-
-// How many a clause may have.
-const MOST_VARIABLES: usize = 16;
-
-// How a goal is read: there is none, or there is one; else there may be one.
-const NO_GOAL: usize = 0;
-
-const A_GOAL: usize = 1;
-
-// How many bytes the record of a clause has before its terms, and that of the goal before its stages.
-const CLAUSE_FRONT: usize = 8;
-
-const ASK_FRONT: usize = 5;
+const VARIABLES: usize = codes::MOST_VARIABLES + 1;
 
 // What was taken: the place behind it in the text and in the image, how many constants there are; a clause's relation and whether it ends in `;`; whether it has no more than it may have, whether each call has the arity of its mode line, and whether each has a mode line.
 #[derive(Clone, Copy)]
@@ -58,12 +44,12 @@ fn start(end: usize, at: usize, n: usize, fits: bool, known: bool) -> Reading
     ensures { result ≡ starting end at n fits known }
 {
     Reading {
-        end: end,
+        end,
         count: 0,
-        at: at,
+        at,
         consts: n,
         vars: 0,
-        fits: fits,
+        fits,
         declared: known,
     }
 }
@@ -72,15 +58,7 @@ fn start(end: usize, at: usize, n: usize, fits: bool, known: bool) -> Reading
 fn behind(w: Reading, at: usize) -> Reading
     ensures { result ≡ stands w w.end 0 at }
 {
-    Reading {
-        end: w.end,
-        count: 0,
-        at: at,
-        consts: w.consts,
-        vars: w.vars,
-        fits: w.fits,
-        declared: w.declared,
-    }
+    Reading { count: 0, at, ..w }
 }
 
 // ---- the front of a record
@@ -89,10 +67,7 @@ fn behind(w: Reading, at: usize) -> Reading
 fn front_of(out: &mut [u8], at: usize, size: usize, kind: usize) -> To
     ensures { Writes out.old (record { at = at; named = true }) (lows (front_bytes size kind)) true out.new result }
 {
-    let to = To {
-        at: at,
-        named: true,
-    };
+    let to = To { at, named: true };
     let a = lay_literal::word(out, to, size);
     lay_literal::word(out, a, kind)
 }
@@ -133,7 +108,7 @@ fn ask_front(out: &mut [u8], at: usize, size: usize, vars: usize) -> To
 
 // ---- terms, guard and body
 
-// A goal, as it is read; where there is none, a byte tells so.
+// A goal where it stands; where there is none, a byte tells so.
 fn part(
     s: &[u8],
     rels: &[usize],
@@ -145,23 +120,29 @@ fn part(
     links: &mut [u16],
     vars: &mut [usize],
     w: Reading,
-    how: usize,
+    p: Part,
 ) -> Reading
-    requires { Ready s.now (rows out.old consts.old links.old vars.old) w × Moded s.now rels.now arities.now chains.now lines }
-    ensures { TakesGoal s.now (modes_from s.now lines.from) (rows out.old consts.old links.old vars.old) w (part_of how (drop w.end s.now)) (rows out.new consts.new links.new vars.new) result }
+    requires { Ready s.now (rows out.old consts.old links.old vars.old) w × Moded s.now rels.now arities.now chains.now lines × PartIn s.now p }
+    ensures { TakesPart s.now (modes_from s.now lines.from) (rows out.old consts.old links.old vars.old) w (part_of s.now p) (rows out.new consts.new links.new vars.new) result }
 {
-    if how == NO_GOAL {
-        let to = To {
-            at: w.at,
-            named: true,
-        };
-        let next = lay_literal::number(out, to, 0);
-        return behind(w, next.at);
+    match p {
+        Part::Absent => {
+            let to = To {
+                at: w.at,
+                named: true,
+            };
+            let next = lay_literal::number(out, to, 0);
+            behind(w, next.at)
+        }
+        Part::Goal(at) => {
+            let v = take_term::move_to(w, at, 0);
+            take_goal::goal(s, rels, arities, chains, lines, out, consts, links, vars, v)
+        }
+        Part::Body(at) => {
+            let v = take_term::move_to(w, at, 0);
+            take_goal::body(s, rels, arities, chains, lines, out, consts, links, vars, v)
+        }
     }
-    if how == A_GOAL {
-        return take_goal::goal(s, rels, arities, chains, lines, out, consts, links, vars, w);
-    }
-    take_goal::body(s, rels, arities, chains, lines, out, consts, links, vars, w)
 }
 
 // Terms, guard and body of a clause; `m` tells of the mode lines.
@@ -178,16 +159,16 @@ fn parts(
     w: Reading,
     c: ClauseAt,
 ) -> Reading
-    requires { Ready s.now (rows out.old consts.old links.old vars.old) w × Moded s.now rels.now arities.now chains.now m × (w.end ≡ c.terms) × (c.guard ≤ length s.now) × (c.body ≤ length s.now) }
+    requires { Ready s.now (rows out.old consts.old links.old vars.old) w × Moded s.now rels.now arities.now chains.now m × (w.end ≡ c.terms) × PartIn s.now c.guard × PartIn s.now c.body }
     ensures { TakesParts s.now (modes_from s.now m.from) (rows out.old consts.old links.old vars.old) w (said_at s.now c) (rows out.new consts.new links.new vars.new) result }
 {
     let a = take_term::terms(s, out, consts, links, vars, w);
-    let b = take_term::move_to(a, c.guard, 0);
-    let g = c.guarded;
-    let d = part(s, rels, arities, chains, m, out, consts, links, vars, b, g);
-    let e = take_term::move_to(d, c.body, 0);
-    let h = c.bodied;
-    part(s, rels, arities, chains, m, out, consts, links, vars, e, h)
+    let b = part(
+        s, rels, arities, chains, m, out, consts, links, vars, a, c.guard,
+    );
+    part(
+        s, rels, arities, chains, m, out, consts, links, vars, b, c.body,
+    )
 }
 
 // ---- records
@@ -213,12 +194,12 @@ fn told(end: usize, number: usize, semicolon: bool, right: bool, x: Reading) -> 
     ensures { result ≡ taken_as end number semicolon right x }
 {
     Taken {
-        end: end,
+        end,
         at: x.at,
         consts: x.consts,
-        number: number,
-        semicolon: semicolon,
-        right: basics::and(x.vars <= MOST_VARIABLES, right),
+        number,
+        semicolon,
+        right: (x.vars <= codes::MOST_VARIABLES) & right,
         fits: x.fits,
         declared: x.declared,
     }
@@ -245,8 +226,14 @@ pub fn clause(
     let c = read_clause::clause(s, from);
     let head = relation_at(s, rels, arities, chains, lines, from);
     let mut vars = [0; VARIABLES];
-    let fits = c.arity == head.arity;
-    let w = start(c.terms, at + CLAUSE_FRONT, n, fits, head.known);
+    let fits = c.arity == head.arity.unwrap_or(0);
+    let w = start(
+        c.terms,
+        at + codes::CLAUSE_HEAD,
+        n,
+        fits,
+        head.arity.is_some(),
+    );
     let x = parts(
         s, rels, arities, chains, lines, out, consts, links, &mut vars, w, c,
     );
@@ -273,7 +260,7 @@ pub fn ask(
 {
     let body = read_goal::body(s, from);
     let mut vars = [0; VARIABLES];
-    let w = start(from, at + ASK_FRONT, n, true, true);
+    let w = start(from, at + codes::GOAL_AT, n, true, true);
     let x = take_goal::body(
         s, rels, arities, chains, lines, out, consts, links, &mut vars, w,
     );

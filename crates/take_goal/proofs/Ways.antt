@@ -14,6 +14,8 @@ use Rattle.lay_literal.specs.Fits.{goal_fits, stage_fits}
 use Rattle.lay_literal.specs.Lows.{literal_fits, lows}
 use Rattle.lay_text.specs.Laying.{capped, most, Writes}
 use Rattle.lay_text.specs.declared.To.{To}
+use Rattle.read_names.proofs.Lined.{arity_known, arity-or}
+use Rattle.std.specs.Prelude.{is_some, Option, unwrap_or}
 use Rattle.read_names.specs.Tables.{Finds, mode_names}
 use Rattle.read_names.specs.declared.Entry.{Entry}
 use Rattle.take_goal.specs.TakesGoal.{TakesEquality, TakesGoal, TakesLiteral, TakesStage}
@@ -104,18 +106,17 @@ module _ {s t l v : List ℕ} {o p q : List ℕ} {w x y : Reading} where
       takes-as refl refl refl (λ cs vs. bytes-equality (numbers_by (mode_names ms) cs vs) (front (drop w.end s)) (front (next (past (drop w.end s))))) refl refl
       (takes-to u.end 2 m second.end second.inside both)
 
-  pub take-call : {z d : Reading} {b : Rows} {r : List ℕ} (ms : List ModeLine) (entry : Entry) (behind : ℕ) (fits declared : Bool) → Finds ms (front (drop w.end s)) entry → drop behind s ≡ past (drop w.end s) →
+  pub take-call : {z d : Reading} {b : Rows} {r : List ℕ} (ms : List ModeLine) (entry : Entry) (behind most : ℕ) (some : Bool) → most ≡ unwrap_or entry.arity 0 → some ≡ is_some entry.arity → Finds ms (front (drop w.end s)) entry → drop behind s ≡ past (drop w.end s) →
       Puts o w entry.number p x → Puts p x 0 q y → d ≡ moved y behind 0 → TakesTerms s (rows q t l v) d (read_brackets read_term (drop d.end s)) b z → r ≡ laid b.out x.at (lows (z.count ∷ [])) →
-      fits ≡ (z.fits && eqb z.count entry.arity) → declared ≡ (z.declared && entry.known) →
-      TakesLiteral s ms (rows o t l v) w (literal_by false (drop w.end s)) (relaid b r) (flagged z fits declared)
+      TakesLiteral s ms (rows o t l v) w (literal_by false (drop w.end s)) (relaid b r) (flagged z (z.fits && eqb z.count most) (z.declared && some))
   unfolding literal_fits
-  take-call {z} {d} {b} {r} ms entry behind fits declared found e g h j k m i n =
+  take-call {z} {d} {b} {r} ms entry behind most some mi si found e g h j k m =
       let there : drop d.end s ≡ past (drop w.end s) = ap (λ (c : Reading). drop c.end s) j ∙ e in
       let ts = (read_brackets read_term (past (drop w.end s))).value in
       let inner : Takes s (rows q t l v) d (read_brackets read_term (past (drop w.end s))).rest (length ts) ts (λ cs vs. joined term_bytes (map (term_numbered (numbers_by (mode_names ms) cs vs)) ts)) true true b z = rw (← there) (k (mode_names ms)) in
-      let all = takes-flags (eqb z.count entry.arity) entry.known fits declared refl i n (puts-before g (takes-number z.count (puts_moved h behind 0 j inner) m)) in
+      let all = takes-flags (eqb z.count most) some (z.fits && eqb z.count most) (z.declared && some) refl refl refl (puts-before g (takes-number z.count (puts_moved h behind 0 j inner) m)) in
       takes-as refl refl refl (λ cs vs. bytes-call (numbers_by (mode_names ms) cs vs) (front (drop w.end s)) ts entry.number z.count found.number inner.count)
-      (rw (inner.count, found.arity) refl) found.known all
+      (rw (inner.count, mi, found.arity, arity-or ms (front (drop w.end s))) refl) (si ∙ ap (λ (a : Option ℕ). is_some a) found.arity ∙ arity_known ms (front (drop w.end s))) all
 
 module _ (s : List ℕ) (at p b : ℕ) (behind : drop p s ≡ past (drop at s)) (is : b ≡ get_or s p 0) where
   mark-told : get_or (past (drop at s)) 0 0 ≡ b
@@ -164,13 +165,13 @@ pub goal-row : {s : List ℕ} (ms : List ModeLine) {a : Rows} {w : Reading} {b :
 unfolding read_goal
 goal-row ms u = u
 
-module _ {s t l v : List ℕ} {o : List ℕ} {w : Reading} (ms : List ModeLine) (mark : ℕ) (c : Bool) (is : mark ≡ get_or s w.end 0) (told : c ≡ (eqb mark 46 || eqb mark 59)) where
-  pub body-none : {p : List ℕ} {x y : Reading} → c ≡ true → Ready s (rows o t l v) w → x ≡ moved w w.end 0 → Puts o x 0 p y → TakesGoal s ms (rows o t l v) w (read_body (drop w.end s)) (rows p t l v) y
+module _ {s t l v : List ℕ} {o : List ℕ} {w : Reading} (ms : List ModeLine) (mark : ℕ) (is : mark ≡ get_or s w.end 0) where
+  pub body-none : {p : List ℕ} {x y : Reading} → (eqb mark 46 || eqb mark 59) ≡ true → Ready s (rows o t l v) w → x ≡ moved w w.end 0 → Puts o x 0 p y → TakesGoal s ms (rows o t l v) w (read_body (drop w.end s)) (rows p t l v) y
   unfolding read_body goal_bytes joined goal_fits all_of
   body-none {x = x} h r e f =
-      rw (first-at s w.end, ← is, ← told, h)
+      rw (first-at s w.end, ← is, h)
       (takes-writes w.end 0 (0 ∷ []) r (writes_byte 0 f.small f.row) (ap (λ (z : Reading). z.at) e) (f.state ∙ ap (λ (z : Reading). stands z z.end z.count (capped (x.at + 1))) e) refl r.inside)
 
-  pub body-some : {b : Rows} {y : Reading} → c ≡ false → TakesGoal s ms (rows o t l v) w (read_goal (drop w.end s)) b y → TakesGoal s ms (rows o t l v) w (read_body (drop w.end s)) b y
+  pub body-some : {b : Rows} {y : Reading} → (eqb mark 46 || eqb mark 59) ≡ false → TakesGoal s ms (rows o t l v) w (read_goal (drop w.end s)) b y → TakesGoal s ms (rows o t l v) w (read_body (drop w.end s)) b y
   unfolding read_body
-  body-some h u = rw (first-at s w.end, ← is, ← told, h) u
+  body-some h u = rw (first-at s w.end, ← is, h) u

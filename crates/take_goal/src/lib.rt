@@ -18,19 +18,13 @@ use mode_table::Lines;
 use parlog::codes;
 use take_term::Reading;
 
-// An equality has two terms.
-const EQUAL_TERMS: usize = 2;
-
 // ---- numbers
 
 // A number as a byte at a place of the image.
 fn patch(out: &mut [u8], at: usize, n: usize)
     ensures { out.new ≡ laid out.old at (lows (n ∷ [])) }
 {
-    let to = To {
-        at: at,
-        named: true,
-    };
+    let to = To { at, named: true };
     lay_literal::number(out, to, n);
 }
 
@@ -43,15 +37,7 @@ fn number(out: &mut [u8], w: Reading, n: usize) -> Reading
         named: true,
     };
     let next = lay_literal::number(out, to, n);
-    Reading {
-        end: w.end,
-        count: w.count,
-        at: next.at,
-        consts: w.consts,
-        vars: w.vars,
-        fits: w.fits,
-        declared: w.declared,
-    }
+    Reading { at: next.at, ..w }
 }
 
 // ---- literals
@@ -69,11 +55,11 @@ fn equality(
     ensures { TakesEquality s.now (rows out.old consts.old links.old vars.old) w (literal_by true (drop w.end s.now)) (rows out.new consts.new links.new vars.new) result }
 {
     let a = number(out, w, codes::EQUALITY);
-    let b = number(out, a, EQUAL_TERMS);
+    let b = number(out, a, codes::EQUALITY_ARITY);
     let c = take_term::term(s, out, consts, links, vars, b);
-    let d = take_term::move_to(c, text_names::after_mark(s, c.end), EQUAL_TERMS);
+    let d = take_term::move_to(c, text_names::after_mark(s, c.end), codes::EQUALITY_ARITY);
     let e = take_term::term(s, out, consts, links, vars, d);
-    take_term::move_to(e, e.end, EQUAL_TERMS)
+    take_term::move_to(e, e.end, codes::EQUALITY_ARITY)
 }
 
 // A call of the relation of the name here, which is in a chain, with the terms behind it; tested by the way.
@@ -101,13 +87,9 @@ fn call(
     let c = take_term::terms(s, out, consts, links, vars, from);
     patch(out, a.at, c.count);
     Reading {
-        end: c.end,
-        count: c.count,
-        at: c.at,
-        consts: c.consts,
-        vars: c.vars,
-        fits: basics::and(c.fits, c.count == entry.arity),
-        declared: basics::and(c.declared, entry.known),
+        fits: c.fits & (c.count == entry.arity.unwrap_or(0)),
+        declared: c.declared & entry.arity.is_some(),
+        ..c
     }
 }
 
@@ -156,18 +138,15 @@ fn literals(
     ensures { TakesLiterals s.now (modes_from s.now lines.from) (rows out.old consts.old links.old vars.old) w (row read_literal 44 (drop w.end s.now)) (rows out.new consts.new links.new vars.new) result }
 {
     let mut x = w;
-    let mut n = 0;
-    let mut left = s.len() - w.end;
-    while 0 < left {
+    let most = s.len() - w.end;
+    for n in 0..most {
         x = literal(s, rels, arities, chains, lines, out, consts, links, vars, x);
-        n += 1;
         if place::byte_at(s, x.end) != read_goal::COMMA {
-            return take_term::move_to(x, x.end, n);
+            return take_term::move_to(x, x.end, n + 1);
         }
-        x = take_term::move_to(x, text_names::after_mark(s, x.end), n);
-        left -= 1;
+        x = take_term::move_to(x, text_names::after_mark(s, x.end), n + 1);
     }
-    take_term::move_to(x, x.end, n)
+    take_term::move_to(x, x.end, most)
 }
 
 // A stage: how many literals, and the literals.
@@ -209,18 +188,15 @@ fn stages(
     ensures { TakesStages s.now (modes_from s.now lines.from) (rows out.old consts.old links.old vars.old) w (row (row read_literal 44) 38 (drop w.end s.now)) (rows out.new consts.new links.new vars.new) result }
 {
     let mut x = w;
-    let mut n = 0;
-    let mut left = s.len() - w.end;
-    while 0 < left {
+    let most = s.len() - w.end;
+    for n in 0..most {
         x = stage(s, rels, arities, chains, lines, out, consts, links, vars, x);
-        n += 1;
         if place::byte_at(s, x.end) != read_goal::AMPERSAND {
-            return take_term::move_to(x, x.end, n);
+            return take_term::move_to(x, x.end, n + 1);
         }
-        x = take_term::move_to(x, text_names::after_mark(s, x.end), n);
-        left -= 1;
+        x = take_term::move_to(x, text_names::after_mark(s, x.end), n + 1);
     }
-    take_term::move_to(x, x.end, n)
+    take_term::move_to(x, x.end, most)
 }
 
 // A goal: how many stages, and the stages.
@@ -262,7 +238,7 @@ pub fn body(
     ensures { TakesGoal s.now (modes_from s.now lines.from) (rows out.old consts.old links.old vars.old) w (read_body (drop w.end s.now)) (rows out.new consts.new links.new vars.new) result }
 {
     let mark = place::byte_at(s, w.end);
-    if basics::or(mark == read_goal::DOT, mark == read_goal::SEMICOLON) {
+    if (mark == read_goal::DOT) | (mark == read_goal::SEMICOLON) {
         return number(out, take_term::move_to(w, w.end, 0), 0);
     }
     goal(s, rels, arities, chains, lines, out, consts, links, vars, w)

@@ -1,16 +1,20 @@
 -- One turn of the loop over mode lines.
+use Rattle.std.specs.Prelude.{Result, Err, Ok, is_some, None, Option, Some}
+use Rattle.name_index.proofs.Chains.{none-look, some-less}
+use Rattle.parlog.specs.Answer.{Answer}
 use mathlib.Core.Path.{◌∙◌, ◌≡◌, ap, refl, sym}
-use mathlib.Core.Bool.{Bool, false, true}
+use mathlib.Core.Bool.{Bool, false, not, true}
 use mathlib.Core.List.{[], ◌++◌, ◌∷◌, append_assoc, append-nil, List, map, map-append}
-use Prim.Native.Nat.{◌*◌, ◌+◌, ◌-◌, ◌<◌, ◌≤◌, suc, zero, ℕ}
+use Prim.Native.Nat.{◌*◌, ◌+◌, ◌-◌, ◌<◌, ◌≤◌, ℕ}
 use lib.Dec.{leb}
 use lib.ListN.{drop, get_or, length, length-append, length-set, set, take}
 use lib.Seq.{get_or-append_seam, take_all, take-suc-set}
-use borrow.Author.Tests.{eq-eqb, le-ltb, leb-false, leb-true, ne_eqb}
+use borrow.Author.Tests.{eq-eqb, le-leb, le-ltb, leb-false, leb-true, lt-leb, ne_eqb}
 use native.Mathlib.Omega.{arith}
 use native.Mathlib.Numerals.{add-one}
 use Rattle.judge_image.specs.Judged.{relation_judged, relations_judged}
 use Rattle.judge_lines.proofs.Judging.{in_goes, never}
+use Rattle.parlog.proofs.Bools.{never as not_both}
 use Rattle.judge_lines.proofs.Moded.{line-sized, mode-length, mode-tested, modes-end, modes-on, modes-stop}
 use Rattle.judge_lines.specs.Whole.{Opening}
 use Rattle.judge_text.specs.Tests.{tested}
@@ -25,24 +29,20 @@ use Rattle.lay_text.specs.declared.To.{To}
 use Rattle.name_index.specs.Index.{AddsOne, chain_of, Indexed}
 use Rattle.name_index.specs.declared.Added.{Added}
 use Rattle.parlog.specs.Load.{nothing_read, refusal}
-use Rattle.parlog.specs.declared.Loaded.{Loaded}
-use Rattle.parlog.specs.declared.Loaded.TheVariants.{Refused}
 use Rattle.parlog.specs.declared.Progress.{Progress}
-use Rattle.parlog.specs.declared.Verdict.{Verdict}
-use Rattle.parlog.specs.declared.Verdict.TheVariants.{Goes, Refuses}
 use Rattle.read_goal.specs.Spans.{Spans}
 use Rattle.read_goal.specs.declared.Span.{Span}
 use Rattle.read_names.proofs.Short.{line-behind, lines_more}
 use Rattle.read_names.proofs.Tabled.{names_fit}
 use Rattle.read_names.specs.Tables.{mode_names, modes_from, names_at}
-use Rattle.take_modes.specs.TakesModes.{EntersLine, modes_front, one_more, ReadsLine, said_by, TakesModes, told_by}
+use Rattle.take_modes.specs.TakesModes.{EntersLine, modes_front, one_more, ModesRefused, ModesTaken, ReadsLine, told_by}
 use Rattle.take_modes.specs.declared.Line.{Line}
 use Rattle.take_modes.specs.declared.Modes.{Modes}
 use Rattle.take_term.proofs.Laws.{laid-under, lows-length}
 use Rattle.text_names.proofs.Looked.{look-here}
 use Rattle.text_names.proofs.Rest.{first-at}
 use Rattle.text_names.specs.Bytes.{front, next, past}
-use Rattle.text_names.specs.Names.{add, adds, look, Name}
+use Rattle.text_names.specs.Names.{add, adds, FoundAt, look, Name}
 use Rattle.text_program.proofs.Joined.{joined-append}
 use Rattle.text_program.specs.Encoded.{record_bytes, relation_bytes, word_bytes}
 use Rattle.text_program.specs.Numbered.{joined}
@@ -123,9 +123,9 @@ reads-line {o} s p at name chain from end t after inside is opens v ends behind 
 
 -- ---- tests
 
-abbrev in_refuses : Verdict → ℕ
-in_refuses (Refuses k) = k
-in_refuses (Goes k) = 7
+abbrev in_refuses : Result Progress ℕ → ℕ
+in_refuses (Err k) = k
+in_refuses (Ok k) = 7
 
 -- what a line that goes on has passed
 record Passes (many fits known : Bool) (h g : Progress) : Type 0 where
@@ -134,7 +134,7 @@ record Passes (many fits known : Bool) (h g : Progress) : Type 0 where
   pub fresh : known ≡ true
   pub goes : g ≡ h
 
-tested-goes : (many right known : Bool) (h g : Progress) → tested many right known false h ≡ Goes g → Passes many right known h g
+tested-goes : (many right known : Bool) (h g : Progress) → tested many right known false h ≡ Ok g → Passes many right known h g
 unfolding tested
 tested-goes true right known h g e = never 6 g e
 tested-goes false false known h g e = never 4 g e
@@ -142,16 +142,12 @@ tested-goes false true false h g e = never 5 g e
 tested-goes false true true h g e = record { few = refl; right = refl; fresh = refl; goes = sym (ap (in_goes g) e) }
 
 -- a refusal has a number
-tested-refuses : (many right known : Bool) (h : Progress) (n : ℕ) → tested many right known false h ≡ Refuses n → 0 < n
+tested-refuses : (many right known : Bool) (h : Progress) (n : ℕ) → tested many right known false h ≡ Err n → 0 < n
 unfolding tested
 tested-refuses true right known h n e = let z = ap in_refuses e in omega arith
 tested-refuses false false known h n e = let z = ap in_refuses e in omega arith
 tested-refuses false true false h n e = let z = ap in_refuses e in omega arith
 tested-refuses false true true h n e = never n h (sym e)
-
-refused-with : (n at : ℕ) (next : Loaded) → 0 < n → Refused (refusal n at) ≡ said_by n at next
-refused-with zero at next h = absurd (omega arith)
-refused-with (suc n) at next h = refl
 
 -- ---- the loop
 
@@ -168,7 +164,7 @@ pub record Partly (s t a l : List ℕ) (m n p : ℕ) : Type 0 where
 -- what is known before a turn
 pub record ModesLeft (s : List ℕ) (m : ℕ) (o q t a l : List ℕ) (p at : ℕ) (g : Progress) (left : ℕ) : Type 0 where
   pub moded : Partly s t a l m g.relations p
-  pub said : (next : ℕ → Progress → Loaded) → relations_judged (mode_names (modes_from s m)) next (modes_of (modes_from s p)) at g ≡ relations_judged (mode_names (modes_from s m)) next (modes_of (modes_from s m)) 0 nothing_read
+  pub said : (next : ℕ → Progress → Answer (ℕ × ℕ)) → relations_judged (mode_names (modes_from s m)) next (modes_of (modes_from s p)) at g ≡ relations_judged (mode_names (modes_from s m)) next (modes_of (modes_from s m)) 0 nothing_read
   pub rest : (lines is_mode_line read_mode_line (drop p s)).rest ≡ (lines is_mode_line read_mode_line (drop m s)).rest
   pub opening : Opening g
   pub fuel : length s ≤ p + left
@@ -203,13 +199,13 @@ module _ {s : List ℕ} {m : ℕ} {o q t a l : List ℕ} {p at : ℕ} {g : Progr
   line-long line = rw line.bytes (laid-length (lows (read_mode_line (drop p s)).value.modes) q (at + 5)) ∙ bytes-long
 
   -- no line more
-  pub walk_end : {r : Modes} → lines is_mode_line read_mode_line (drop p s) ≡ got [] (drop p s) → r ≡ told_by m p g 0 at → TakesModes s m o q t a l r
+  pub walk_end : {r : Modes} → lines is_mode_line read_mode_line (drop p s) ≡ got [] (drop p s) → r ≡ told_by m p g at → ModesTaken s m o q t a l r
   walk_end e f =
       let whole : modes_from s m ≡ here.moded.lines = here.moded.whole ∙ ap (λ (y : Got (List ModeLine)). here.moded.lines ++ y.value) e ∙ append-nil here.moded.lines in
       rw f
       (record {
         from = refl;
-        moded = λ z.
+        moded =
             record {
               names = ap mode_names whole ∙ here.moded.names;
               arities = ap (map (λ (y : ModeLine). length y.modes)) whole ∙ here.moded.arities;
@@ -219,9 +215,9 @@ module _ {s : List ℕ} {m : ℕ} {o q t a l : List ℕ} {p at : ℕ} {g : Progr
         said = λ next. sym (here.said next) ∙ sym (modes-end (mode_names (modes_from s m)) next at g (drop p s) (lines is_mode_line read_mode_line (drop p s)) e);
         opening = here.opening;
         inside = here.moded.inside;
-        rest = λ z. sym (ap (λ (y : Got (List ModeLine)). y.rest) e) ∙ here.rest;
-        place = λ z. here.place ∙ ap (λ (y : List ModeLine). length (joined relation_bytes (modes_of y))) (sym whole);
-        bytes = λ z. here.bytes ∙ ap (λ (y : List ModeLine). laid o 0 (lows (joined relation_bytes (modes_of y)))) (sym whole);
+        rest = sym (ap (λ (y : Got (List ModeLine)). y.rest) e) ∙ here.rest;
+        place = here.place ∙ ap (λ (y : List ModeLine). length (joined relation_bytes (modes_of y))) (sym whole);
+        bytes = here.bytes ∙ ap (λ (y : List ModeLine). laid o 0 (lows (joined relation_bytes (modes_of y)))) (sym whole);
         near = near-enough;
         size = bytes-long;
       })
@@ -247,28 +243,18 @@ module _ {s : List ℕ} {m : ℕ} {o q t a l : List ℕ} {p at : ℕ} {g : Progr
         (rw names-here (sym (look-here (names_at s (take g.relations t)) (mode_names (modes_from s r.end)) (front (drop r.name s)))))
 
     -- a line that is refused
-    pub walk-stop : {x : Modes} (v : Verdict) (n : ℕ) → v ≡ tested (leb 32 g.relations) (leb r.count 4) (leb g.relations (look (names_at s (take g.relations t)) (front (drop r.name s)))) false (one_more g) → v ≡ Refuses n → x ≡ told_by m p g n at →
-        TakesModes s m o q1 t a l x
-    walk-stop v n e f h =
-        let k = tested-refuses (leb 32 g.relations) (leb r.count 4) (leb g.relations (look (names_at s (take g.relations t)) (front (drop r.name s)))) (one_more g) n (sym e ∙ f) in
-        rw h
-        (record {
-          from = refl;
-          moded = λ z. absurd (omega arith);
+    pub walk-stop : (v : Result Progress ℕ) (n : ℕ) → v ≡ tested (leb 32 g.relations) (leb r.count 4) (leb g.relations (look (names_at s (take g.relations t)) (front (drop r.name s)))) false (one_more g) → v ≡ Err n →
+        ModesRefused s m o q1 (refusal n at)
+    walk-stop v n e f =
+        record {
           said = λ next.
               sym (here.said next)
-              ∙ sym (modes-stop (mode_names (modes_from s m)) next at g (read_mode_line (drop p s)).value (lines is_mode_line read_mode_line (drop p s)) (lines is_mode_line read_mode_line (drop r.end s)) n line-cons (sym line-judged ∙ sym e ∙ f))
-              ∙ refused-with n at (next at g) k;
-          opening = here.opening;
-          inside = here.moded.inside;
-          rest = λ z. absurd (omega arith);
-          place = λ z. absurd (omega arith);
-          bytes = λ z. absurd (omega arith);
+              ∙ sym (modes-stop (mode_names (modes_from s m)) next at g (read_mode_line (drop p s)).value (lines is_mode_line read_mode_line (drop p s)) (lines is_mode_line read_mode_line (drop r.end s)) n line-cons (sym line-judged ∙ sym e ∙ f));
           near = near-enough;
           size = line-long line;
-        })
+        }
 
-    module _ (v : Verdict) (h : Progress) (e : v ≡ tested (leb 32 g.relations) (leb r.count 4) (leb g.relations (look (names_at s (take g.relations t)) (front (drop r.name s)))) false (one_more g)) (f : v ≡ Goes h) where
+    module _ (v : Result Progress ℕ) (h : Progress) (e : v ≡ tested (leb 32 g.relations) (leb r.count 4) (leb g.relations (look (names_at s (take g.relations t)) (front (drop r.name s)))) false (one_more g)) (f : v ≡ Ok h) where
       line-passes : Passes (leb 32 g.relations) (leb r.count 4) (leb g.relations (look (names_at s (take g.relations t)) (front (drop r.name s)))) (one_more g) h
       line-passes = tested-goes (leb 32 g.relations) (leb r.count 4) (leb g.relations (look (names_at s (take g.relations t)) (front (drop r.name s)))) (one_more g) h (sym e ∙ f)
 
@@ -317,7 +303,7 @@ module _ {s : List ℕ} {m : ℕ} {o q t a l : List ℕ} {p at : ℕ} {g : Progr
                   size = rw in_table.arities (length-set a g.relations r.count) ∙ z ∙ sym w;
                   inside = line.behind;
                 };
-            said = λ next. modes-on (mode_names (modes_from s m)) next at g x (lines is_mode_line read_mode_line (drop p s)) (lines is_mode_line read_mode_line (drop r.end s)) (one_more g) (at + 5 + r.count) line-cons (sym line-judged ∙ sym e ∙ f ∙ ap Goes line-passes.goes) long ∙ here.said next;
+            said = λ next. modes-on (mode_names (modes_from s m)) next at g x (lines is_mode_line read_mode_line (drop p s)) (lines is_mode_line read_mode_line (drop r.end s)) (one_more g) (at + 5 + r.count) line-cons (sym line-judged ∙ sym e ∙ f ∙ ap Ok line-passes.goes) long ∙ here.said next;
             rest = sym (ap (λ (y : Got (List ModeLine)). y.rest) line-cons) ∙ here.rest;
             opening = record { relations = omega arith; clauses = here.opening.clauses; kind = omega arith; block = here.opening.block };
             fuel = omega arith;
@@ -326,3 +312,12 @@ module _ {s : List ℕ} {m : ℕ} {o q t a l : List ℕ} {p at : ℕ} {g : Progr
             place = long ∙ rw (row, length-append J (relation_bytes x.modes)) (ap (λ (y : ℕ). y + length (relation_bytes x.modes)) here.place);
             bytes = laid-now ∙ rw (row, lows-append J (relation_bytes x.modes)) (rw (here.bytes, at-end) (laid_then (lows J) (lows (relation_bytes x.modes)) o 0));
           })
+
+-- ---- a name that is new
+
+-- it was not found
+pub fresh-is : (s t : List ℕ) (n : ℕ) (x : Name) (r : Option ℕ) (b : Bool) → n ≤ length t → FoundAt (names_at s (take n t)) x r → is_some r ≡ not b → leb n (look (names_at s (take n t)) x) ≡ b
+fresh-is s t n x (Some k) true h f e = not_both (sym e)
+fresh-is s t n x (Some k) false h f e = let l = some-less s t n x h k f in let a = f.0 in lt-leb n (look (names_at s (take n t)) x) (omega arith)
+fresh-is s t n x None true h f e = let l = none-look s t n x h f in le-leb n (look (names_at s (take n t)) x) (omega arith)
+fresh-is s t n x None false h f e = not_both e

@@ -15,21 +15,17 @@ ghost use Rattle.text_program.specs.Source.{read_brackets, read_mode, row};
 
 use lay_text::To;
 use mode_table::Lines;
-use parlog::{Progress, Verdict, codes};
+use parlog::{Answer, Progress, Refusal, codes};
 use read_goal::Span;
 
 // The mark of an output argument.
-const OUTPUT: usize = 94;
+const OUTPUT: usize = b'^' as usize;
 
-// How many bytes a relation's record has before its modes.
-const MODES_AT: usize = 5;
-
-// The mode lines in the tables and the place behind them in the text; the number of the first refusal, or 0, and the place of its record, or the place behind all; and what is known there.
+// The mode lines in the tables, the place behind them in the text and that behind their records, and what is known there.
 #[derive(Clone, Copy)]
 pub struct Modes {
     pub lines: Lines,
     pub rest: usize,
-    pub number: u8,
     pub at: usize,
     pub known: Progress,
 }
@@ -61,25 +57,22 @@ fn marks(out: &mut [u8], w: To, s: &[u8], at: usize) -> Span
 {
     let mut to = w;
     let mut q = at;
-    let mut n = 0;
-    let mut left = s.len() - at;
-    while 0 < left {
+    let most = s.len() - at;
+    for n in 0..most {
         to = lay_literal::number(out, to, mode(s, q));
         q = text_names::after_mark(s, q);
-        n += 1;
         if place::byte_at(s, q) != read_goal::COMMA {
             return Span {
                 end: q,
-                count: n,
+                count: n + 1,
                 right: true,
             };
         }
         q = text_names::after_mark(s, q);
-        left -= 1;
     }
     Span {
         end: q,
-        count: n,
+        count: most,
         right: true,
     }
 }
@@ -115,13 +108,13 @@ fn read_line(s: &[u8], out: &mut [u8], p: usize, at: usize) -> Line
     let word = name_index::name_at(s, name);
     let open = text_names::skip_blanks(s, word.end);
     let w = To {
-        at: at + MODES_AT,
+        at: at + codes::RELATION_MODES,
         named: true,
     };
     let inner = brackets(out, w, s, open);
     let close = inner.end;
     Line {
-        name: name,
+        name,
         chain: word.chain,
         end: text_names::after_mark(s, close),
         count: inner.count,
@@ -129,23 +122,27 @@ fn read_line(s: &[u8], out: &mut [u8], p: usize, at: usize) -> Line
 }
 
 // The tests of a mode line.
-fn test_line(s: &[u8], rels: &[usize], chains: &[u16], g: Progress, line: Line) -> Verdict
+fn test_line(
+    s: &[u8],
+    rels: &[usize],
+    chains: &[u16],
+    g: Progress,
+    line: Line,
+) -> Result<Progress, u8>
     requires { (line.name ≤ length s.now) × (line.chain ≡ chain_of (front (drop line.name s.now))) × Indexed s.now rels.now chains.now g.relations × (g.relations ≤ 32) }
     ensures { result ≡ tested (leb 32 g.relations) (leb line.count 4) (leb g.relations (look (names_at s.now (take g.relations rels.now)) (front (drop line.name s.now)))) false (one_more g) }
 {
     let n = g.relations;
-    let k = name_index::find(s, rels, chains, n, line.name, line.chain);
+    let fresh = name_index::find(s, rels, chains, n, line.name, line.chain).is_none();
     let next = Progress {
         relations: n + 1,
-        clauses: g.clauses,
         kind: codes::RELATION_KIND,
-        relation: g.relation,
-        block: g.block,
+        ..g
     };
     judge_text::verdict(
         codes::MOST_RELATIONS <= n,
-        line.count <= read_goal::MOST_TERMS,
-        n <= k,
+        line.count <= codes::MOST_ARITY,
+        fresh,
         false,
         next,
     )
@@ -156,11 +153,8 @@ fn begin(out: &mut [u8], at: usize, count: usize)
     requires { (at ≤ 16384) × (count ≤ 4) }
     ensures { out.new ≡ laid out.old at (lows (modes_front count)) }
 {
-    let w = To {
-        at: at,
-        named: true,
-    };
-    let a = lay_literal::word(out, w, MODES_AT + count);
+    let w = To { at, named: true };
+    let a = lay_literal::word(out, w, codes::RELATION_MODES + count);
     let b = lay_literal::word(out, a, codes::RELATION_KIND);
     lay_literal::number(out, b, count);
 }
@@ -185,8 +179,8 @@ fn enter(
 }
 
 // What is told of the mode lines.
-fn told(m: usize, p: usize, g: Progress, number: u8, at: usize) -> Modes
-    ensures { result ≡ told_by m p g number at }
+fn told(m: usize, p: usize, g: Progress, at: usize) -> Modes
+    ensures { result ≡ told_by m p g at }
 {
     Modes {
         lines: Lines {
@@ -194,8 +188,7 @@ fn told(m: usize, p: usize, g: Progress, number: u8, at: usize) -> Modes
             count: g.relations,
         },
         rest: p,
-        number: number,
-        at: at,
+        at,
         known: g,
     }
 }
@@ -208,7 +201,7 @@ pub fn mode_lines(
     rels: &mut [usize],
     arities: &mut [usize],
     chains: &mut [u16],
-) -> Modes
+) -> Answer<Modes>
     requires { (m ≤ length s.now) × (32 ≤ length rels.old) × (length arities.old ≡ length rels.old) × Indexed s.now rels.old chains.old 0 }
     ensures { TakesModes s.now m out.old out.new rels.new arities.new chains.new result }
 {
@@ -221,26 +214,19 @@ pub fn mode_lines(
         relation: 0,
         block: 0,
     };
-    let mut left = s.len() - m;
-    while 0 < left {
+    for _ in m..s.len() {
         if !read_names::is_mode_line(s, p) {
-            return told(m, p, g, 0, at);
+            return Ok(told(m, p, g, at));
         }
         let line = read_line(s, out, p, at);
         let n = g.relations;
-        let v = test_line(s, rels, chains, g, line);
-        match v {
-            Verdict::Refuses(number) => {
-                return told(m, p, g, number, at);
-            }
-            Verdict::Goes(next) => {
-                g = next;
-            }
+        match test_line(s, rels, chains, g, line) {
+            Err(number) => return Err(Refusal { number, offset: at }),
+            Ok(next) => g = next,
         }
         enter(s, out, rels, arities, chains, n, at, line);
-        at = at + MODES_AT + line.count;
+        at = at + codes::RELATION_MODES + line.count;
         p = line.end;
-        left -= 1;
     }
-    told(m, p, g, 0, at)
+    Ok(told(m, p, g, at))
 }

@@ -28,15 +28,7 @@ pub struct Reading {
 pub fn move_to(w: Reading, end: usize, count: usize) -> Reading
     ensures { result ≡ moved w end count }
 {
-    Reading {
-        end: end,
-        count: count,
-        at: w.at,
-        consts: w.consts,
-        vars: w.vars,
-        fits: w.fits,
-        declared: w.declared,
-    }
+    Reading { end, count, ..w }
 }
 
 // The number of the variable at q; it is added to the table if it is new and there is room.
@@ -44,23 +36,19 @@ fn variable(s: &[u8], vars: &mut [usize], n: usize, q: usize) -> Added
     requires { (n ≤ length vars.old) × (q ≤ length s.now) }
     ensures { Adds s.now vars.old n vars.new result.count (front (drop q s.now) ∷ []) × (result.number ≡ look (names_at s.now (take n vars.old)) (front (drop q s.now))) × (result.number ≤ n) }
 {
-    let k = read_names::find(s, vars, n, q);
-    if k < n {
-        return Added {
-            count: n,
-            number: k,
-        };
+    if let Some(number) = read_names::find(s, &vars[..n], q) {
+        return Added { count: n, number };
     }
     if n < vars.len() {
         vars[n] = q;
         return Added {
             count: n + 1,
-            number: k,
+            number: n,
         };
     }
     Added {
         count: n,
-        number: k,
+        number: n,
     }
 }
 
@@ -87,25 +75,19 @@ pub fn term(
         let v = variable(s, vars, w.vars, q);
         let to = lay_literal::word(out, from, codes::FIRST_VARIABLE + v.number);
         return Reading {
-            end: end,
-            count: w.count,
+            end,
             at: to.at,
-            consts: w.consts,
             vars: v.count,
-            fits: w.fits,
-            declared: w.declared,
+            ..w
         };
     }
     let c = name_index::add(s, consts, links, w.consts, q, word.chain);
     let to = lay_literal::word(out, from, c.number);
     Reading {
-        end: end,
-        count: w.count,
+        end,
         at: to.at,
         consts: c.count,
-        vars: w.vars,
-        fits: w.fits,
-        declared: w.declared,
+        ..w
     }
 }
 
@@ -122,21 +104,18 @@ fn names(
     ensures { TakesTerms s.now (rows out.old consts.old links.old vars.old) w (row read_term 44 (drop w.end s.now)) (rows out.new consts.new links.new vars.new) result }
 {
     let mut r = w;
-    let mut n = 0;
-    let mut left = s.len() - w.end;
-    while 0 < left {
+    let most = s.len() - w.end;
+    for n in 0..most {
         r = term(s, out, consts, links, vars, r);
         let end = r.end;
-        n += 1;
         if place::byte_at(s, end) != read_goal::COMMA {
-            return move_to(r, end, n);
+            return move_to(r, end, n + 1);
         }
         let behind = text_names::after_mark(s, end);
-        r = move_to(r, behind, n);
-        left -= 1;
+        r = move_to(r, behind, n + 1);
     }
     let last = r.end;
-    move_to(r, last, n)
+    move_to(r, last, most)
 }
 
 // The terms in brackets, or no brackets.

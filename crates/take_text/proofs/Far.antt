@@ -1,4 +1,6 @@
 -- How far the clauses of a text have been taken, tested and laid.
+use Rattle.std.specs.Prelude.{Result, Err, Ok}
+use Rattle.parlog.specs.Answer.{Answer}
 use mathlib.Core.Path.{◌∙◌, ◌≡◌, ap, refl, sym}
 use mathlib.Core.Bool.{◌&&◌, and_assoc, and-true as true-right, Bool, false, true}
 use mathlib.Core.List.{[], ◌++◌, ◌∷◌, List}
@@ -17,10 +19,7 @@ use Rattle.lay_lines.specs.Lines.{clauses_from, clauses_with, with_vars}
 use Rattle.lay_literal.proofs.Laid.{lows-append}
 use Rattle.lay_literal.specs.Lows.{lows}
 use Rattle.name_index.specs.Index.{Indexed}
-use Rattle.parlog.specs.declared.Loaded.{Loaded}
 use Rattle.parlog.specs.declared.Progress.{Progress}
-use Rattle.parlog.specs.declared.Verdict.{Verdict}
-use Rattle.parlog.specs.declared.Verdict.TheVariants.{Goes, Refuses}
 use Rattle.read_names.proofs.Lined.{line-more, lines-fuel}
 use Rattle.read_names.specs.Tables.{mode_names, names_at, sorted}
 use Rattle.take_modes.specs.TakesModes.{said_by}
@@ -59,7 +58,7 @@ all_fit ms Y = all_of (clause_fits false ms) Y.value
 pub record Far (s : List ℕ) (ms : List ModeLine) (o t : List ℕ) (from at n : ℕ) (g : Progress) (p u l : List ℕ) (w : Clauses) (before : ℕ) (semicolon : Bool) : Type 0 where
   pub number : w.number ≡ 0
   pub behind : before ≤ length s
-  pub said : (next : ℕ → Progress → Loaded) → clauses_said ms next semicolon (front (drop before s)) (clauses_left s w.left w.end).value w.at w.known ≡ clauses_said ms next false [] (clauses_from s from) at g
+  pub said : (next : ℕ → Progress → Answer (ℕ × ℕ)) → clauses_said ms next semicolon (front (drop before s)) (clauses_left s w.left w.end).value w.at w.known ≡ clauses_said ms next false [] (clauses_from s from) at g
   pub rest : (clauses_left s w.left w.end).rest ≡ (lines is_clause read_clause (drop from s)).rest
   pub declared : (w.declared && all_fit ms (clauses_left s w.left w.end)) ≡ all_of (clause_fits false ms) (clauses_from s from)
   pub counted : Counted w.known
@@ -156,7 +155,7 @@ module _ {s : List ℕ} {ms : List ModeLine} {o t : List ℕ} {from at n : ℕ} 
     abbrev here : SaidClause
     here = (read_clause (drop w.end s)).value
 
-    abbrev verdict : Verdict
+    abbrev verdict : Result Progress ℕ
     verdict = taken_said w.known opens turn.taken.number turn.taken.right turn.taken.fits
 
     one_more : clauses_left s w.left w.end ≡ cons_got here (clauses_left s (w.left - 1) turn.taken.end)
@@ -169,7 +168,7 @@ module _ {s : List ℕ} {ms : List ModeLine} {o t : List ℕ} {from at n : ℕ} 
     verdict-here = taken-said ms w.known opens here _ _ _ turn.takes.number turn.takes.line.right turn.takes.line.fits
 
     -- it goes on
-    goes : (next : Progress) → verdict ≡ Goes next → Far s ms o t from at n g q v k (turned_by (Goes next) w turn.taken) w.end turn.taken.semicolon
+    goes : (next : Progress) → verdict ≡ Ok next → Far s ms o t from at n g q v k (turned_by (Ok next) w turn.taken) w.end turn.taken.semicolon
     goes next e =
         let f = goes-right ms w.known opens here next (sym verdict-here ∙ e) in
         let y = turn.takes.long f.0 in
@@ -202,12 +201,12 @@ module _ {s : List ℕ} {ms : List ModeLine} {o t : List ℕ} {from at n : ℕ} 
     pub far-on : r.next.number ≤ 0 → Far s ms o t from at n g q v k r.next w.end r.semicolon
     far-on h = go verdict refl
       where
-        go : (d : Verdict) → verdict ≡ d → Far s ms o t from at n g q v k r.next w.end r.semicolon
-        go (Goes next) e = rw (turn.next, turn.semicolon, e) (goes next e)
-        go (Refuses m) e = absurd (let a : kept (Refuses m) = rw e at turn.kept in let z = ap (λ (c : Clauses). c.number) (turn.next ∙ ap (λ (d : Verdict). turned_by d w turn.taken) e) in let i = a.0 in omega arith)
+        go : (d : Result Progress ℕ) → verdict ≡ d → Far s ms o t from at n g q v k r.next w.end r.semicolon
+        go (Ok next) e = rw (turn.next, turn.semicolon, e) (goes next e)
+        go (Err m) e = absurd (let a : kept (Err m) = rw e at turn.kept in let z = ap (λ (c : Clauses). c.number) (turn.next ∙ ap (λ (d : Result Progress ℕ). turned_by d w turn.taken) e) in let i = a.0 in omega arith)
 
     -- it is refused
-    refused : (m : ℕ) → verdict ≡ Refuses m → 1 ≤ m → TakesClauses s ms o t from at n g q v k (turned_by (Refuses m) w turn.taken)
+    refused : (m : ℕ) → verdict ≡ Err m → 1 ≤ m → TakesClauses s ms o t from at n g q v k (turned_by (Err m) w turn.taken)
     refused m e h =
         record {
           inside = turn.takes.line.inside;
@@ -230,16 +229,16 @@ module _ {s : List ℕ} {ms : List ModeLine} {o t : List ℕ} {from at n : ℕ} 
     pub far-less : r.next.number ≤ 0 → r.next.left < w.left
     far-less h = go verdict refl
       where
-        go : (d : Verdict) → verdict ≡ d → r.next.left < w.left
-        go (Goes next) e = let z = ap (λ (c : Clauses). c.left) (turn.next ∙ ap (λ (d : Verdict). turned_by d w turn.taken) e) in omega arith
-        go (Refuses m) e = absurd (let a : kept (Refuses m) = rw e at turn.kept in let z = ap (λ (c : Clauses). c.number) (turn.next ∙ ap (λ (d : Verdict). turned_by d w turn.taken) e) in let i = a.0 in omega arith)
+        go : (d : Result Progress ℕ) → verdict ≡ d → r.next.left < w.left
+        go (Ok next) e = let z = ap (λ (c : Clauses). c.left) (turn.next ∙ ap (λ (d : Result Progress ℕ). turned_by d w turn.taken) e) in omega arith
+        go (Err m) e = absurd (let a : kept (Err m) = rw e at turn.kept in let z = ap (λ (c : Clauses). c.number) (turn.next ∙ ap (λ (d : Result Progress ℕ). turned_by d w turn.taken) e) in let i = a.0 in omega arith)
 
     pub far-stop : 0 < r.next.number → TakesClauses s ms o t from at n g q v k r.next
     far-stop h = go verdict refl
       where
-        go : (d : Verdict) → verdict ≡ d → TakesClauses s ms o t from at n g q v k r.next
-        go (Goes next) e = absurd (let z = ap (λ (c : Clauses). c.number) (turn.next ∙ ap (λ (d : Verdict). turned_by d w turn.taken) e) in omega arith)
-        go (Refuses m) e = let a : kept (Refuses m) = rw e at turn.kept in rw (turn.next, e) (refused m e a.0)
+        go : (d : Result Progress ℕ) → verdict ≡ d → TakesClauses s ms o t from at n g q v k r.next
+        go (Ok next) e = absurd (let z = ap (λ (c : Clauses). c.number) (turn.next ∙ ap (λ (d : Result Progress ℕ). turned_by d w turn.taken) e) in omega arith)
+        go (Err m) e = let a : kept (Err m) = rw e at turn.kept in rw (turn.next, e) (refused m e a.0)
 
 -- rows keep their lengths
 pub turn-links : {s : List ℕ} {ms : List ModeLine} {p u : List ℕ} {w : Clauses} {opens : Bool} {q v k : List ℕ} {r : Behind} (l : List ℕ) → Indexed s u l w.consts → Turns s ms p u w opens q v k r → length k ≡ length l

@@ -1,4 +1,6 @@
 -- The tests of a clause that was taken.
+use Rattle.std.specs.Prelude.{Err}
+use Rattle.parlog.specs.Answer.{Answer}
 use mathlib.Core.Path.{◌≡◌, refl}
 use mathlib.Core.Bool.{◌&&◌, Bool, false, true}
 use Prim.Native.Nat.{◌+◌, ◌≤◌, suc, zero, ℕ}
@@ -12,8 +14,6 @@ use Rattle.judge_text.specs.Tests.{Counted, tested}
 use Rattle.lay_lines.specs.Fields.{clause_fits}
 use Rattle.lay_lines.specs.Lines.{clause_right}
 use Rattle.parlog.specs.Load.{block_with, kind_fault, refusal, too_many}
-use Rattle.parlog.specs.declared.Loaded.{Loaded}
-use Rattle.parlog.specs.declared.Loaded.TheVariants.{Refused}
 use Rattle.parlog.specs.declared.Progress.{Progress}
 use Rattle.read_names.specs.Tables.{mode_names}
 use Rattle.take_modes.specs.TakesModes.{said_by}
@@ -35,6 +35,6 @@ pub taken-said : (ms : List ModeLine) (g : Progress) (opens : Bool) (x : SaidCla
 unfolding taken_said clause_said
 taken-said ms g opens x r right fits e f h = rw (e, f, h) refl
 
-pub said-refused : (n at : ℕ) (next : Loaded) → 1 ≤ n → Refused (refusal n at) ≡ said_by n at next
+pub said-refused : (n at : ℕ) (next : Answer (ℕ × ℕ)) → 1 ≤ n → Err (refusal n at) ≡ said_by n at next
 said-refused zero at next h = absurd (omega arith)
 said-refused (suc n) at next h = refl

@@ -1,4 +1,5 @@
 -- The clauses as they are taken from a text, each tested.
+use Rattle.parlog.specs.Answer.{Answer}
 use Rattle.std.specs.Prelude.{◌≡◌, ◌&&◌, false, [], List, ◌+◌, ◌<◌, ◌≤◌, ℕ, drop, length, take}
 use Rattle.judge_said.specs.Said.{clauses_said}
 use Rattle.judge_text.specs.Tests.{Counted}
@@ -7,7 +8,6 @@ use Rattle.lay_lines.specs.Fields.{clause_fits}
 use Rattle.lay_lines.specs.Lines.{clauses_from, clauses_with}
 use Rattle.lay_literal.specs.Lows.{lows}
 use Rattle.name_index.specs.Index.{Indexed}
-use Rattle.parlog.specs.declared.Loaded.{Loaded}
 use Rattle.parlog.specs.declared.Progress.{Progress}
 use Rattle.read_names.specs.Tables.{Adds, mode_names, names_at, sorted}
 use Rattle.take_modes.specs.TakesModes.{said_by}
@@ -28,7 +28,7 @@ pub record TakesClauses (s : List ℕ) (ms : List ModeLine) (o t : List ℕ) (fr
   pub inside : r.end ≤ length s
   pub declared : (r.declared && all_of (clause_fits false ms) (lines_for r.left is_clause read_clause (drop r.end s)).value) ≡ all_of (clause_fits false ms) (clauses_from s from)
   pub rest : (lines_for r.left is_clause read_clause (drop r.end s)).rest ≡ (lines is_clause read_clause (drop from s)).rest
-  pub said : (next : ℕ → Progress → Loaded) → clauses_said ms next false [] (clauses_from s from) at g ≡ said_by r.number r.at (next r.at r.known)
+  pub said : (next : ℕ → Progress → Answer (ℕ × ℕ)) → clauses_said ms next false [] (clauses_from s from) at g ≡ said_by r.number r.at (next r.at r.known)
   pub counted : Counted r.known
   pub near : r.at ≤ 65536
   pub index : Indexed s u l r.consts

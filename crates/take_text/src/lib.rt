@@ -10,10 +10,12 @@ ghost use Rattle.take_text.specs.TakesText.{TakesClauses};
 ghost use Rattle.take_text.specs.Turned.{started, taken_said, turned_by, Turns};
 
 use mode_table::Lines;
-use parlog::{Progress, Verdict, codes};
+use parlog::{Progress, codes};
+use read_goal::ARROW;
 use take_clause::Taken;
 
 // How far the clauses were taken: the place in the text and how many may still follow, the number of the first refusal, or 0, and the place of its record, or the place behind all; how many constants there are, what is known there, and whether each call so far has a mode line.
+// Kept: no Result, since the places, `left` and `declared` are read behind a refusal too.
 #[derive(Clone, Copy)]
 pub struct Clauses {
     pub end: usize,
@@ -32,22 +34,19 @@ struct Behind {
     semicolon: bool,
 }
 
-// The mark that the goal line begins with.
-const ARROW: usize = 60;
-
 // The tests of a clause by its relation, whether it has no more than it may have, and whether each call has its arity.
-fn test(g: Progress, opens: bool, number: usize, right: bool, fits: bool) -> Verdict
+fn test(g: Progress, opens: bool, number: usize, right: bool, fits: bool) -> Result<Progress, u8>
     requires { Counted g }
     ensures { (result ≡ taken_said g opens number right fits) × kept result }
 {
     let block = judge_text::block_with(g, number, opens);
-    let known = basics::and(fits, g.relation <= number);
+    let known = fits & (g.relation <= number);
     let next = Progress {
-        relations: g.relations,
         clauses: g.clauses + 1,
         kind: codes::CLAUSE_KIND,
         relation: number,
-        block: block,
+        block,
+        ..g
     };
     judge_text::verdict(
         codes::MOST_CLAUSES <= g.clauses,
@@ -59,30 +58,28 @@ fn test(g: Progress, opens: bool, number: usize, right: bool, fits: bool) -> Ver
 }
 
 // Behind a clause that goes or is refused; one that is refused has its record's place.
-fn turned(v: Verdict, w: Clauses, c: Taken) -> Clauses
+fn turned(v: Result<Progress, u8>, w: Clauses, c: Taken) -> Clauses
     requires { 1 ≤ w.left }
     ensures { result ≡ turned_by v w c }
 {
-    let known = w.known;
-    let declared = basics::and(w.declared, c.declared);
+    let declared = w.declared & c.declared;
     match v {
-        Verdict::Refuses(number) => Clauses {
+        Err(number) => Clauses {
             end: c.end,
             left: w.left - 1,
-            number: number,
-            at: w.at,
+            number,
             consts: c.consts,
-            known: known,
-            declared: declared,
+            declared,
+            ..w
         },
-        Verdict::Goes(next) => Clauses {
+        Ok(next) => Clauses {
             end: c.end,
             left: w.left - 1,
             number: 0,
             at: c.at,
             consts: c.consts,
             known: next,
-            declared: declared,
+            declared,
         },
     }
 }
@@ -106,8 +103,7 @@ fn turn(
     let c = take_clause::clause(
         s, rels, arities, chains, lines, out, consts, links, w.end, w.at, w.consts, opens,
     );
-    let known = w.known;
-    let v = test(known, opens, c.number, c.right, c.fits);
+    let v = test(w.known, opens, c.number, c.right, c.fits);
     Behind {
         next: turned(v, w, c),
         semicolon: c.semicolon,
@@ -120,11 +116,11 @@ fn start(left: usize, from: usize, n: usize, at: usize, known: Progress) -> Clau
 {
     Clauses {
         end: from,
-        left: left,
+        left,
         number: 0,
-        at: at,
+        at,
         consts: n,
-        known: known,
+        known,
         declared: true,
     }
 }

@@ -1,4 +1,5 @@
 -- What was printed is parsed to what it was printed from.
+use Rattle.std.specs.Prelude.{Ok}
 use mathlib.Core.Path.{◌∙◌, ◌≡◌, ap, refl}
 use mathlib.Core.Bool.{◌&&◌, Bool, false, true}
 use mathlib.Core.List.{[], ◌∷◌, List, map}
@@ -17,7 +18,6 @@ use Rattle.parlog.specs.Orders.{Each}
 use Rattle.parlog.specs.Program.{Clause, Goal, Literal, modes_of, Program, program_of}
 use Rattle.parlog.specs.Records.{record_end}
 use Rattle.parlog.specs.Tables.{written}
-use Rattle.parlog.specs.declared.Loaded.TheVariants.{Accepted}
 use Rattle.text_back.proofs.Firsts.{firsts-length, look-first}
 use Rattle.text_back.proofs.Lines.{text-back}
 use Rattle.text_back.proofs.Made.{accepted-made}
@@ -35,8 +35,6 @@ use Rattle.text_program.specs.Numbered.{relation_names}
 use Rattle.text_program.specs.Parsing.{all_of, clause_declared, declared, goal_declared, image_in, literal_declared, names_in, parse_call, records_in, repeated}
 use Rattle.text_program.specs.Printing.{nameable, next_mark, print_call, program_named, program_text, roomy}
 use Rattle.text_program.specs.Source.{Source}
-use Rattle.text_program.specs.declared.Parsed.TheVariants.{Read}
-use Rattle.text_program.specs.declared.Printed.TheVariants.{Wrote}
 
 -- ---- relations are found by their names
 
@@ -112,16 +110,16 @@ module _ (nm : List ℕ) (pr : Program) (n : ℕ) (made : Made pr) (fit : Prints
           (all_of (clause_declared (firsts (entry_name nm) r)) p.clauses && goal_declared (firsts (entry_name nm) r) p.goal) ≡ true
       parts e = unfold said_program in e
 
-  passes : (c : ℕ) → load_of s ≡ Accepted r c → records_in (relation_names p) s ≡ Accepted r c
+  passes : (c : ℕ) → load_of s ≡ Ok (r, c) → records_in (relation_names p) s ≡ Ok (r, c)
   passes c e = rw (relations-are nm pr n made fit) (loads-text (firsts (entry_name nm) r) s r c (λ k h. not-repeated (entry_name nm) r k fit.relations h) e)
 
-  not-long : (c : ℕ) → load_of s ≡ Accepted r c → long s ≡ false
+  not-long : (c : ℕ) → load_of s ≡ Ok (r, c) → long s ≡ false
   unfolding long
   not-long c e = le-ltb 32768 (length s) (accepted s r c e).short
 
   -- THE LAW: over programs
-  pub parsed-again : (c : ℕ) (image names : List ℕ) → load_of s ≡ Accepted r c → length s ≤ length image → length (names_used nm r n) ≤ length names →
-      parse_call image names (program_text nm pr) ≡ record { answer = Read (length s) (length (names_used nm r n)); image = written s image; names = written (names_used nm r n) names }
+  pub parsed-again : (c : ℕ) (image names : List ℕ) → load_of s ≡ Ok (r, c) → length s ≤ length image → length (names_used nm r n) ≤ length names →
+      parse_call image names (program_text nm pr) ≡ record { answer = Ok ((length s), (length (names_used nm r n))); image = written s image; names = written (names_used nm r n) names }
   parsed-again c image names e g h =
       let ok = lines_ok nm pr made fit.named in
       let w = parse-steps image names (program_text nm pr) p r c (text-right nm pr ok) (text-back nm pr ok) declares (rw image-again (passes c e)) (rw image-again (not-long c e)) (rw image-again g) (rw names-are h) in
@@ -130,16 +128,16 @@ module _ (nm : List ℕ) (pr : Program) (n : ℕ) (made : Made pr) (fit : Prints
 -- ---- what was printed
 
 module _ (row : List ℕ) (k : ℕ) (t : List ℕ) where
-  with-room : (b : Bool) → (roomy row b t).answer ≡ Wrote k → take k (roomy row b t).text ≡ t
+  with-room : (b : Bool) → (roomy row b t).answer ≡ Ok k → take k (roomy row b t).text ≡ t
   unfolding written
   with-room false x = absurd (let z : ◌≡◌ {A = ℕ} 0 1 = cc in omega arith)
   with-room true x = let z : length t ≡ k = cc in rw (← z) (take-append_seam t (drop (length t) row))
 
-  with-names : (b : Bool) → (nameable row b t).answer ≡ Wrote k → take k (nameable row b t).text ≡ t
+  with-names : (b : Bool) → (nameable row b t).answer ≡ Ok k → take k (nameable row b t).text ≡ t
   with-names false x = absurd (let z : ◌≡◌ {A = ℕ} 0 1 = cc in omega arith)
   with-names true x = with-room (leb (length t) (length row)) x
 
-pub printed : (s nm row : List ℕ) (r c k : ℕ) → load_of s ≡ Accepted r c → (print_call row s nm).answer ≡ Wrote k → take k (print_call row s nm).text ≡ program_text nm (program_of s r c)
+pub printed : (s nm row : List ℕ) (r c k : ℕ) → load_of s ≡ Ok (r, c) → (print_call row s nm).answer ≡ Ok k → take k (print_call row s nm).text ≡ program_text nm (program_of s r c)
 unfolding print_call
 printed s nm row r c k e f = rw e (with-names row k (program_text nm (program_of s r c)) (program_named nm (program_of s r c)) (rw e at f))
 

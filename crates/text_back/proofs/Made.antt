@@ -1,4 +1,5 @@
 -- What an accepted image gives: programs that can be written.
+use Rattle.std.specs.Prelude.{Ok}
 use mathlib.Core.Path.{◌∙◌, ◌≡◌, refl}
 use mathlib.Core.Logic.{◌⊎◌, inl, inr}
 use mathlib.Core.Bool.{◌&&◌, Bool, cond, true}
@@ -20,7 +21,6 @@ use Rattle.parlog.specs.Orders.{Each}
 use Rattle.parlog.specs.Program.{Clause, clause_of, goal_of, literal_of, modes_of, program_of, stage_of}
 use Rattle.parlog.specs.Records.{byte_at, kind_at, record_at, record_end}
 use Rattle.parlog.specs.Scan.{along, each, list_of}
-use Rattle.parlog.specs.declared.Loaded.TheVariants.{Accepted}
 use Rattle.refusals.proofs.Exactly.{accepted-right}
 use Rattle.refusals.specs.Right.{ClauseNamed, record_kind, relation_in, RightImage}
 use Rattle.text_back.proofs.Lines.{ModeOk}
@@ -203,5 +203,5 @@ module _ (s : List ℕ) where
         }
 
 -- THE LAW: the program of an accepted image can be written
-pub accepted-made : (s : List ℕ) (r c : ℕ) → load_of s ≡ Accepted r c → Made (program_of s r c)
+pub accepted-made : (s : List ℕ) (r c : ℕ) → load_of s ≡ Ok (r, c) → Made (program_of s r c)
 accepted-made s r c e = program-made s r c (accepted s r c e) ((accepted-right s).0 e)

@@ -1,4 +1,5 @@
 -- What is written is a clause text.
+use Rattle.std.specs.Prelude.{Ok}
 use mathlib.Core.Path.{◌∙◌, ◌≡◌, ap, refl}
 use mathlib.Core.Bool.{◌||◌, Bool, cond, false, true}
 use mathlib.Core.List.{[], ◌++◌, ◌∷◌, append_assoc, List}
@@ -16,7 +17,6 @@ use Rattle.spell.proofs.Exact.{right-accepted}
 use Rattle.spell.specs.Forms.{◌or◌, ◌then◌, Form, in_span, many, read_byte, read-end, read_left, read_more, read_none, read_right, read_then, Reads}
 use Rattle.spell.specs.Grammar.{arrow, blank, blanks, bracketed, byte, clause, ClauseText, goal, goal_line, literal, lower, mark, mode_line, name_byte, perhaps, term, text, word}
 use Rattle.spell.specs.Stuck.{spelling_of}
-use Rattle.spell.specs.declared.Spelt.TheVariants.{Right}
 use Rattle.text_back.proofs.Begin.{all_name, entry-lower, Lower, lower-spelt, or_cases, Spelt, spelt-begins, spelt-some}
 use Rattle.text_back.proofs.Items.{equality-text, goal-begins, GoalOk, LiteralOk, literals-back, literal_way, stages-back, stage_way, term-commas, term-spelt, TermOk, terms-back, term_way}
 use Rattle.text_back.proofs.Lines.{arrow-skip, blank_skip, clause-split, ClauseOk, clauses-solid, colon-skip, goal-line-solid, guard-split, LinesOk, mode-commas, mode-split, modes-solid, modes-way, mode_way, name-lower, plain-skip, skip_stop, stop_of, Stops, stops-46, stops-by}
@@ -282,6 +282,6 @@ module _ (r : ℕ) (nm : List ℕ) where
       (read_then (mode-lines-written 0 mss u o.relations d) (read_then (clauses-written cs t o.clauses (goal-line-solid r nm g)) (goal-line-written g o.goal)))
 
 -- THE LAW: the text of a program is a clause text
-pub text-right : (nm : List ℕ) (pr : Program) → LinesOk (length pr.relations) nm pr.relations pr.clauses pr.goal → spelling_of (program_text nm pr) ≡ Right
+pub text-right : (nm : List ℕ) (pr : Program) → LinesOk (length pr.relations) nm pr.relations pr.clauses pr.goal → spelling_of (program_text nm pr) ≡ Ok tt
 unfolding program_text
 text-right nm pr o = right-accepted _ (lines-written (length pr.relations) nm pr.relations pr.clauses pr.goal o)

@@ -1,10 +1,9 @@
 -- Request 4: "back too": when the text of an image is parsed to that image again.
-use Rattle.std.specs.Prelude.{◌≡◌, ◌≢◌, true, [], ◌++◌, ◌∷◌, List, ◌+◌, ◌<◌, ◌≤◌, suc, zero, ℕ, length, take}
+use Rattle.std.specs.Prelude.{◌≡◌, ◌≢◌, true, [], ◌++◌, ◌∷◌, List, ◌+◌, ◌<◌, ◌≤◌, suc, zero, ℕ, length, take, Ok}
 use Rattle.parlog.specs.Load.{load_of}
 use Rattle.parlog.specs.Orders.{Each}
 use Rattle.parlog.specs.Program.{Clause, Goal, Literal, Program, program_of}
 use Rattle.parlog.specs.Tables.{written}
-use Rattle.parlog.specs.declared.Loaded.TheVariants.{Accepted}
 use Rattle.parlog.specs.declared.Term.{Term}
 use Rattle.parlog.specs.declared.Term.TheVariants.{Const, Var}
 use Rattle.rows.specs.Rows.{Bytes}
@@ -13,8 +12,6 @@ use Rattle.text_names.specs.Names.{Name}
 use Rattle.text_program.specs.Numbered.{joined}
 use Rattle.text_program.specs.Parsing.{parse_call}
 use Rattle.text_program.specs.Printing.{print_call, program_named}
-use Rattle.text_program.specs.declared.Parsed.TheVariants.{Read}
-use Rattle.text_program.specs.declared.Printed.TheVariants.{Wrote}
 
 -- ---- the terms of a program, as they stand
 
@@ -80,6 +77,6 @@ names_used nm r n = entries (firsts (entry_name nm) r ++ firsts (λ c. entry_nam
 
 -- Request 4: "reads back to it": parsing the text that was printed gives the image, and the names used
 abbrev pub PrintParse : Type 0
-PrintParse = (s nm row image names : List ℕ) (r c n k : ℕ) → Bytes s → load_of s ≡ Accepted r c → PrintsBack nm (program_of s r c) n → (print_call row s nm).answer ≡ Wrote k →
+PrintParse = (s nm row image names : List ℕ) (r c n k : ℕ) → Bytes s → load_of s ≡ Ok (r, c) → PrintsBack nm (program_of s r c) n → (print_call row s nm).answer ≡ Ok k →
     length s ≤ length image → length (names_used nm r n) ≤ length names →
-    parse_call image names (take k (print_call row s nm).text) ≡ record { answer = Read (length s) (length (names_used nm r n)); image = written s image; names = written (names_used nm r n) names }
+    parse_call image names (take k (print_call row s nm).text) ≡ record { answer = Ok ((length s), (length (names_used nm r n))); image = written s image; names = written (names_used nm r n) names }

@@ -1,4 +1,5 @@
 -- What was parsed is printed, and what was printed is parsed to it again.
+use Rattle.std.specs.Prelude.{Ok}
 use mathlib.Core.Path.{◌∙◌, ◌≡◌, ap, sym}
 use mathlib.Core.Bool.{false, true}
 use mathlib.Core.List.{[], ◌++◌, ◌∷◌, List, map}
@@ -10,7 +11,6 @@ use Rattle.parlog.specs.Load.{load_of, long}
 use Rattle.parlog.specs.Orders.{Each}
 use Rattle.parlog.specs.Program.{Program}
 use Rattle.parlog.specs.Tables.{written}
-use Rattle.parlog.specs.declared.Loaded.TheVariants.{Accepted}
 use Rattle.spell.proofs.Exact.{accepted-right}
 use Rattle.text_back.proofs.Again.{parsed-again}
 use Rattle.text_back.proofs.Begin.{Lower, Spelt}
@@ -69,7 +69,7 @@ relations-lower (m ∷ ms) e = (e.0, relations-lower ms e.1)
 
 -- ---- of a source whose image loads
 
-module _ (p : Source) (spelt : SourceSpelt p) (r c : ℕ) (passes : records_in (relation_names p) (image_in p) ≡ Accepted r c) (short : long (image_in p) ≡ false) where
+module _ (p : Source) (spelt : SourceSpelt p) (r c : ℕ) (passes : records_in (relation_names p) (image_in p) ≡ Ok (r, c)) (short : long (image_in p) ≡ false) where
   abbrev rels : List Name
   rels = relation_names p
 
@@ -118,7 +118,7 @@ module _ (p : Source) (spelt : SourceSpelt p) (r c : ℕ) (passes : records_in (
   accepted-relations : r ≡ length rels
   accepted-relations = (counted pr r c (loaded-first)).0 ∙ as_many
     where
-      loaded-first : load_of (program_bytes pr) ≡ Accepted r c
+      loaded-first : load_of (program_bytes pr) ≡ Ok (r, c)
       loaded-first = unfold image_in in text-loads (relation_names p) (program_bytes (program_in p)) r c passes short
 
   relations-distinct : Distinct (entry_name nm) k
@@ -153,7 +153,7 @@ module _ (p : Source) (spelt : SourceSpelt p) (r c : ℕ) (passes : records_in (
       let b : firsts (λ c. entry_name nm (k + c)) n ≡ consts = firsts-all (λ c. entry_name nm (k + c)) consts constant-name in
       rw (a, b)
 
-  image-loads : load_of (program_bytes pr) ≡ Accepted k (length p.clauses)
+  image-loads : load_of (program_bytes pr) ≡ Ok (k, (length p.clauses))
   unfolding image_in
   image-loads = rw (program-relations p) loads.loads
 

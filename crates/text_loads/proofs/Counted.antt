@@ -1,4 +1,5 @@
 -- An accepted image of a program has its relations and its clauses.
+use Rattle.std.specs.Prelude.{Ok}
 use mathlib.Core.Path.{◌≡◌}
 use mathlib.Core.List.{[], ◌++◌, ◌∷◌, List}
 use Prim.Native.Nat.{◌+◌, ◌<◌, suc, zero, ℕ}
@@ -13,7 +14,6 @@ use Rattle.parlog.specs.Load.{load_of}
 use Rattle.parlog.specs.Program.{clause_of, modes_of, Program}
 use Rattle.parlog.specs.Records.{kind_at, record_at, record_end}
 use Rattle.parlog.specs.Scan.{along}
-use Rattle.parlog.specs.declared.Loaded.TheVariants.{Accepted}
 use Rattle.text_loads.proofs.Decoded.{clauses, clauses-at, clauses-place, from_start, goal-at, goal-place, relations}
 use Rattle.text_loads.proofs.Stands.{Decodes}
 use Rattle.text_loads.specs.Loads.{ClauseFits}
@@ -83,7 +83,7 @@ module _ (pr : Program) where
   }
 
   -- THE LAW: the counts of an accepted image are those of the program
-  pub counted : (r c : ℕ) → load_of s ≡ Accepted r c → (r ≡ length pr.relations) × (c ≡ length pr.clauses)
+  pub counted : (r c : ℕ) → load_of s ≡ Ok (r, c) → (r ≡ length pr.relations) × (c ≡ length pr.clauses)
   counted r c e =
       let a = right-kinds s r c (accepted s r c e) in
       let q = same-relations (λ k. kind_at s (record_at s k)) r c (length pr.relations) (length pr.clauses) a encoded-kinds in

@@ -1,4 +1,6 @@
 -- The records of an encoded program are whole, of the right kinds and end with the goal: what refuses them is 4, 5 or 6.
+use Rattle.std.specs.Prelude.{Ok, Err}
+use Rattle.parlog.specs.Answer.{Answer}
 use mathlib.Core.Path.{◌∙◌, ◌≡◌, ap, refl, sym}
 use mathlib.Core.Bool.{◌&&◌, Bool, false, not, true}
 use mathlib.Core.List.{[], ◌++◌, ◌∷◌, List}
@@ -17,10 +19,7 @@ use Rattle.parlog.specs.Names.{names_right}
 use Rattle.parlog.specs.Program.{clause_of, modes_of, Program}
 use Rattle.parlog.specs.Records.{cut, kind_at, record_at, record_end}
 use Rattle.parlog.specs.Scan.{along}
-use Rattle.parlog.specs.declared.Loaded.{Loaded}
-use Rattle.parlog.specs.declared.Loaded.TheVariants.{Accepted, Refused}
 use Rattle.parlog.specs.declared.Progress.{Progress}
-use Rattle.parlog.specs.declared.Verdict.TheVariants.{Goes}
 use Rattle.text_loads.proofs.Counted.{At, encoded-kinds, Kinds, row_at}
 use Rattle.text_loads.proofs.Decoded.{clauses, clauses-at, clauses-place, from_start, goal-at, goal-place, relations}
 use Rattle.text_loads.specs.Loads.{ClauseFits, RecordsRefused}
@@ -99,11 +98,11 @@ module _ (kind : ℕ → ℕ) (r c : ℕ) (K : Kinds kind r c) where
 abbrev Among-three : ℕ → Type 0
 Among-three n = (4 ≤ n) × (n ≤ 6)
 
-abbrev Refused-so : Loaded → Type 0
-Refused-so (Accepted r c) = Unit {0}
-Refused-so (Refused f) = Among-three f.number
+abbrev Refused-so : Answer (ℕ × ℕ) → Type 0
+Refused-so (Ok (r, c)) = Unit {0}
+Refused-so (Err f) = Among-three f.number
 
-tests-so : (a b c d again : Bool) (rest : Progress → Loaded) (at : ℕ) (t : Progress) → Refused-so (rest t) → Refused-so (after rest at (once_by again (refuse_if a 6 (refuse_if b 4 (refuse_if c 5 (refuse_if d 6 (Goes t)))))))
+tests-so : (a b c d again : Bool) (rest : Progress → Answer (ℕ × ℕ)) (at : ℕ) (t : Progress) → Refused-so (rest t) → Refused-so (after rest at (once_by again (refuse_if a 6 (refuse_if b 4 (refuse_if c 5 (refuse_if d 6 (Ok t)))))))
 tests-so true b c d again rest at t h = (omega arith, omega arith)
 tests-so false true c d again rest at t h = (omega arith, omega arith)
 tests-so false false true d again rest at t h = (omega arith, omega arith)
@@ -221,7 +220,7 @@ module _ (rels : List Name) (pr : Program) where
         before = λ j e. let z : j ≡ k = omega arith in kind-kept s g at (kind_at s at) ∙ kind_is ∙ ap kind (sym z);
       }
 
-      goes_so : (rest : Progress → Loaded) → ((t : Progress) → Here (record_end s at) t → Refused-so (rest t)) → Refused-so (after rest at (text_verdict rels s g at))
+      goes_so : (rest : Progress → Answer (ℕ × ℕ)) → ((t : Progress) → Here (record_end s at) t → Refused-so (rest t)) → Refused-so (after rest at (text_verdict rels s g at))
       unfolding text_verdict verdict
       goes_so rest later =
           rw right-kind

@@ -1,4 +1,6 @@
 -- An image whose records pass has few bytes, so that it is never too long.
+use Rattle.std.specs.Prelude.{Result, Ok, Err}
+use Rattle.parlog.specs.Answer.{Answer}
 use mathlib.Core.Path.{◌≡◌, refl}
 use mathlib.Core.Bool.{◌&&◌, ◌||◌, Bool, cond, false, true}
 use mathlib.Core.List.{List}
@@ -17,11 +19,7 @@ use Rattle.parlog.specs.Image.{body_at, goal_end, guard_at, literal_end, literal
 use Rattle.parlog.specs.Load.{after, broken, judged, kind_fault, load_end, long, nothing_read, progressed, records, refusal, too_many, verdict}
 use Rattle.parlog.specs.Records.{byte_at, cut, kind_at, record_end}
 use Rattle.parlog.specs.Scan.{along, each, total}
-use Rattle.parlog.specs.declared.Loaded.{Loaded}
-use Rattle.parlog.specs.declared.Loaded.TheVariants.{Accepted, Refused}
 use Rattle.parlog.specs.declared.Progress.{Progress}
-use Rattle.parlog.specs.declared.Verdict.{Verdict}
-use Rattle.parlog.specs.declared.Verdict.TheVariants.{Goes, Refuses}
 use Rattle.text_loads.proofs.Walked.{passes}
 use Rattle.text_loads.specs.Loads.{most_image, NeverLong}
 use Rattle.text_names.specs.Names.{Name}
@@ -151,27 +149,27 @@ module _ (s : List ℕ) where
         go (suc (suc (suc zero))) e lo hi = goal-next e
         go (suc (suc (suc (suc q)))) e lo hi = absurd (omega arith)
 
-  within-goes : (at : ℕ) (g t : Progress) → Within at g → cut s at ≡ false → verdict s g at ≡ Goes t → Within (record_end s at) t
+  within-goes : (at : ℕ) (g t : Progress) → Within at g → cut s at ≡ false → verdict s g at ≡ Ok t → Within (record_end s at) t
   within-goes at g t w e v =
       let p = all-passed s g t at e v in
       let k = kinds-right g (kind_at s at) p.kind in
       rw p.next at (within-next at g w p.few p.body k.open-yet k.least k.most)
 
-  abbrev Few-bytes : Loaded → Type 0
-  Few-bytes (Accepted r c) = length s ≤ most_image
-  Few-bytes (Refused f) = Unit {0}
+  abbrev Few-bytes : Answer (ℕ × ℕ) → Type 0
+  Few-bytes (Ok (r, c)) = length s ≤ most_image
+  Few-bytes (Err f) = Unit {0}
 
-  one-record : (at : ℕ) (g : Progress) → Within at g → cut s at ≡ false → (rest : Progress → Loaded) → ((t : Progress) → Within (record_end s at) t → Few-bytes (rest t)) → Few-bytes (judged s rest at g)
+  one-record : (at : ℕ) (g : Progress) → Within at g → cut s at ≡ false → (rest : Progress → Answer (ℕ × ℕ)) → ((t : Progress) → Within (record_end s at) t → Few-bytes (rest t)) → Few-bytes (judged s rest at g)
   one-record at g w e rest more = go (verdict s g at) refl
     where
-      go : (v : Verdict) → verdict s g at ≡ v → Few-bytes (after rest at v)
-      go (Refuses n) d = tt
-      go (Goes t) d = more t (within-goes at g t w e d)
+      go : (v : Result Progress ℕ) → verdict s g at ≡ v → Few-bytes (after rest at v)
+      go (Err n) d = tt
+      go (Ok t) d = more t (within-goes at g t w e d)
 
   at-end : (at : ℕ) (g : Progress) → Within at g → length s ≤ at → Few-bytes (load_end s g)
   at-end at g w h = go (eqb g.kind 3)
     where
-      go : (b : Bool) → Few-bytes (cond b (Accepted g.relations g.clauses) (Refused (refusal 7 (length s))))
+      go : (b : Bool) → Few-bytes (cond {A = Answer (ℕ × ℕ)} b (Ok (g.relations, g.clauses)) (Err (refusal 7 (length s))))
       go true = let a = w.relations in let b = w.clauses in let c = w.most in omega arith
       go false = tt
 
@@ -182,7 +180,7 @@ module _ (s : List ℕ) where
   few_bytes = walk-holds s broken (judged s) (load_end s) Within Few-bytes (λ at g w l e. tt) (λ at g w l e rest more. one-record at g w e rest more) at-end (length s) 0 nothing_read (omega arith) nothing-within
 
 -- THE LAW: what passes has few bytes
-pub passed-short : (rels : List Name) (s : List ℕ) (r c : ℕ) → records_in rels s ≡ Accepted r c → length s ≤ most_image
+pub passed-short : (rels : List Name) (s : List ℕ) (r c : ℕ) → records_in rels s ≡ Ok (r, c) → length s ≤ most_image
 unfolding records_in
 passed-short rels s r c e = rw (passes rels s (length s) 0 nothing_read r c e) at (few_bytes s)
 

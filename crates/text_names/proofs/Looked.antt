@@ -7,7 +7,8 @@ use lib.Dec.{eqb, ltb}
 use lib.ListN.{get_or, length, length-append}
 use borrow.Author.Tests.{eq-eqb, eqb-true, le-ltb, lt-ltb, ltb-false, ltb-true}
 use native.Mathlib.Omega.{arith}
-use Rattle.text_names.specs.Names.{known, look, Name, same_name}
+use Rattle.std.specs.Prelude.{is_some, None, Option, Some}
+use Rattle.text_names.specs.Names.{FoundAt, known, look, Name, same_name}
 
 -- ---- the same name
 
@@ -95,6 +96,11 @@ look-found (y ∷ ys) x h = go (same_name y x) refl h (look-found ys x)
 
 pub not_known : (ys : List Name) (x : Name) → known ys x ≡ false → look ys x ≡ length ys
 not_known ys x e = let a = ltb-false (look ys x) (length ys) e in let b = look-most ys x in omega arith
+
+-- where a number was found the name is known
+pub found-known : (ys : List Name) (x : Name) (r : Option ℕ) → FoundAt ys x r → is_some r ≡ known ys x
+found-known ys x (Some k) f = sym (lt-ltb (look ys x) (length ys) (let a = f.0 in let b = f.1 in omega arith))
+found-known ys x None f = sym (le-ltb (look ys x) (length ys) (omega arith))
 
 known-none : (x : Name) → known [] x ≡ false
 unfolding look

@@ -1,22 +1,16 @@
 -- One turn of the loops over names and blanks.
 use mathlib.Core.Path.{◌∙◌, ◌≡◌, ap, refl, sym}
-use mathlib.Core.Bool.{◌||◌, Bool, false, false≢true, not, true}
+use mathlib.Core.Bool.{Bool, false, false≢true, not, true}
 use mathlib.Core.List.{[], ◌∷◌, List}
 use Prim.Native.Nat.{◌+◌, ◌<◌, ◌≤◌, ℕ}
-use lib.Dec.{eqb, leb}
+use lib.Dec.{leb}
 use lib.ListN.{drop, drop_of_length-le, get_or, length, get_or-eq_default}
 use lib.Seq.{drop-cons, drop-drop}
 use borrow.Author.Tests.{eq-eqb, leb-false, leb-true, ne_eqb, not-false, not-true}
 use native.Mathlib.Omega.{arith}
 use native.Mathlib.Numerals.{add-one}
-use Rattle.spell.specs.Forms.{in_span}
 use Rattle.text_names.specs.Bytes.{back, front, is_blank, is_capital, is_name, is_small, next, skip}
 use Rattle.text_names.specs.Names.{same_name}
-
--- a byte of a name that is no lower-case letter
-pub name-other : (b : ℕ) (small d c o r : Bool) → small ≡ is_small b → small ≡ false → d ≡ in_span 48 9 b → c ≡ is_capital b → o ≡ (d || eqb b 95) → r ≡ (c || o) → r ≡ is_name b
-unfolding is_name
-name-other b small d c o r e f g i k m = m ∙ rw (k, g, i, ← e, f)
 
 module _ (s : List ℕ) (i : ℕ) where
   pub skip_stop : (r : Bool) → i < length s → r ≡ is_blank (get_or s i 0) → not r ≡ true → drop i s ≡ skip (drop i s)

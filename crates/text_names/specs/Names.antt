@@ -1,5 +1,5 @@
 -- Names, and their numbers by first appearance.
-use Rattle.std.specs.Prelude.{◌&&◌, Bool, cond, false, true, [], ◌++◌, ◌∷◌, List, suc, ℕ, eqb, ltb, length}
+use Rattle.std.specs.Prelude.{◌≡◌, ◌&&◌, Bool, cond, false, true, [], ◌++◌, ◌∷◌, List, ◌<◌, suc, ℕ, eqb, ltb, length, Option, Some, None}
 
 -- a name is a row of bytes
 abbrev pub Name : Type 0
@@ -20,6 +20,11 @@ look (y ∷ ys) x = cond (same_name y x) 0 (suc (look ys x))
 -- the name is one of them
 abbrev pub known : List Name → Name → Bool
 known ys x = ltb (look ys x) (length ys)
+
+-- the number of a name among some names, or none where it is none of them
+abbrev pub FoundAt : List Name → Name → Option ℕ → Type 0
+FoundAt ys x (Some k) = (k ≡ look ys x) × (k < length ys)
+FoundAt ys x None = look ys x ≡ length ys
 
 -- the names with one more, if it is new
 unfoldable pub add : List Name → Name → List Name

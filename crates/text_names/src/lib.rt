@@ -1,51 +1,58 @@
 // Names and blanks where they stand in a text.
 #![tactic(auto)]
 
-ghost use Rattle.std.specs.Prelude.{◌≡◌, ◌+◌, ◌≤◌, drop, length};
+ghost use Rattle.std.specs.Prelude.{◌≡◌, ◌+◌, ◌-◌, ◌≤◌, drop, length};
 ghost use Rattle.spell.specs.Forms.{in_span};
 ghost use Rattle.text_names.specs.Bytes.{back, front, is_blank, is_capital, is_name, is_small, next, skip};
 ghost use Rattle.text_names.specs.Names.{same_name};
 
 // ---- bytes
 
-// One of the bytes a to a + n.
-fn in_span(a: usize, n: usize, b: usize) -> bool
-    requires { a + n ≤ 255 }
-    ensures { result ≡ in_span a n b }
+// Bytes that stand in no row of others.
+const UNDERSCORE: usize = b'_' as usize;
+
+const RETURN: usize = b'\r' as usize;
+
+const SPACE: usize = b' ' as usize;
+
+// One of the bytes a to z.
+fn in_span(a: u8, z: u8, b: usize) -> bool
+    requires { a ≤ z }
+    ensures { result ≡ in_span a (z - a) b }
 {
-    basics::and(a <= b, b <= a + n)
+    basics::wide(a) <= b && b <= basics::wide(z)
 }
 
 // A lower-case letter.
+#[tactic(auto, unfolding(crate::specs::Bytes::is_small))]
 pub fn is_small(b: usize) -> bool
     ensures { result ≡ is_small b }
 {
-    in_span(97, 25, b)
+    in_span(b'a', b'z', b)
 }
 
 // An upper-case letter.
+#[tactic(auto, unfolding(crate::specs::Bytes::is_capital))]
 pub fn is_capital(b: usize) -> bool
     ensures { result ≡ is_capital b }
 {
-    in_span(65, 25, b)
+    in_span(b'A', b'Z', b)
 }
 
 // A byte of a name: a lower-case letter in most cases.
+#[tactic(auto, unfolding(crate::specs::Bytes::is_name))]
 pub fn is_name(b: usize) -> bool
     ensures { result ≡ is_name b }
 {
-    if is_small(b) {
-        return true;
-    }
-    let rest = basics::or(in_span(48, 9, b), b == 95);
-    basics::or(is_capital(b), rest)
+    is_small(b) || is_capital(b) || in_span(b'0', b'9', b) || b == UNDERSCORE
 }
 
 // A blank or a line end.
+#[tactic(auto, unfolding(crate::specs::Bytes::is_blank))]
 fn is_blank(b: usize) -> bool
     ensures { result ≡ is_blank b }
 {
-    basics::or(in_span(9, 1, b), basics::or(b == 13, b == 32))
+    in_span(b'\t', b'\n', b) || b == RETURN || b == SPACE
 }
 
 // ---- places
@@ -55,14 +62,12 @@ pub fn name_end(s: &[u8], from: usize) -> usize
     requires { from ≤ length s.now }
     ensures { (drop result s.now ≡ back (drop from s.now)) × (result ≤ length s.now) }
 {
-    let mut i = from;
-    while i < s.len() {
+    for i in from..s.len() {
         if !is_name(place::byte_in(s, i)) {
             return i;
         }
-        i += 1;
     }
-    i
+    s.len()
 }
 
 // The place behind the blanks at a place.
@@ -70,14 +75,12 @@ pub fn skip_blanks(s: &[u8], from: usize) -> usize
     requires { from ≤ length s.now }
     ensures { (drop result s.now ≡ skip (drop from s.now)) × (result ≤ length s.now) }
 {
-    let mut i = from;
-    while i < s.len() {
+    for i in from..s.len() {
         if !is_blank(place::byte_in(s, i)) {
             return i;
         }
-        i += 1;
     }
-    i
+    s.len()
 }
 
 // The place behind a mark and the blanks there.
@@ -92,6 +95,7 @@ pub fn after_mark(s: &[u8], at: usize) -> usize
 }
 
 // The names at two places are the same.
+// Kept: one pass over both names; `==` over two slices needs their ends first, which is a second pass.
 pub fn same_name(s: &[u8], a: usize, b: usize) -> bool
     requires { (a ≤ length s.now) × (b ≤ length s.now) }
     ensures { result ≡ same_name (front (drop a s.now)) (front (drop b s.now)) }

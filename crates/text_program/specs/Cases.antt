@@ -1,11 +1,9 @@
 -- Worked examples of texts and images.
-use Rattle.std.specs.Prelude.{[], ◌∷◌, List, ◌≡◌, ℕ}
+use Rattle.parlog.specs.Answer.{Answer}
+use Rattle.std.specs.Prelude.{[], ◌∷◌, List, ◌≡◌, ℕ, Err, Ok}
 use Rattle.parlog.specs.Load.{refusal}
 use Rattle.text_program.specs.Parsing.{parse_call}
 use Rattle.text_program.specs.Printing.{print_call}
-use Rattle.text_program.specs.declared.Parsed.{Parsed}
-use Rattle.text_program.specs.declared.Parsed.TheVariants.{Read, Unread}
-use Rattle.text_program.specs.declared.Printed.TheVariants.{Unwritten, Wrote}
 
 -- `mode s(^).`, `s(five).`, `<- s(A).`, a line each
 abbrev pub one_fact : List ℕ
@@ -88,34 +86,34 @@ abbrev pub stuck_and_no_mode : List ℕ
 stuck_and_no_mode = 109 ∷ 111 ∷ 100 ∷ 101 ∷ 32 ∷ 112 ∷ 46 ∷ 60 ∷ 45 ∷ 32 ∷ 113 ∷ []
 
 -- what a parse answers over rows without a byte
-abbrev pub answer_to : List ℕ → Parsed
+abbrev pub answer_to : List ℕ → Answer (ℕ × ℕ)
 answer_to t = (parse_call [] [] t).answer
 
 -- Text 10 to 15, 21: texts become image and names; bytes behind them stay
 pub record TextsParsed : Type 0 where
-  pub one-fact : parse_call (9 ∷ 9 ∷ 9 ∷ 9 ∷ 9 ∷ 9 ∷ 9 ∷ 9 ∷ 9 ∷ 9 ∷ 9 ∷ 9 ∷ 9 ∷ 9 ∷ 9 ∷ 9 ∷ 9 ∷ 9 ∷ 9 ∷ 9 ∷ 9 ∷ 9 ∷ 9 ∷ 9 ∷ 9 ∷ 9 ∷ 9 ∷ 9 ∷ 9 ∷ 9 ∷ 9 ∷ []) (9 ∷ 9 ∷ 9 ∷ 9 ∷ 9 ∷ 9 ∷ 9 ∷ 9 ∷ []) one_fact ≡ record { answer = Read 29 7; image = 6 ∷ 0 ∷ 1 ∷ 0 ∷ 1 ∷ 1 ∷ 12 ∷ 0 ∷ 2 ∷ 0 ∷ 0 ∷ 1 ∷ 0 ∷ 0 ∷ 0 ∷ 0 ∷ 0 ∷ 0 ∷ 11 ∷ 0 ∷ 3 ∷ 0 ∷ 1 ∷ 1 ∷ 1 ∷ 0 ∷ 1 ∷ 0 ∷ 128 ∷ 9 ∷ 9 ∷ []; names = 115 ∷ 10 ∷ 102 ∷ 105 ∷ 118 ∷ 101 ∷ 10 ∷ 9 ∷ [] }
-  pub much : parse_call (0 ∷ 0 ∷ 0 ∷ 0 ∷ 0 ∷ 0 ∷ 0 ∷ 0 ∷ 0 ∷ 0 ∷ 0 ∷ 0 ∷ 0 ∷ 0 ∷ 0 ∷ 0 ∷ 0 ∷ 0 ∷ 0 ∷ 0 ∷ 0 ∷ 0 ∷ 0 ∷ 0 ∷ 0 ∷ 0 ∷ 0 ∷ 0 ∷ 0 ∷ 0 ∷ 0 ∷ 0 ∷ 0 ∷ 0 ∷ 0 ∷ 0 ∷ 0 ∷ 0 ∷ 0 ∷ 0 ∷ 0 ∷ 0 ∷ 0 ∷ 0 ∷ 0 ∷ 0 ∷ 0 ∷ 0 ∷ 0 ∷ 0 ∷ 0 ∷ 0 ∷ 0 ∷ 0 ∷ 0 ∷ 0 ∷ 0 ∷ 0 ∷ 0 ∷ 0 ∷ 0 ∷ 0 ∷ 0 ∷ 0 ∷ 0 ∷ 0 ∷ 0 ∷ 0 ∷ 0 ∷ 0 ∷ 0 ∷ 0 ∷ 0 ∷ 0 ∷ 0 ∷ 0 ∷ 0 ∷ 0 ∷ 0 ∷ 0 ∷ 0 ∷ 0 ∷ 0 ∷ 0 ∷ 0 ∷ 0 ∷ 0 ∷ 0 ∷ 0 ∷ 0 ∷ 0 ∷ 0 ∷ 0 ∷ 0 ∷ 0 ∷ 0 ∷ 0 ∷ 0 ∷ 0 ∷ 0 ∷ 0 ∷ 0 ∷ 0 ∷ 0 ∷ 0 ∷ 0 ∷ 0 ∷ 0 ∷ 0 ∷ 0 ∷ 0 ∷ 0 ∷ 0 ∷ 0 ∷ 0 ∷ []) (0 ∷ 0 ∷ 0 ∷ 0 ∷ 0 ∷ 0 ∷ 0 ∷ 0 ∷ 0 ∷ 0 ∷ []) loose ≡ record { answer = Read 115 10; image = loose_image; names = loose_names }
-  pub again : parse_call loose_image loose_names tidy ≡ record { answer = Read 115 10; image = loose_image; names = loose_names }
+  pub one-fact : parse_call (9 ∷ 9 ∷ 9 ∷ 9 ∷ 9 ∷ 9 ∷ 9 ∷ 9 ∷ 9 ∷ 9 ∷ 9 ∷ 9 ∷ 9 ∷ 9 ∷ 9 ∷ 9 ∷ 9 ∷ 9 ∷ 9 ∷ 9 ∷ 9 ∷ 9 ∷ 9 ∷ 9 ∷ 9 ∷ 9 ∷ 9 ∷ 9 ∷ 9 ∷ 9 ∷ 9 ∷ []) (9 ∷ 9 ∷ 9 ∷ 9 ∷ 9 ∷ 9 ∷ 9 ∷ 9 ∷ []) one_fact ≡ record { answer = Ok (29, 7); image = 6 ∷ 0 ∷ 1 ∷ 0 ∷ 1 ∷ 1 ∷ 12 ∷ 0 ∷ 2 ∷ 0 ∷ 0 ∷ 1 ∷ 0 ∷ 0 ∷ 0 ∷ 0 ∷ 0 ∷ 0 ∷ 11 ∷ 0 ∷ 3 ∷ 0 ∷ 1 ∷ 1 ∷ 1 ∷ 0 ∷ 1 ∷ 0 ∷ 128 ∷ 9 ∷ 9 ∷ []; names = 115 ∷ 10 ∷ 102 ∷ 105 ∷ 118 ∷ 101 ∷ 10 ∷ 9 ∷ [] }
+  pub much : parse_call (0 ∷ 0 ∷ 0 ∷ 0 ∷ 0 ∷ 0 ∷ 0 ∷ 0 ∷ 0 ∷ 0 ∷ 0 ∷ 0 ∷ 0 ∷ 0 ∷ 0 ∷ 0 ∷ 0 ∷ 0 ∷ 0 ∷ 0 ∷ 0 ∷ 0 ∷ 0 ∷ 0 ∷ 0 ∷ 0 ∷ 0 ∷ 0 ∷ 0 ∷ 0 ∷ 0 ∷ 0 ∷ 0 ∷ 0 ∷ 0 ∷ 0 ∷ 0 ∷ 0 ∷ 0 ∷ 0 ∷ 0 ∷ 0 ∷ 0 ∷ 0 ∷ 0 ∷ 0 ∷ 0 ∷ 0 ∷ 0 ∷ 0 ∷ 0 ∷ 0 ∷ 0 ∷ 0 ∷ 0 ∷ 0 ∷ 0 ∷ 0 ∷ 0 ∷ 0 ∷ 0 ∷ 0 ∷ 0 ∷ 0 ∷ 0 ∷ 0 ∷ 0 ∷ 0 ∷ 0 ∷ 0 ∷ 0 ∷ 0 ∷ 0 ∷ 0 ∷ 0 ∷ 0 ∷ 0 ∷ 0 ∷ 0 ∷ 0 ∷ 0 ∷ 0 ∷ 0 ∷ 0 ∷ 0 ∷ 0 ∷ 0 ∷ 0 ∷ 0 ∷ 0 ∷ 0 ∷ 0 ∷ 0 ∷ 0 ∷ 0 ∷ 0 ∷ 0 ∷ 0 ∷ 0 ∷ 0 ∷ 0 ∷ 0 ∷ 0 ∷ 0 ∷ 0 ∷ 0 ∷ 0 ∷ 0 ∷ 0 ∷ 0 ∷ 0 ∷ 0 ∷ 0 ∷ 0 ∷ 0 ∷ []) (0 ∷ 0 ∷ 0 ∷ 0 ∷ 0 ∷ 0 ∷ 0 ∷ 0 ∷ 0 ∷ 0 ∷ []) loose ≡ record { answer = Ok (115, 10); image = loose_image; names = loose_names }
+  pub again : parse_call loose_image loose_names tidy ≡ record { answer = Ok (115, 10); image = loose_image; names = loose_names }
 
 -- a refused parse of a text, over two rows that are as they were afterwards
 abbrev pub Leaves : List ℕ → List ℕ → List ℕ → ℕ → ℕ → Type 0
-Leaves image names t n o = parse_call image names t ≡ record { answer = Unread (refusal n o); image = image; names = names }
+Leaves image names t n o = parse_call image names t ≡ record { answer = Err (refusal n o); image = image; names = names }
 
 -- Text 16, 17, 19: texts that are refused: with 17, with 5, 4 and 6 at their places, with 11
 pub record TextsRefused : Type 0 where
-  pub no-mode : answer_to no_mode ≡ Unread (refusal 17 0)
-  pub other-arity : answer_to other_arity ≡ Unread (refusal 5 6)
-  pub mode-twice : answer_to mode_twice ≡ Unread (refusal 5 10)
-  pub five-marks : answer_to five_marks ≡ Unread (refusal 4 0)
-  pub late-no-mode : answer_to late_no_mode ≡ Unread (refusal 17 0)
-  pub out_of_order : answer_to backwards ≡ Unread (refusal 5 20)
-  pub many-variables : answer_to many_variables ≡ Unread (refusal 4 9)
-  pub many-relations : answer_to many_relations ≡ Unread (refusal 6 160)
-  pub many-and-twice : answer_to many_and_twice ≡ Unread (refusal 6 160)
-  pub marks-and-twice : answer_to marks_and_twice ≡ Unread (refusal 4 5)
-  pub many-clauses : answer_to many_clauses ≡ Unread (refusal 6 645)
-  pub nine-in-block : answer_to nine_in_block ≡ Unread (refusal 6 85)
-  pub no_room : answer_to one_fact ≡ Unread (refusal 11 0)
+  pub no-mode : answer_to no_mode ≡ Err (refusal 17 0)
+  pub other-arity : answer_to other_arity ≡ Err (refusal 5 6)
+  pub mode-twice : answer_to mode_twice ≡ Err (refusal 5 10)
+  pub five-marks : answer_to five_marks ≡ Err (refusal 4 0)
+  pub late-no-mode : answer_to late_no_mode ≡ Err (refusal 17 0)
+  pub out_of_order : answer_to backwards ≡ Err (refusal 5 20)
+  pub many-variables : answer_to many_variables ≡ Err (refusal 4 9)
+  pub many-relations : answer_to many_relations ≡ Err (refusal 6 160)
+  pub many-and-twice : answer_to many_and_twice ≡ Err (refusal 6 160)
+  pub marks-and-twice : answer_to marks_and_twice ≡ Err (refusal 4 5)
+  pub many-clauses : answer_to many_clauses ≡ Err (refusal 6 645)
+  pub nine-in-block : answer_to nine_in_block ≡ Err (refusal 6 85)
+  pub no_room : answer_to one_fact ≡ Err (refusal 11 0)
 
 -- Text 19, 20: 16 goes before 17; whatever refuses, both rows stay, and either row may be the one that is short
 pub record TextsLeave : Type 0 where
@@ -129,10 +127,10 @@ pub record TextsLeave : Type 0 where
 
 -- Text 22 to 28: images become text; what a list lacks is refused
 pub record ImagesPrinted : Type 0 where
-  pub one-fact : print_call one_fact one_fact_image one_fact_names ≡ record { answer = Wrote 29; text = one_fact }
-  pub much : print_call (0 ∷ 0 ∷ 0 ∷ 0 ∷ 0 ∷ 0 ∷ 0 ∷ 0 ∷ 0 ∷ 0 ∷ 0 ∷ 0 ∷ 0 ∷ 0 ∷ 0 ∷ 0 ∷ 0 ∷ 0 ∷ 0 ∷ 0 ∷ 0 ∷ 0 ∷ 0 ∷ 0 ∷ 0 ∷ 0 ∷ 0 ∷ 0 ∷ 0 ∷ 0 ∷ 0 ∷ 0 ∷ 0 ∷ 0 ∷ 0 ∷ 0 ∷ 0 ∷ 0 ∷ 0 ∷ 0 ∷ 0 ∷ 0 ∷ 0 ∷ 0 ∷ 0 ∷ 0 ∷ 0 ∷ 0 ∷ 0 ∷ 0 ∷ 0 ∷ 0 ∷ 0 ∷ 0 ∷ 0 ∷ 0 ∷ 0 ∷ 0 ∷ 0 ∷ 0 ∷ 0 ∷ 0 ∷ 0 ∷ 0 ∷ 0 ∷ 0 ∷ 0 ∷ 0 ∷ 0 ∷ 0 ∷ 0 ∷ 0 ∷ 0 ∷ 0 ∷ 0 ∷ 0 ∷ 0 ∷ 0 ∷ 0 ∷ 0 ∷ 0 ∷ 0 ∷ 0 ∷ 0 ∷ 0 ∷ 0 ∷ 0 ∷ 0 ∷ 0 ∷ 0 ∷ 0 ∷ 0 ∷ 0 ∷ 0 ∷ 0 ∷ 0 ∷ 0 ∷ 0 ∷ 0 ∷ 0 ∷ 0 ∷ 0 ∷ 0 ∷ 0 ∷ 0 ∷ 0 ∷ 0 ∷ 0 ∷ 0 ∷ 0 ∷ 0 ∷ []) loose_image loose_names ≡ record { answer = Wrote 111; text = tidy }
-  pub no_name : print_call one_fact one_fact_image (115 ∷ 10 ∷ []) ≡ record { answer = Unwritten (refusal 17 0); text = one_fact }
-  pub no_end : print_call one_fact one_fact_image (115 ∷ 10 ∷ 97 ∷ []) ≡ record { answer = Unwritten (refusal 17 0); text = one_fact }
-  pub upper_case : print_call one_fact one_fact_image (115 ∷ 10 ∷ 65 ∷ 10 ∷ []) ≡ record { answer = Unwritten (refusal 17 0); text = one_fact }
-  pub no_room : print_call (1 ∷ 2 ∷ []) one_fact_image one_fact_names ≡ record { answer = Unwritten (refusal 11 0); text = 1 ∷ 2 ∷ [] }
-  pub no_image : print_call one_fact [] one_fact_names ≡ record { answer = Unwritten (refusal 7 0); text = one_fact }
+  pub one-fact : print_call one_fact one_fact_image one_fact_names ≡ record { answer = Ok 29; text = one_fact }
+  pub much : print_call (0 ∷ 0 ∷ 0 ∷ 0 ∷ 0 ∷ 0 ∷ 0 ∷ 0 ∷ 0 ∷ 0 ∷ 0 ∷ 0 ∷ 0 ∷ 0 ∷ 0 ∷ 0 ∷ 0 ∷ 0 ∷ 0 ∷ 0 ∷ 0 ∷ 0 ∷ 0 ∷ 0 ∷ 0 ∷ 0 ∷ 0 ∷ 0 ∷ 0 ∷ 0 ∷ 0 ∷ 0 ∷ 0 ∷ 0 ∷ 0 ∷ 0 ∷ 0 ∷ 0 ∷ 0 ∷ 0 ∷ 0 ∷ 0 ∷ 0 ∷ 0 ∷ 0 ∷ 0 ∷ 0 ∷ 0 ∷ 0 ∷ 0 ∷ 0 ∷ 0 ∷ 0 ∷ 0 ∷ 0 ∷ 0 ∷ 0 ∷ 0 ∷ 0 ∷ 0 ∷ 0 ∷ 0 ∷ 0 ∷ 0 ∷ 0 ∷ 0 ∷ 0 ∷ 0 ∷ 0 ∷ 0 ∷ 0 ∷ 0 ∷ 0 ∷ 0 ∷ 0 ∷ 0 ∷ 0 ∷ 0 ∷ 0 ∷ 0 ∷ 0 ∷ 0 ∷ 0 ∷ 0 ∷ 0 ∷ 0 ∷ 0 ∷ 0 ∷ 0 ∷ 0 ∷ 0 ∷ 0 ∷ 0 ∷ 0 ∷ 0 ∷ 0 ∷ 0 ∷ 0 ∷ 0 ∷ 0 ∷ 0 ∷ 0 ∷ 0 ∷ 0 ∷ 0 ∷ 0 ∷ 0 ∷ 0 ∷ 0 ∷ 0 ∷ 0 ∷ []) loose_image loose_names ≡ record { answer = Ok 111; text = tidy }
+  pub no_name : print_call one_fact one_fact_image (115 ∷ 10 ∷ []) ≡ record { answer = Err (refusal 17 0); text = one_fact }
+  pub no_end : print_call one_fact one_fact_image (115 ∷ 10 ∷ 97 ∷ []) ≡ record { answer = Err (refusal 17 0); text = one_fact }
+  pub upper_case : print_call one_fact one_fact_image (115 ∷ 10 ∷ 65 ∷ 10 ∷ []) ≡ record { answer = Err (refusal 17 0); text = one_fact }
+  pub no_room : print_call (1 ∷ 2 ∷ []) one_fact_image one_fact_names ≡ record { answer = Err (refusal 11 0); text = 1 ∷ 2 ∷ [] }
+  pub no_image : print_call one_fact [] one_fact_names ≡ record { answer = Err (refusal 7 0); text = one_fact }

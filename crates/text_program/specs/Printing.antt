@@ -1,11 +1,10 @@
 -- The text of an image, and what printing it answers.
-use Rattle.std.specs.Prelude.{◌&&◌, Bool, cond, false, true, [], ◌++◌, ◌∷◌, List, ◌%◌, ◌+◌, suc, ℕ, eqb, leb, length}
+use Rattle.parlog.specs.Answer.{Answer}
+use Rattle.std.specs.Prelude.{◌&&◌, Bool, cond, false, true, [], ◌++◌, ◌∷◌, List, ◌%◌, ◌+◌, suc, ℕ, eqb, leb, length, Err, Ok}
 use Rattle.parlog.specs.Image.{equality, is_input}
 use Rattle.parlog.specs.Load.{load_of, refusal}
 use Rattle.parlog.specs.Program.{Clause, Goal, Literal, Program, program_of}
 use Rattle.parlog.specs.Tables.{written}
-use Rattle.parlog.specs.declared.Loaded.{Loaded}
-use Rattle.parlog.specs.declared.Loaded.TheVariants.{Accepted, Refused}
 use Rattle.parlog.specs.declared.Refusal.{Refusal}
 use Rattle.parlog.specs.declared.Term.{Term}
 use Rattle.parlog.specs.declared.Term.TheVariants.{Const, Var}
@@ -13,8 +12,6 @@ use Rattle.text_names.specs.Entries.{entry_name, is_entry, line_end}
 use Rattle.text_program.specs.Numbered.{joined}
 use Rattle.text_program.specs.Parsing.{all_of}
 use Rattle.text_program.specs.Source.{mode_word}
-use Rattle.text_program.specs.declared.Printed.{Printed}
-use Rattle.text_program.specs.declared.Printed.TheVariants.{Unwritten, Wrote}
 
 -- ---- items with something between them
 
@@ -161,18 +158,18 @@ program_named nm pr =
 
 -- what it answers, and the row afterwards
 pub record PrintCall : Type 0 where
-  pub answer : Printed
+  pub answer : Answer ℕ
   pub text : List ℕ
 
 module _ (text : List ℕ) where
   -- Text 27: a refusal changes nothing
   abbrev pub unwritten : Refusal → PrintCall
-  unwritten r = record { answer = Unwritten r; text = text }
+  unwritten r = record { answer = Err r; text = text }
 
   -- Text 27, 28: 11 where the row is too short, else the text is written
   abbrev pub roomy : Bool → List ℕ → PrintCall
   roomy false t = unwritten (refusal 11 0)
-  roomy true t = record { answer = Wrote (length t); text = written t text }
+  roomy true t = record { answer = Ok (length t); text = written t text }
 
   -- Text 26: 17 before
   abbrev pub nameable : Bool → List ℕ → PrintCall
@@ -180,9 +177,9 @@ module _ (text : List ℕ) where
   nameable true t = roomy (leb (length t) (length text)) t
 
   -- Refusals 20: the image's own refusals before that
-  abbrev pub print_loaded : Loaded → List ℕ → List ℕ → PrintCall
-  print_loaded (Refused r) s nm = unwritten r
-  print_loaded (Accepted r c) s nm = nameable (program_named nm (program_of s r c)) (program_text nm (program_of s r c))
+  abbrev pub print_loaded : Answer (ℕ × ℕ) → List ℕ → List ℕ → PrintCall
+  print_loaded (Err r) s nm = unwritten r
+  print_loaded (Ok (r, c)) s nm = nameable (program_named nm (program_of s r c)) (program_text nm (program_of s r c))
 
   -- Text 28: the whole call
   unfoldable pub print_call : List ℕ → List ℕ → PrintCall

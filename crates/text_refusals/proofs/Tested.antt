@@ -1,4 +1,6 @@
 -- The tests of a text's records refuse the first record that has a reason, with that reason.
+use Rattle.std.specs.Prelude.{Ok, Err}
+use Rattle.parlog.specs.Answer.{Answer}
 use mathlib.Core.Path.{◌∙◌, ◌≡◌, ap, refl, subst, sym}
 use mathlib.Core.Bool.{◌&&◌, false, not, true}
 use mathlib.Core.List.{[], List}
@@ -19,10 +21,7 @@ use Rattle.parlog.specs.Names.{names_right}
 use Rattle.parlog.specs.Program.{Program}
 use Rattle.parlog.specs.Records.{cut, kind_at, record_at, record_end, walk}
 use Rattle.parlog.specs.Scan.{along, tally}
-use Rattle.parlog.specs.declared.Loaded.{Loaded}
-use Rattle.parlog.specs.declared.Loaded.TheVariants.{Accepted, Refused}
 use Rattle.parlog.specs.declared.Progress.{Progress}
-use Rattle.parlog.specs.declared.Verdict.TheVariants.{Goes, Refuses}
 use Rattle.refusals.proofs.Before.{Before, block-right, few-right, names-right}
 use Rattle.refusals.proofs.Fields.{body-fits}
 use Rattle.refusals.proofs.Tests.{Decides, refuted, refutes}
@@ -121,9 +120,9 @@ module _ (rels : List Name) (pr : Program) (as_many : length rels ≡ length pr.
 
   -- ---- from the tests to the reasons
 
-  abbrev Told : Loaded → Type 0
-  Told (Accepted a b) = Unit {0}
-  Told (Refused f) = LinesRefused rels s f.number f.offset
+  abbrev Told : Answer (ℕ × ℕ) → Type 0
+  Told (Ok (a, b)) = Unit {0}
+  Told (Err f) = LinesRefused rels s f.number f.offset
 
   record Here (at : ℕ) (g : Progress) : Type 0 where
     pub which : ℕ
@@ -146,7 +145,7 @@ module _ (rels : List Name) (pr : Program) (as_many : length rels ≡ length pr.
       right = λ j h. below_suc j k h (λ e. subst (λ x. RightLine rels s x) (sym e) R) (f j);
     }
 
-    told-one : (rest : Progress → Loaded) → ((t : Progress) → Here (record_end s at) t → Told (rest t)) → Told (after rest at (text_verdict rels s g at))
+    told-one : (rest : Progress → Answer (ℕ × ℕ)) → ((t : Progress) → Here (record_end s at) t → Told (rest t)) → Told (after rest at (text_verdict rels s g at))
     unfolding text_verdict verdict
     told-one rest go =
         let q = record_kind s k in
@@ -166,7 +165,7 @@ module _ (rels : List Name) (pr : Program) (as_many : length rels ≡ length pr.
         (λ u. rw (x, y, z, u) (at_record f more (wrong_name F b (refuted (names-right s k g B K z) u)))))
         (λ z. rw (x, y, z) (at_record f more (wrong_body F (refuted (body-fits s k K) z)))))
 
-  abbrev texted : (Progress → Loaded) → ℕ → Progress → Loaded
+  abbrev texted : (Progress → Answer (ℕ × ℕ)) → ℕ → Progress → Answer (ℕ × ℕ)
   texted rest at g = after rest at (text_verdict rels s g at)
 
   -- at the end of the bytes the goal has been seen
@@ -196,11 +195,11 @@ module _ (rels : List Name) (pr : Program) (as_many : length rels ≡ length pr.
     pub before : Before s k known
     pub same : records_in rels s ≡ walk s broken texted (load_end s) (length s) (record_at s k) known
 
-  text-goes : (rest : Progress → Loaded) (at : ℕ) (g t : Progress) → verdict s g at ≡ Goes t → (eqb (kind_at s at) relation_kind && repeated rels g.relations) ≡ false → texted rest at g ≡ rest t
+  text-goes : (rest : Progress → Answer (ℕ × ℕ)) (at : ℕ) (g t : Progress) → verdict s g at ≡ Ok t → (eqb (kind_at s at) relation_kind && repeated rels g.relations) ≡ false → texted rest at g ≡ rest t
   unfolding text_verdict
   text-goes rest at g t v a = rw (v, a)
 
-  text-stops : (rest : Progress → Loaded) (at n : ℕ) (g : Progress) → text_verdict rels s g at ≡ Refuses n → texted rest at g ≡ Refused (refusal n at)
+  text-stops : (rest : Progress → Answer (ℕ × ℕ)) (at n : ℕ) (g : Progress) → text_verdict rels s g at ≡ Err n → texted rest at g ≡ Err (refusal n at)
   text-stops rest at n g v = rw v
 
   known-text : (k : ℕ) → ((j : ℕ) → j < k → RightLine rels s j) → Known-text k
@@ -232,7 +231,7 @@ module _ (rels : List Name) (pr : Program) (as_many : length rels ≡ length pr.
     right-kind : KindRight s k
     right-kind = encoded-kind k (in-range k more)
 
-    line-verdict : {n : ℕ} → LineRefused rels s k n → text_verdict rels s g place ≡ Refuses n
+    line-verdict : {n : ℕ} → LineRefused rels s k n → text_verdict rels s g place ≡ Err n
     unfolding text_verdict verdict
     line-verdict (one_too_many f) =
         rw (kind-not s k g B right-kind, not-false (too_many g (record_kind s k)) (refutes (not (too_many g (record_kind s k))) (few-right s k g B) f))
@@ -254,7 +253,7 @@ module _ (rels : List Name) (pr : Program) (as_many : length rels ≡ length pr.
         )
 
   -- THE LAW: a reason refuses
-  pub refused : {n o : ℕ} → LinesRefused rels s n o → records_in rels s ≡ Refused (refusal n o)
+  pub refused : {n o : ℕ} → LinesRefused rels s n o → records_in rels s ≡ Err (refusal n o)
   refused (at_record {k} {n} f more x) =
       let i = known-text k f in
       let g = i.known in

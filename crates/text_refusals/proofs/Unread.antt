@@ -1,4 +1,6 @@
 -- A parse is refused exactly where there is a reason.
+use Rattle.std.specs.Prelude.{Err, Ok, Result, ⊤}
+use Rattle.parlog.specs.Answer.{Answer}
 use mathlib.Core.Path.{◌∙◌, ◌≡◌, ap, refl, sym}
 use mathlib.Core.Logic.{◌⊎◌, inl, inr}
 use mathlib.Core.Bool.{◌&&◌, Bool, false, true}
@@ -10,22 +12,16 @@ use borrow.Author.Tests.{leb-false, lt-leb}
 use native.Mathlib.Omega.{arith}
 use Rattle.parlog.proofs.Bools.{never, split}
 use Rattle.parlog.specs.Load.{refusal}
-use Rattle.parlog.specs.declared.Loaded.{Loaded}
-use Rattle.parlog.specs.declared.Loaded.TheVariants.{Accepted, Refused}
 use Rattle.parlog.specs.declared.Refusal.{Refusal}
 use Rattle.spell.proofs.Exact.{accepted-right, right-accepted, stuck-exact, stuck-found}
 use Rattle.spell.specs.Grammar.{ClauseText}
 use Rattle.spell.specs.Stuck.{spelling_of}
-use Rattle.spell.specs.declared.Spelt.{Spelt}
-use Rattle.spell.specs.declared.Spelt.TheVariants.{Right, Stuck}
 use Rattle.text_loads.proofs.Fitting.{program-relations}
 use Rattle.text_loads.proofs.Short.{never-long}
 use Rattle.text_names.specs.Names.{Name}
 use Rattle.text_program.specs.Numbered.{program_in, relation_names}
 use Rattle.text_program.specs.Parsing.{declared, fitting, image_in, names_in, ParseCall, parse_call, records_in, sourced, spelled, tested, unread}
 use Rattle.text_program.specs.Source.{ModeLine, Source, source_of}
-use Rattle.text_program.specs.declared.Parsed.{Parsed}
-use Rattle.text_program.specs.declared.Parsed.TheVariants.{Read, Unread}
 use Rattle.text_refusals.proofs.Declared.{declared-not, not-declared}
 use Rattle.text_refusals.proofs.Tested.{refused, told}
 use Rattle.text_refusals.specs.Unread.{at_record, bad_line, behind, In, in_front, LineRefused, LinesRefused, ninth_of_block, no_room, no_text, one_too_many, ParseExactly, ParseKept, ParseNumbers, ParseRefused, second_line, Undeclared, undeclared, wrong_body, wrong_name}
@@ -37,13 +33,13 @@ module _ (p : Source) where
   declared-so : (Undeclared p → ⊥) → declared p ≡ true
   declared-so h = split (declared p) (λ e. e) (λ e. absurd (h (declared-not p e)))
 
-  tests-refuse : {n o : ℕ} → LinesRefused (relation_names p) (image_in p) n o → records_in (relation_names p) (image_in p) ≡ Refused (refusal n o)
+  tests-refuse : {n o : ℕ} → LinesRefused (relation_names p) (image_in p) n o → records_in (relation_names p) (image_in p) ≡ Err (refusal n o)
   unfolding image_in
   tests-refuse l = refused (relation_names p) (program_in p) as_many l
 
   -- what the tests say
   record Tested : Type 0 where
-    pub refuses : (f : Refusal) → records_in (relation_names p) (image_in p) ≡ Refused f → LinesRefused (relation_names p) (image_in p) f.number f.offset
+    pub refuses : (f : Refusal) → records_in (relation_names p) (image_in p) ≡ Err f → LinesRefused (relation_names p) (image_in p) f.number f.offset
 
   tests-told : Tested
   unfolding image_in
@@ -52,16 +48,16 @@ module _ (p : Source) where
   record Passed : Type 0 where
     pub relations : ℕ
     pub clauses : ℕ
-    pub passes : records_in (relation_names p) (image_in p) ≡ Accepted relations clauses
+    pub passes : records_in (relation_names p) (image_in p) ≡ Ok (relations, clauses)
 
   none-refused : ((n o : ℕ) → LinesRefused (relation_names p) (image_in p) n o → ⊥) → Passed
   none-refused h = go (records_in (relation_names p) (image_in p)) refl
     where
-      go : (a : Loaded) → records_in (relation_names p) (image_in p) ≡ a → Passed
-      go (Accepted r c) e = record { relations = r; clauses = c; passes = e }
-      go (Refused f) e = absurd (h f.number f.offset (tests-told.refuses f e))
+      go : (a : Answer (ℕ × ℕ)) → records_in (relation_names p) (image_in p) ≡ a → Passed
+      go (Ok (r, c)) e = record { relations = r; clauses = c; passes = e }
+      go (Err f) e = absurd (h f.number f.offset (tests-told.refuses f e))
 
-  passed_none : (r c : ℕ) → records_in (relation_names p) (image_in p) ≡ Accepted r c → (n o : ℕ) → LinesRefused (relation_names p) (image_in p) n o → ⊥
+  passed_none : (r c : ℕ) → records_in (relation_names p) (image_in p) ≡ Ok (r, c) → (n o : ℕ) → LinesRefused (relation_names p) (image_in p) n o → ⊥
   passed_none r c e n o l = let d = sym e ∙ tests-refuse l in let z : ◌≡◌ {A = ℕ} 0 1 = cc in absurd (omega arith)
 
 -- ---- from a reason to the refusal
@@ -89,9 +85,9 @@ module _ (image names text : List ℕ) where
 
   -- ---- from the refusal to a reason
 
-  abbrev Told : Parsed → Type 0
-  Told (Read a b) = Unit {0}
-  Told (Unread f) = ParseRefused image names text f.number f.offset
+  abbrev Told : Answer (ℕ × ℕ) → Type 0
+  Told (Ok (a, b)) = Unit {0}
+  Told (Err f) = ParseRefused image names text f.number f.offset
 
   no-room-so : (leb (length (image_in p)) (length image) && leb (length (names_in p)) (length names)) ≡ false → (length image < length (image_in p)) ⊎ (length names < length (names_in p))
   no-room-so e =
@@ -99,22 +95,22 @@ module _ (image names text : List ℕ) where
       (λ f. inr (leb-false (length (names_in p)) (length names) (rw f at e)))
       (λ f. inl (leb-false (length (image_in p)) (length image) f))
 
-  told-room : ClauseText text → (Undeclared p → ⊥) → (r c : ℕ) → records_in (relation_names p) (image_in p) ≡ Accepted r c → (b : Bool) → (leb (length (image_in p)) (length image) && leb (length (names_in p)) (length names)) ≡ b → Told (fitting image names b p).answer
+  told-room : ClauseText text → (Undeclared p → ⊥) → (r c : ℕ) → records_in (relation_names p) (image_in p) ≡ Ok (r, c) → (b : Bool) → (leb (length (image_in p)) (length image) && leb (length (names_in p)) (length names)) ≡ b → Told (fitting image names b p).answer
   told-room t u r c e true f = tt
   told-room t u r c e false f = no_room t u (passed_none p r c e) (no-room-so f)
 
-  told-tests : ClauseText text → (Undeclared p → ⊥) → (a : Loaded) → records_in (relation_names p) (image_in p) ≡ a → Told (tested image names a p).answer
-  told-tests t u (Refused f) e = bad_line t u ((tests-told p).refuses f e)
-  told-tests t u (Accepted r c) e =
+  told-tests : ClauseText text → (Undeclared p → ⊥) → (a : Answer (ℕ × ℕ)) → records_in (relation_names p) (image_in p) ≡ a → Told (tested image names a p).answer
+  told-tests t u (Err f) e = bad_line t u ((tests-told p).refuses f e)
+  told-tests t u (Ok (r, c)) e =
       rw (never-long (relation_names p) (image_in p) r c e) (told-room t u r c e (leb (length (image_in p)) (length image) && leb (length (names_in p)) (length names)) refl)
 
   told_names : ClauseText text → (b : Bool) → declared p ≡ b → Told (sourced image names b p).answer
   told_names t false e = undeclared t (declared-not p e)
   told_names t true e = told-tests t (λ u. never (sym (not-declared p u) ∙ e)) (records_in (relation_names p) (image_in p)) refl
 
-  told-spelling : (q : Spelt) → spelling_of text ≡ q → Told (spelled image names q text).answer
-  told-spelling (Stuck i) e = no_text (stuck-exact text i e)
-  told-spelling Right e = told_names (accepted-right text e) (declared p) refl
+  told-spelling : (q : Result ⊤ ℕ) → spelling_of text ≡ q → Told (spelled image names q text).answer
+  told-spelling (Err i) e = no_text (stuck-exact text i e)
+  told-spelling (Ok tt) e = told_names (accepted-right text e) (declared p) refl
 
   parse-told : Told (parse_call image names text).answer
   unfolding parse_call

@@ -1,4 +1,6 @@
 -- A print is refused exactly where there is a reason.
+use Rattle.std.specs.Prelude.{Err, Ok}
+use Rattle.parlog.specs.Answer.{Answer}
 use mathlib.Core.Path.{◌∙◌, ◌≡◌, ap, refl, sym}
 use mathlib.Core.Bool.{Bool, false, true}
 use mathlib.Core.List.{List}
@@ -12,8 +14,6 @@ use Rattle.parlog.proofs.Scans.{below_suc}
 use Rattle.parlog.specs.Load.{load_of, refusal}
 use Rattle.parlog.specs.Orders.{Each}
 use Rattle.parlog.specs.Program.{Program, program_of}
-use Rattle.parlog.specs.declared.Loaded.{Loaded}
-use Rattle.parlog.specs.declared.Loaded.TheVariants.{Accepted, Refused}
 use Rattle.refusals.proofs.Exactly.{accepted-right, refused-exactly}
 use Rattle.refusals.proofs.Tests.{refuted}
 use Rattle.refusals.specs.Right.{RightImage}
@@ -24,8 +24,6 @@ use Rattle.text_back.specs.Back.{constants_in, terms_of}
 use Rattle.text_names.specs.Entries.{is_entry}
 use Rattle.text_program.specs.Parsing.{all_of}
 use Rattle.text_program.specs.Printing.{nameable, PrintCall, print_call, print_loaded, program_named, program_text, roomy, unwritten}
-use Rattle.text_program.specs.declared.Printed.{Printed}
-use Rattle.text_program.specs.declared.Printed.TheVariants.{Unwritten, Wrote}
 use Rattle.text_refusals.proofs.Declared.{all-false}
 use Rattle.text_refusals.proofs.Entered.{entry_has, entry-so}
 use Rattle.text_refusals.specs.Unread.{behind, In, in_front}
@@ -81,7 +79,7 @@ module _ (nm : List ℕ) (pr : Program) (m : Made pr) where
 
 -- ---- from a reason to the refusal
 
-right-loads : {s : List ℕ} {r c : ℕ} → RightImage s r c → load_of s ≡ Accepted r c
+right-loads : {s : List ℕ} {r c : ℕ} → RightImage s r c → load_of s ≡ Ok (r, c)
 right-loads {s} i = (accepted-right s).1 i
 
 right-made : {s : List ℕ} {r c : ℕ} → RightImage s r c → Made (program_of s r c)
@@ -99,9 +97,9 @@ module _ (row s nm : List ℕ) where
 
   -- ---- from the refusal to a reason
 
-  abbrev Told : Printed → Type 0
-  Told (Wrote k) = Unit {0}
-  Told (Unwritten f) = PrintRefused row s nm f.number f.offset
+  abbrev Told : Answer ℕ → Type 0
+  Told (Ok k) = Unit {0}
+  Told (Err f) = PrintRefused row s nm f.number f.offset
 
   told-room : {r c : ℕ} → RightImage s r c → (Unnamed nm (program_of s r c) → ⊥) → (b : Bool) → leb (length (program_text nm (program_of s r c))) (length row) ≡ b → Told (roomy row b (program_text nm (program_of s r c))).answer
   told-room i u true e = tt
@@ -112,9 +110,9 @@ module _ (row s nm : List ℕ) where
   told_names {r} {c} i true e =
       told-room i (λ u. never (sym (unnamed-false nm (program_of s r c) (right-made i) u) ∙ e)) (leb (length (program_text nm (program_of s r c))) (length row)) refl
 
-  told-load : (a : Loaded) → load_of s ≡ a → Told (print_loaded row a s nm).answer
-  told-load (Refused f) e = bad_image ((refused-exactly s).0 e)
-  told-load (Accepted r c) e = told_names ((accepted-right s).0 e) (program_named nm (program_of s r c)) refl
+  told-load : (a : Answer (ℕ × ℕ)) → load_of s ≡ a → Told (print_loaded row a s nm).answer
+  told-load (Err f) e = bad_image ((refused-exactly s).0 e)
+  told-load (Ok (r, c)) e = told_names ((accepted-right s).0 e) (program_named nm (program_of s r c)) refl
 
   print-told : Told (print_call row s nm).answer
   unfolding print_call

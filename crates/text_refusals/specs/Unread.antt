@@ -1,5 +1,5 @@
 -- When a parse is refused: the number, and the offset that it carries.
-use Rattle.std.specs.Prelude.{◌≡◌, ◌↔◌, ◌⊎◌, [], ◌∷◌, List, ◌<◌, ℕ, get_or, length}
+use Rattle.std.specs.Prelude.{◌≡◌, ◌↔◌, ◌⊎◌, [], ◌∷◌, List, ◌<◌, ℕ, get_or, length, Err}
 use Rattle.parlog.specs.Load.{refusal}
 use Rattle.parlog.specs.Records.{record_at}
 use Rattle.parlog.specs.declared.Refusal.{Refusal}
@@ -10,7 +10,6 @@ use Rattle.text_names.specs.Names.{Name}
 use Rattle.text_program.specs.Numbered.{relation_names}
 use Rattle.text_program.specs.Parsing.{image_in, names_in, parse_call}
 use Rattle.text_program.specs.Source.{calls, Said, SaidClause, Source, source_of}
-use Rattle.text_program.specs.declared.Parsed.TheVariants.{Unread}
 
 -- ---- 17, UNDECLARED
 
@@ -76,11 +75,11 @@ pub data ParseRefused (image names text : List ℕ) : ℕ → ℕ → Type 0 whe
 
 -- Text 9, 16, 17, 19: a parse is refused with a number and an offset exactly where there is that reason
 abbrev pub ParseExactly : Type 0
-ParseExactly = (image names text : List ℕ) (n o : ℕ) → ((parse_call image names text).answer ≡ Unread (refusal n o)) ↔ ParseRefused image names text n o
+ParseExactly = (image names text : List ℕ) (n o : ℕ) → ((parse_call image names text).answer ≡ Err (refusal n o)) ↔ ParseRefused image names text n o
 
 -- Text 20: and then both rows are as they were
 abbrev pub ParseKept : Type 0
-ParseKept = (image names text : List ℕ) (f : Refusal) → (parse_call image names text).answer ≡ Unread f → ((parse_call image names text).image ≡ image) × ((parse_call image names text).names ≡ names)
+ParseKept = (image names text : List ℕ) (f : Refusal) → (parse_call image names text).answer ≡ Err f → ((parse_call image names text).image ≡ image) × ((parse_call image names text).names ≡ names)
 
 -- Text 9, 16, 17, 19: no other number than these is given
 abbrev pub ParseNumbers : Type 0

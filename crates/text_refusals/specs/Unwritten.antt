@@ -1,5 +1,5 @@
 -- When a print is refused: the number, and the offset that it carries.
-use Rattle.std.specs.Prelude.{◌≡◌, ◌↔◌, ◌≢◌, true, ◌++◌, ◌∷◌, List, ◌+◌, ◌<◌, suc, ℕ, length}
+use Rattle.std.specs.Prelude.{◌≡◌, ◌↔◌, ◌≢◌, true, ◌++◌, ◌∷◌, List, ◌+◌, ◌<◌, suc, ℕ, length, Err}
 use Rattle.parlog.specs.Load.{refusal}
 use Rattle.parlog.specs.Orders.{Each}
 use Rattle.parlog.specs.Program.{Program, program_of}
@@ -10,7 +10,6 @@ use Rattle.text_back.specs.Back.{constants_in, terms_of}
 use Rattle.text_names.specs.Bytes.{first, is_name, is_small}
 use Rattle.text_names.specs.Names.{Name}
 use Rattle.text_program.specs.Printing.{print_call, program_text}
-use Rattle.text_program.specs.declared.Printed.TheVariants.{Unwritten}
 use Rattle.text_refusals.specs.Unread.{In}
 
 -- ---- the names of a list
@@ -58,8 +57,8 @@ pub data PrintRefused (row s nm : List ℕ) : ℕ → ℕ → Type 0 where
 
 -- Text 26, 27: a print is refused with a number and an offset exactly where there is that reason
 abbrev pub PrintExactly : Type 0
-PrintExactly = (row s nm : List ℕ) (n o : ℕ) → ((print_call row s nm).answer ≡ Unwritten (refusal n o)) ↔ PrintRefused row s nm n o
+PrintExactly = (row s nm : List ℕ) (n o : ℕ) → ((print_call row s nm).answer ≡ Err (refusal n o)) ↔ PrintRefused row s nm n o
 
 -- Text 27: and then the row is as it was
 abbrev pub PrintKept : Type 0
-PrintKept = (row s nm : List ℕ) (f : Refusal) → (print_call row s nm).answer ≡ Unwritten f → (print_call row s nm).text ≡ row
+PrintKept = (row s nm : List ℕ) (f : Refusal) → (print_call row s nm).answer ≡ Err f → (print_call row s nm).text ≡ row

@@ -1,4 +1,6 @@
 -- A text that passes 4, 5 and 6 is right, and short.
+use Rattle.std.specs.Prelude.{Result, Ok, Err}
+use Rattle.parlog.specs.Answer.{Answer}
 use mathlib.Core.Path.{◌∙◌, ◌≡◌, ap, refl}
 use mathlib.Core.Bool.{◌&&◌, Bool, false, not, true}
 use mathlib.Core.List.{[], ◌++◌, ◌∷◌, List}
@@ -21,11 +23,7 @@ use Rattle.lay_lines.specs.Imaged.{asking, ask_with, image_with}
 use Rattle.lay_lines.specs.Lines.{clause_right, clauses_with, modes_of, modes_right, with_vars}
 use Rattle.parlog.proofs.Bools.{and-true}
 use Rattle.parlog.specs.Load.{after, block_with, kind_fault, refusal, refuse_if, too_many}
-use Rattle.parlog.specs.declared.Loaded.{Loaded}
-use Rattle.parlog.specs.declared.Loaded.TheVariants.{Accepted, Refused}
 use Rattle.parlog.specs.declared.Progress.{Progress}
-use Rattle.parlog.specs.declared.Verdict.{Verdict}
-use Rattle.parlog.specs.declared.Verdict.TheVariants.{Goes, Refuses}
 use Rattle.read_names.specs.Tables.{mode_names}
 use Rattle.text_names.specs.Names.{look, Name, same_name}
 use Rattle.text_program.proofs.Fields.{record-length}
@@ -36,19 +34,19 @@ use Rattle.text_program.specs.Source.{ModeLine, Said, SaidClause}
 
 -- ---- a verdict that goes on
 
-abbrev is_taken : Loaded → ℕ
-is_taken (Refused r) = 0
-is_taken (Accepted a b) = 1
+abbrev is_taken : Answer (ℕ × ℕ) → ℕ
+is_taken (Err r) = 0
+is_taken (Ok (a, b)) = 1
 
-refused-never : {P : Type 0} (n at a b : ℕ) → Refused (refusal n at) ≡ Accepted a b → P
+refused-never : {P : Type 0} (n at a b : ℕ) → ◌≡◌ {A = Answer (ℕ × ℕ)} (Err (refusal n at)) (Ok (a, b)) → P
 refused-never n at a b e = absurd (let z = ap is_taken e in omega arith)
 
 -- a record that is followed by others was right, and was not one too many
-judged-on : (f : Progress → Loaded) (at : ℕ) (g : Progress) (kind : ℕ) (sized known : Bool) (r mark a b : ℕ) → after f at (judged g kind sized known r mark) ≡ Accepted a b → (sized ≡ true) × (too_many g kind ≡ false) × (f (progress_of g kind r mark) ≡ Accepted a b)
+judged-on : (f : Progress → Answer (ℕ × ℕ)) (at : ℕ) (g : Progress) (kind : ℕ) (sized known : Bool) (r mark a b : ℕ) → after f at (judged g kind sized known r mark) ≡ Ok (a, b) → (sized ≡ true) × (too_many g kind ≡ false) × (f (progress_of g kind r mark) ≡ Ok (a, b))
 unfolding judged
 judged-on f at g kind sized known r mark a b = go (kind_fault g kind) (too_many g kind) sized known (eqb kind 2 && ltb 8 (block_with g r mark))
   where
-    go : (u v w x y : Bool) → after f at (refuse_if u 3 (refuse_if v 6 (refuse_if (not w) 4 (refuse_if (not x) 5 (refuse_if y 6 (Goes (progress_of g kind r mark))))))) ≡ Accepted a b → (w ≡ true) × (v ≡ false) × (f (progress_of g kind r mark) ≡ Accepted a b)
+    go : (u v w x y : Bool) → after f at (refuse_if u 3 (refuse_if v 6 (refuse_if (not w) 4 (refuse_if (not x) 5 (refuse_if y 6 (Ok (progress_of g kind r mark))))))) ≡ Ok (a, b) → (w ≡ true) × (v ≡ false) × (f (progress_of g kind r mark) ≡ Ok (a, b))
     go true v w x y e = refused-never 3 at a b e
     go false true w x y e = refused-never 6 at a b e
     go false false false x y e = refused-never 4 at a b e
@@ -56,26 +54,26 @@ judged-on f at g kind sized known r mark a b = go (kind_fault g kind) (too_many 
     go false false true true true e = refused-never 6 at a b e
     go false false true true false e = (refl, refl, e)
 
-once-on : (f : Progress → Loaded) (at : ℕ) (c : Bool) (v : Verdict) (a b : ℕ) → after f at (once_by c v) ≡ Accepted a b → after f at v ≡ Accepted a b
-once-on f at c (Refuses n) a b e = e
-once-on f at true (Goes g) a b e = refused-never 5 at a b e
-once-on f at false (Goes g) a b e = e
+once-on : (f : Progress → Answer (ℕ × ℕ)) (at : ℕ) (c : Bool) (v : Result Progress ℕ) (a b : ℕ) → after f at (once_by c v) ≡ Ok (a, b) → after f at v ≡ Ok (a, b)
+once-on f at c (Err n) a b e = e
+once-on f at true (Ok g) a b e = refused-never 5 at a b e
+once-on f at false (Ok g) a b e = e
 
 -- ---- relations
 
 -- what the relations leave: somewhere the rest is taken
-pub record Onward (f : ℕ → Progress → Loaded) (a b : ℕ) : Type 0 where
+pub record Onward (f : ℕ → Progress → Answer (ℕ × ℕ)) (a b : ℕ) : Type 0 where
   pub at : ℕ
   pub g : Progress
   pub none : g.clauses ≡ 0
-  pub on : f at g ≡ Accepted a b
+  pub on : f at g ≡ Ok (a, b)
 
-pub record ModesTaken (ms : List ModeLine) (f : ℕ → Progress → Loaded) (a b : ℕ) : Type 0 where
+pub record ModesTaken (ms : List ModeLine) (f : ℕ → Progress → Answer (ℕ × ℕ)) (a b : ℕ) : Type 0 where
   pub right : modes_right ms ≡ true
   pub sized : all_of relation_sized (modes_of ms) ≡ true
   pub rest : Onward f a b
 
-pub modes-taken : (names : List Name) (f : ℕ → Progress → Loaded) (a b : ℕ) (ms : List ModeLine) (at : ℕ) (g : Progress) → g.clauses ≡ 0 → g.relations ≤ 32 → relations_judged names f (modes_of ms) at g ≡ Accepted a b → ModesTaken ms f a b × (g.relations + length ms ≤ 32)
+pub modes-taken : (names : List Name) (f : ℕ → Progress → Answer (ℕ × ℕ)) (a b : ℕ) (ms : List ModeLine) (at : ℕ) (g : Progress) → g.clauses ≡ 0 → g.relations ≤ 32 → relations_judged names f (modes_of ms) at g ≡ Ok (a, b) → ModesTaken ms f a b × (g.relations + length ms ≤ 32)
 unfolding relations_judged relation_judged modes_right all_of
 modes-taken names f a b [] at g z l e = (record { right = refl; sized = refl; rest = record { at = at; g = g; none = z; on = e } }, omega arith)
 modes-taken names f a b (m ∷ ms) at g z l e =
@@ -90,13 +88,13 @@ modes-taken names f a b (m ∷ ms) at g z l e =
 
 -- ---- clauses
 
-pub record ClausesTaken (cs : List SaidClause) (f : ℕ → Progress → Loaded) (a b : ℕ) : Type 0 where
+pub record ClausesTaken (cs : List SaidClause) (f : ℕ → Progress → Answer (ℕ × ℕ)) (a b : ℕ) : Type 0 where
   pub right : all_of clause_right cs ≡ true
   pub at : ℕ
   pub g : Progress
-  pub on : f at g ≡ Accepted a b
+  pub on : f at g ≡ Ok (a, b)
 
-pub clauses-taken : (ms : List ModeLine) (f : ℕ → Progress → Loaded) (a b : ℕ) (cs : List SaidClause) (semicolon : Bool) (name : Name) (at : ℕ) (g : Progress) → g.clauses ≤ 64 → clauses_said ms f semicolon name cs at g ≡ Accepted a b → ClausesTaken cs f a b × (g.clauses + length cs ≤ 64)
+pub clauses-taken : (ms : List ModeLine) (f : ℕ → Progress → Answer (ℕ × ℕ)) (a b : ℕ) (cs : List SaidClause) (semicolon : Bool) (name : Name) (at : ℕ) (g : Progress) → g.clauses ≤ 64 → clauses_said ms f semicolon name cs at g ≡ Ok (a, b) → ClausesTaken cs f a b × (g.clauses + length cs ≤ 64)
 unfolding clauses_said clause_said all_of
 clauses-taken ms f a b [] semicolon name at g l e = (record { right = refl; at = at; g = g; on = e }, omega arith)
 clauses-taken ms f a b (c ∷ cs) semicolon name at g l e =
@@ -107,7 +105,7 @@ clauses-taken ms f a b (c ∷ cs) semicolon name at g l e =
     let t = q.1 in
     (record { right = rw p.0 q.0.right; at = q.0.at; g = q.0.g; on = q.0.on }, omega arith)
 
-pub ask-taken : (ms : List ModeLine) (g : Progress) (q : List (List Said)) (at a b : ℕ) → after taken at (ask_said ms g q) ≡ Accepted a b → ask_right q ≡ true
+pub ask-taken : (ms : List ModeLine) (g : Progress) (q : List (List Said)) (at a b : ℕ) → after taken at (ask_said ms g q) ≡ Ok (a, b) → ask_right q ≡ true
 unfolding ask_said
 ask-taken ms g q at a b e = (judged-on taken at g 3 (ask_right q) _ 0 0 a b e).0
 

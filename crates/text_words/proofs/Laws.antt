@@ -1,4 +1,6 @@
 -- From the case of an answer to its word, and that an image that was made fits.
+use Rattle.std.specs.Prelude.{Err, Ok, Result, ⊤}
+use Rattle.parlog.specs.Answer.{Answer}
 use mathlib.Core.Path.{◌∙◌, ◌≡◌, ap, refl}
 use mathlib.Core.Bool.{◌&&◌, Bool, false, true}
 use mathlib.Core.List.{List}
@@ -9,19 +11,11 @@ use borrow.Author.Tests.{le-ltb, lt-ltb, ltb-false}
 use native.Mathlib.Omega.{arith}
 use Rattle.parlog.specs.Load.{long}
 use Rattle.parlog.specs.Numbers.{refused_as, word}
-use Rattle.parlog.specs.declared.Loaded.{Loaded}
-use Rattle.parlog.specs.declared.Loaded.TheVariants.{Accepted, Refused}
 use Rattle.parlog.specs.declared.Refusal.{Refusal}
 use Rattle.spell.specs.Stuck.{spelling_of}
-use Rattle.spell.specs.declared.Spelt.{Spelt}
-use Rattle.spell.specs.declared.Spelt.TheVariants.{Right, Stuck}
 use Rattle.text_program.specs.Numbered.{relation_names}
 use Rattle.text_program.specs.Parsing.{declared, fitting, image_in, names_in, not_long, parse_call, records_in, sourced, spelled, tested}
 use Rattle.text_program.specs.Source.{Source, source_of}
-use Rattle.text_program.specs.declared.Parsed.{Parsed}
-use Rattle.text_program.specs.declared.Parsed.TheVariants.{Read}
-use Rattle.text_program.specs.declared.Printed.{Printed}
-use Rattle.text_program.specs.declared.Printed.TheVariants.{Wrote}
 use Rattle.text_words.specs.Numbers.{ParseFits, parse_numbers, print_numbers}
 use Rattle.words.specs.Nights.{told_offset, told_refusal}
 
@@ -37,10 +31,10 @@ pub refused-told : (r : Refusal) {t : Refusal} {w : ℕ} → t ≡ told_refusal 
 refused-told r e k = k ∙ ap (λ (x : Refusal). word (refused_as x)) e
 
 -- a length told in place of another
-pub print-told : {a : Printed} {n t w : ℕ} → a ≡ Wrote n → t ≡ told_offset n → w ≡ word (record { refused = 0; a = 0; b = 0; c = t }) → w ≡ word (print_numbers a)
+pub print-told : {a : Answer ℕ} {n t w : ℕ} → a ≡ Ok n → t ≡ told_offset n → w ≡ word (record { refused = 0; a = 0; b = 0; c = t }) → w ≡ word (print_numbers a)
 print-told e h k = rw (k, h, e)
 
-pub parse-told : {a : Parsed} {n m t w : ℕ} → a ≡ Read n m → t ≡ told_offset m → w ≡ word (record { refused = 0; a = n % 256; b = n / 256; c = t }) → w ≡ word (parse_numbers a)
+pub parse-told : {a : Answer (ℕ × ℕ)} {n m t w : ℕ} → a ≡ Ok (n, m) → t ≡ told_offset m → w ≡ word (record { refused = 0; a = n % 256; b = n / 256; c = t }) → w ≡ word (parse_numbers a)
 parse-told e h k = rw (k, h, e)
 
 -- a number of two bytes in two parts
@@ -59,17 +53,17 @@ module _ (image names : List ℕ) where
   length_fits p true h = tt
   length_fits p false h = room_fits p h (leb (length (image_in p)) (length image) && leb (length (names_in p)) (length names))
 
-  tests-fit : (p : Source) → (a : Loaded) → ParseFits (tested image names a p).answer
-  tests-fit p (Refused r) = tt
-  tests-fit p (Accepted r c) = length_fits p (long (image_in p)) refl
+  tests-fit : (p : Source) → (a : Answer (ℕ × ℕ)) → ParseFits (tested image names a p).answer
+  tests-fit p (Err r) = tt
+  tests-fit p (Ok (r, c)) = length_fits p (long (image_in p)) refl
 
   names_fit : (p : Source) → (b : Bool) → ParseFits (sourced image names b p).answer
   names_fit p false = tt
   names_fit p true = tests-fit p (records_in (relation_names p) (image_in p))
 
-  spelling-fits : (text : List ℕ) → (q : Spelt) → ParseFits (spelled image names q text).answer
-  spelling-fits text (Stuck i) = tt
-  spelling-fits text Right = names_fit (source_of text) (declared (source_of text))
+  spelling-fits : (text : List ℕ) → (q : Result ⊤ ℕ) → ParseFits (spelled image names q text).answer
+  spelling-fits text (Err i) = tt
+  spelling-fits text (Ok tt) = names_fit (source_of text) (declared (source_of text))
 
   pub parse-fits : (text : List ℕ) → ParseFits (parse_call image names text).answer
   unfolding parse_call

@@ -6,7 +6,7 @@ ghost use Rattle.parlog.specs.Numbers.{word};
 ghost use Rattle.text_words.specs.Numbers.{ParseFits, parse_numbers, print_numbers};
 ghost use Rattle.words.specs.Nights.{told_offset};
 
-use text_program::{Parsed, Printed};
+use parlog::Answer;
 
 // The refusal of a call that is accepted.
 const ACCEPTED: usize = 0;
@@ -28,22 +28,22 @@ fn told(n: usize) -> usize
 }
 
 // Of a print: how many bytes the text has.
-pub fn print_word(a: Printed) -> u64
+pub fn print_word(a: Answer<usize>) -> u64
     ensures { result ≡ word (print_numbers a) }
 {
     match a {
-        Printed::Wrote(n) => words::word(ACCEPTED, 0, 0, told(n)),
-        Printed::Unwritten(r) => words::refused(words::told_refusal(r)),
+        Ok(n) => words::word(ACCEPTED, 0, 0, told(n)),
+        Err(r) => words::refused(words::told_refusal(r)),
     }
 }
 
 // Of a parse: how many bytes the image has, in two parts, and the names.
-pub fn parse_word(a: Parsed) -> u64
+pub fn parse_word(a: Answer<(usize, usize)>) -> u64
     requires { ParseFits a }
     ensures { result ≡ word (parse_numbers a) }
 {
     match a {
-        Parsed::Read(n, m) => words::word(ACCEPTED, n % BYTE, n / BYTE, told(m)),
-        Parsed::Unread(r) => words::refused(words::told_refusal(r)),
+        Ok((n, m)) => words::word(ACCEPTED, n % BYTE, n / BYTE, told(m)),
+        Err(r) => words::refused(words::told_refusal(r)),
     }
 }

@@ -1,19 +1,17 @@
 -- A trace passes its tests exactly where its records are right and its stamps follow, and fails one exactly where a record is wrong.
+use Rattle.parlog.specs.Answer.{Answer}
+use Rattle.std.specs.Prelude.{Option, Some, None, Err, Ok}
 use Rattle.std.proofs.Common.{◌≡◌, ℕ, zero, suc, ◌*◌, ◌<◌, ◌≤◌, Bool, true, false, not, eqb, ltb, ◌≢◌, List, length, sym, refl, ◌∙◌, arith, ltb-false, ltb-true, eq-eqb, ne_eqb, eqb-true}
 use borrow.Author.Tests.{eqb-false, not-false}
 use Rattle.parlog.proofs.Bools.{never, split}
 use Rattle.parlog.proofs.Scans.{Lowest, lowest-at, lowest-is, lowest-none, lowest-nothing}
 use Rattle.parlog.specs.Load.{refusal}
 use Rattle.parlog.specs.Records.{cut, kind_at, word_at}
-use Rattle.parlog.specs.declared.Found.{Found}
-use Rattle.parlog.specs.declared.Found.TheVariants.{At, Nothing}
 use Rattle.parlog.specs.declared.Refusal.{Refusal}
 use Rattle.saved.proofs.Formed.{whole-exactly, whole-uncut}
 use Rattle.trace.proofs.Laws.{fault-body, fault-cut, fault-kind, fault-none, right_of}
 use Rattle.trace.specs.Formed.{BadTrace, Filled, Follows, KnownKind, of_step, of_supply, RightRecord, RightTo, RightTrace, trace_body, trace_cut, trace_gap, trace_kind}
 use Rattle.trace.specs.Trace.{fail_if, faulty, first_fault, first_gap, following, gap_at, known_kind, record_fault, records_in, stamp_at, step_kind, supply_kind, tested_fault, tested_gap, trace_size, trace_tested}
-use Rattle.trace.specs.declared.Tested.{Tested}
-use Rattle.trace.specs.declared.Tested.TheVariants.{Faulty, Records}
 
 module _ (k : ℕ) where
   known_is : known_kind k ≡ true → KnownKind k
@@ -39,7 +37,7 @@ module _ (x : List ℕ) where
 
   -- ---- from the facts to the tests
 
-  first-is : (k f : ℕ) → RightTo x k → k * trace_size < length x → f ≡ record_fault x (k * trace_size) → f ≢ 0 → trace_tested x ≡ Faulty (refusal f (k * trace_size))
+  first-is : (k f : ℕ) → RightTo x k → k * trace_size < length x → f ≡ record_fault x (k * trace_size) → f ≢ 0 → trace_tested x ≡ Err (refusal f (k * trace_size))
   unfolding trace_tested first_fault
   first-is k f rights h e z =
       let bad : faulty x k ≡ true = rw (← e, ne_eqb f 0 z) in
@@ -53,7 +51,7 @@ module _ (x : List ℕ) where
     counted : records_in x ≡ n
     counted = let s = filled.size in omega arith
 
-    none-wrong : first_fault x ≡ Nothing
+    none-wrong : first_fault x ≡ None
     unfolding first_fault
     none-wrong = lowest-nothing (faulty x) (records_in x) (λ i h. right-not i (filled.each i (omega (arith, counted))))
 
@@ -64,7 +62,7 @@ module _ (x : List ℕ) where
     follows-not : (i : ℕ) → Follows x i → gap_at x (suc i) ≡ false
     follows-not i e = rw (eq-eqb (stamp_at x (suc i * trace_size)) (following (stamp_at x (i * trace_size))) e)
 
-    gap-at-is : (k : ℕ) → suc k < n → ((i : ℕ) → i < k → Follows x i) → (Follows x k → ⊥) → first_gap x n ≡ At (suc k)
+    gap-at-is : (k : ℕ) → suc k < n → ((i : ℕ) → i < k → Follows x i) → (Follows x k → ⊥) → first_gap x n ≡ Some (suc k)
     unfolding first_gap
     gap-at-is k h before z =
         lowest-is (gap_at x) n (suc k) (record { there = h; passes = rw (ne_eqb (stamp_at x (suc k * trace_size)) (following (stamp_at x (k * trace_size))) z); least = λ i u q. later i q })
@@ -73,7 +71,7 @@ module _ (x : List ℕ) where
         later zero q = never q
         later (suc i) q = split (ltb i k) (λ a. never (sym (follows-not i (before i (ltb-true i k a))) ∙ q)) (λ a. let b = ltb-false i k a in omega arith)
 
-    no_gap : ((i : ℕ) → suc i < n → Follows x i) → first_gap x n ≡ Nothing
+    no_gap : ((i : ℕ) → suc i < n → Follows x i) → first_gap x n ≡ None
     unfolding first_gap
     no_gap all = lowest-nothing (gap_at x) n each
       where
@@ -82,7 +80,7 @@ module _ (x : List ℕ) where
         each (suc i) h = follows-not i (all i h)
 
   -- THE LAW: a wrong record is refused
-  pub bad-tested : {n o : ℕ} → BadTrace x n o → trace_tested x ≡ Faulty (refusal n o)
+  pub bad-tested : {n o : ℕ} → BadTrace x n o → trace_tested x ≡ Err (refusal n o)
   bad-tested (trace_cut {k} b h w) = first-is k 2 b h (fault-cut x (k * trace_size) (split (cut x (k * trace_size)) (λ e. e) (λ e. absurd (w (whole-exactly x (k * trace_size) e))))) (λ z. omega arith)
   bad-tested (trace_kind {k} b h w n) =
       let at : ℕ = k * trace_size in
@@ -91,16 +89,16 @@ module _ (x : List ℕ) where
   bad-tested (trace_gap {n} {k} f h b z) = tested-is n f ∙ rw (gap-at-is n f k h b z)
 
   -- THE LAW: a right trace is taken
-  pub right-tested : {n : ℕ} → RightTrace x n → trace_tested x ≡ Records n
+  pub right-tested : {n : ℕ} → RightTrace x n → trace_tested x ≡ Ok n
   right-tested {n} r = tested-is n r.filled ∙ rw (no_gap n r.filled r.follow, counted n r.filled)
 
   -- ---- from the tests to the facts
 
-  abbrev Told : Tested → Type 0
-  Told (Records n) = RightTrace x n
-  Told (Faulty f) = BadTrace x f.number f.offset
+  abbrev Told : Answer ℕ → Type 0
+  Told (Ok n) = RightTrace x n
+  Told (Err f) = BadTrace x f.number f.offset
 
-  first-told : (k : ℕ) → first_fault x ≡ At k → BadTrace x (record_fault x (k * trace_size)) (k * trace_size)
+  first-told : (k : ℕ) → first_fault x ≡ Some k → BadTrace x (record_fault x (k * trace_size)) (k * trace_size)
   unfolding first_fault record_fault
   first-told k e = by (cut x (k * trace_size)) refl (known_kind (kind_at x (k * trace_size))) refl (eqb (word_at x (k * trace_size)) trace_size) refl first.passes
     where
@@ -121,7 +119,7 @@ module _ (x : List ℕ) where
           trace_body rights here (whole-exactly x (k * trace_size) ea) (known_is (kind_at x (k * trace_size)) eb) (eqb-false (word_at x (k * trace_size)) trace_size ec)
       by false ea true eb true ec z = never z
 
-  all_right : first_fault x ≡ Nothing → Filled x (records_in x)
+  all_right : first_fault x ≡ None → Filled x (records_in x)
   unfolding first_fault
   all_right e = record { size = fills (records_in x) refl; each = each }
     where
@@ -147,20 +145,20 @@ module _ (x : List ℕ) where
           (λ i h. here i (split (gap_at x (suc i)) (λ a. let t = f.there in let z = f.least (suc i) (omega arith) a in absurd (omega arith)) (λ a. a)))
           (λ q. never (sym (follows-not (records_in x) filled k q) ∙ f.passes))
 
-      go : (g : Found) → first_gap x (records_in x) ≡ g → Told (tested_gap g x)
-      go (At k) e = at k (lowest-at (gap_at x) (records_in x) k (unfold first_gap in e))
-      go Nothing e = record { filled = filled; follow = λ i h. here i (lowest-none (gap_at x) (records_in x) (suc i) (unfold first_gap in e) h) }
+      go : (g : Option ℕ) → first_gap x (records_in x) ≡ g → Told (tested_gap g x)
+      go (Some k) e = at k (lowest-at (gap_at x) (records_in x) k (unfold first_gap in e))
+      go None e = record { filled = filled; follow = λ i h. here i (lowest-none (gap_at x) (records_in x) (suc i) (unfold first_gap in e) h) }
 
   told : Told (trace_tested x)
   unfolding trace_tested
   told = go (first_fault x) refl
     where
-      go : (f : Found) → first_fault x ≡ f → Told (tested_fault f x)
-      go (At k) e = first-told k e
-      go Nothing e = gap-told (all_right e)
+      go : (f : Option ℕ) → first_fault x ≡ f → Told (tested_fault f x)
+      go (Some k) e = first-told k e
+      go None e = gap-told (all_right e)
 
-  pub tested-right : {n : ℕ} → trace_tested x ≡ Records n → RightTrace x n
+  pub tested-right : {n : ℕ} → trace_tested x ≡ Ok n → RightTrace x n
   tested-right e = rw e at told
 
-  pub tested-bad : {f : Refusal} → trace_tested x ≡ Faulty f → BadTrace x f.number f.offset
+  pub tested-bad : {f : Refusal} → trace_tested x ≡ Err f → BadTrace x f.number f.offset
   tested-bad e = rw e at told

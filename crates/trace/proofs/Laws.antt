@@ -1,16 +1,14 @@
 -- Stamps that follow, records that fail a test, and the loops over a trace.
+use Rattle.parlog.specs.Answer.{Answer}
+use Rattle.std.specs.Prelude.{Option, Some, None, Err, Ok}
 use Rattle.std.proofs.Common.{◌≡◌, ℕ, zero, suc, ◌+◌, ◌-◌, ◌*◌, ◌%◌, ◌<◌, ◌≤◌, Bool, true, false, not, ◌||◌, eqb, ltb, ◌≢◌, List, length, sym, refl, ◌∙◌, arith, ltb-false, ltb-true, le-ltb, lt-ltb, eq-eqb, ne_eqb, eqb-true}
 use borrow.Author.Tests.{eqb-false}
 use Rattle.parlog.proofs.Bools.{never, or-false, split}
 use Rattle.parlog.proofs.Scans.{Lowest, lowest-at, lowest-is, lowest-nothing}
 use Rattle.parlog.proofs.Walk.{whole}
 use Rattle.parlog.specs.Records.{cut, kind_at, record_end, word_at}
-use Rattle.parlog.specs.declared.Found.{Found}
-use Rattle.parlog.specs.declared.Found.TheVariants.{At, Nothing}
 use Rattle.parlog.specs.declared.Refusal.{Refusal}
 use Rattle.trace.specs.Trace.{fail_if, FaultsSay, fault_tested, faulty, first_fault, first_gap, gap_at, is_gap, known_kind, record_fault, records_in, stamp_at, TestedSays, trace_size, trace_tested}
-use Rattle.trace.specs.declared.Tested.{Tested}
-use Rattle.trace.specs.declared.Tested.TheVariants.{Faulty, Records}
 
 -- ---- stamps
 
@@ -85,48 +83,37 @@ module _ (s : List ℕ) (at : ℕ) where
 abbrev pub Clean : List ℕ → ℕ → Type 0
 Clean s k = (i : ℕ) → i < k → faulty s i ≡ false
 
-pub clean-none : (s : List ℕ) → Clean s 0
-clean-none s i h = absurd (omega arith)
-
 more-below : (t : ℕ → Bool) (k : ℕ) → ((i : ℕ) → i < k → t i ≡ false) → t k ≡ false → (i : ℕ) → i < k + 1 → t i ≡ false
 more-below t k all e i h = split (eqb i k) (λ q. rw (eqb-true i k q) e) (λ q. let d = eqb-false i k q in all i (omega (arith, d)))
 
-module _ (s : List ℕ) (at k : ℕ) (place : at ≡ k * trace_size) (clean : Clean s k) where
-  module _ (here : at < length s) {f : ℕ} (ef : f ≡ record_fault s at) where
+module _ (s : List ℕ) (k : ℕ) (clean : Clean s k) where
+  module _ (here : k * trace_size < length s) {f : ℕ} (ef : f ≡ record_fault s (k * trace_size)) where
     fault-is : record_fault s (k * trace_size) ≡ f
-    fault-is = rw (← place) (sym ef)
+    fault-is = sym ef
 
-    pub faults-found : f ≢ 0 → FaultsSay s (Faulty (record { number = f; offset = at }))
+    pub faults-found : f ≢ 0 → FaultsSay s (Err (record { number = f; offset = k * trace_size }))
     unfolding first_fault
     faults-found h =
         let p : faulty s k ≡ true = rw (fault-is, ne_eqb f 0 h) in
         let first : Lowest (faulty s) (records_in s) k = record { there = omega arith; passes = p; least = λ i u q. later i q } in
-        record { tests = rw (lowest-is (faulty s) (records_in s) k first, fault-is, place); fills = tt }
+        record { tests = rw (lowest-is (faulty s) (records_in s) k first, fault-is); fills = tt }
       where
         later : (i : ℕ) → faulty s i ≡ true → k ≤ i
         later i q = split (ltb i k) (λ z. never (sym (clean i (ltb-true i k z)) ∙ q)) (λ z. ltb-false i k z)
 
-    pub faults-next : f ≡ 0 → (at + trace_size ≤ length s) × (at + trace_size ≡ (k + 1) * trace_size) × Clean s (k + 1)
-    faults-next z = (
-      (right_of s at (sym ef ∙ z)).inside,
-      omega arith,
-      more-below (faulty s) k clean (rw (fault-is, eq-eqb f 0 z)),
-    )
+    pub faults-next : f ≡ 0 → ((k + 1) * trace_size ≤ length s) × Clean s (k + 1)
+    faults-next z = (omega (arith, (right_of s (k * trace_size) (sym ef ∙ z)).inside), more-below (faulty s) k clean (rw (fault-is, eq-eqb f 0 z)))
 
-  pub faults-done : at ≤ length s → length s ≤ at → FaultsSay s (Records k)
+  pub faults-done : (n : ℕ) → n ≡ k → k * trace_size ≤ length s → length s ≤ k * trace_size → FaultsSay s (Ok n)
   unfolding first_fault
-  faults-done a b =
-      let n : records_in s ≡ k = omega arith in
-      record { tests = rw (lowest-nothing (faulty s) (records_in s) (λ i h. clean i (omega arith)), n); fills = omega arith }
+  faults-done n e a b =
+      let m : records_in s ≡ k = omega arith in
+      record { tests = rw (e, lowest-nothing (faulty s) (records_in s) (λ i h. clean i (omega arith)), m); fills = omega arith }
 
 -- ---- the loop over stamps
 
 abbrev pub Steady : List ℕ → ℕ → Type 0
 Steady s k = (i : ℕ) → i < k → gap_at s i ≡ false
-
-pub steady-one : (s : List ℕ) → Steady s 1
-steady-one s zero h = refl
-steady-one s (suc i) h = absurd (omega arith)
 
 gap_at_lem : (s : List ℕ) (k : ℕ) → 1 ≤ k → gap_at s k ≡ is_gap (stamp_at s ((k - 1) * trace_size)) (stamp_at s (k * trace_size))
 gap_at_lem s zero h = absurd (omega arith)
@@ -137,51 +124,48 @@ module _ (s : List ℕ) (n k : ℕ) (steady : Steady s k) (some : 1 ≤ k) where
     gap_is : gap_at s k ≡ g
     gap_is = gap_at_lem s k some ∙ rw (eg, ea, eb)
 
-    pub gap-found : k < n → g ≡ true → At k ≡ first_gap s n
+    pub gap-found : k < n → g ≡ true → Some k ≡ first_gap s n
     unfolding first_gap
     gap-found h z = sym (lowest-is (gap_at s) n k (record { there = h; passes = gap_is ∙ z; least = λ i u q. later i q }))
       where
         later : (i : ℕ) → gap_at s i ≡ true → k ≤ i
         later i q = split (ltb i k) (λ y. never (sym (steady i (ltb-true i k y)) ∙ q)) (λ y. ltb-false i k y)
 
-    pub gap-next : g ≡ false → Steady s (k + 1)
-    gap-next z = more-below (gap_at s) k steady (gap_is ∙ z)
-
-  pub gap-none : n ≤ k → Nothing ≡ first_gap s n
+  pub gap-none : n ≤ k → None ≡ first_gap s n
   unfolding first_gap
   gap-none h = sym (lowest-nothing (gap_at s) n (λ i u. steady i (omega arith)))
 
 -- a record with a gap before it is one of them
-pub gap_below : (s : List ℕ) (n : ℕ) {g : Found} {k : ℕ} → g ≡ first_gap s n → g ≡ At k → k < n
+pub gap_below : (s : List ℕ) (n : ℕ) {g : Option ℕ} {k : ℕ} → g ≡ first_gap s n → g ≡ Some k → k < n
 unfolding first_gap
 gap_below s n {k = k} eg e = (lowest-at (gap_at s) n k (sym eg ∙ e)).there
 
 -- ---- all tests
 
-module _ (s : List ℕ) {f : Tested} (says : FaultsSay s f) where
-  pub tested-faulty : {r : Refusal} → f ≡ Faulty r → TestedSays s f
+module _ (s : List ℕ) {f : Answer ℕ} (says : FaultsSay s f) where
+  pub tested-faulty : {r : Refusal} → f ≡ Err r → TestedSays s f
   tested-faulty {r} q = record { tests = go (first_fault s) refl says.tests; fills = says.fills }
     where
-      go : (x : Found) → first_fault s ≡ x → f ≡ fault_tested x s → f ≡ trace_tested s
-      go (At k) e h = unfold trace_tested in (rw e h)
-      go Nothing e h = cc
+      go : (x : Option ℕ) → first_fault s ≡ x → f ≡ fault_tested x s → f ≡ trace_tested s
+      go (Some k) e h = unfold trace_tested in (rw e h)
+      go None e h = cc
 
-  records_is : {n : ℕ} → f ≡ Records n → (first_fault s ≡ Nothing) × (records_in s ≡ n)
+  records_is : {n : ℕ} → f ≡ Ok n → (first_fault s ≡ None) × (records_in s ≡ n)
   records_is {n} q = go (first_fault s) refl says.tests
     where
-      go : (x : Found) → first_fault s ≡ x → f ≡ fault_tested x s → (first_fault s ≡ Nothing) × (records_in s ≡ n)
-      go (At k) e h = (cc, cc)
-      go Nothing e h = (e, let z : Records (records_in s) ≡ Records n = cc in cc)
+      go : (x : Option ℕ) → first_fault s ≡ x → f ≡ fault_tested x s → (first_fault s ≡ None) × (records_in s ≡ n)
+      go (Some k) e h = (cc, cc)
+      go None e h = (e, let z : ◌≡◌ {A = Answer ℕ} (Ok (records_in s)) (Ok n) = cc in cc)
 
   -- the records fill the bytes
-  pub faults-fill : {n : ℕ} → f ≡ Records n → n * trace_size ≡ length s
+  pub faults-fill : {n : ℕ} → f ≡ Ok n → n * trace_size ≡ length s
   faults-fill q = rw q at says.fills
 
-  module _ {n : ℕ} (q : f ≡ Records n) {g : Found} (eg : g ≡ first_gap s n) where
-    pub tested-gap : {k : ℕ} → g ≡ At k → TestedSays s (Faulty (record { number = 19; offset = k * trace_size }))
+  module _ {n : ℕ} (q : f ≡ Ok n) {g : Option ℕ} (eg : g ≡ first_gap s n) where
+    pub tested-gap : {k : ℕ} → g ≡ Some k → TestedSays s (Err (record { number = 19; offset = k * trace_size }))
     unfolding trace_tested
     tested-gap e = let a = records_is q in record { tests = rw (a.0, a.1, sym eg ∙ e); fills = tt }
 
-    pub tested-none : g ≡ Nothing → TestedSays s (Records n)
+    pub tested-none : g ≡ None → TestedSays s (Ok n)
     unfolding trace_tested
     tested-none e = let a = records_is q in record { tests = rw (a.0, a.1, sym eg ∙ e, a.1); fills = faults-fill q }

@@ -1,13 +1,10 @@
 -- Traces: a record for each step and each supply, its stamp, and the tests of a whole trace.
-use Rattle.std.specs.Prelude.{◌≡◌, ℕ, zero, suc, ◌+◌, ◌*◌, ◌/◌, ◌%◌, Bool, true, false, not, ◌||◌, List, ◌++◌, length, ◌==◌}
+use Rattle.parlog.specs.Answer.{Answer}
+use Rattle.std.specs.Prelude.{◌≡◌, ℕ, zero, suc, ◌+◌, ◌*◌, ◌/◌, ◌%◌, Bool, true, false, not, ◌||◌, List, ◌++◌, length, ◌==◌, Option, Some, None, Err, Ok}
 use Rattle.lay.specs.Lay.{two}
 use Rattle.parlog.specs.Load.{refusal}
 use Rattle.parlog.specs.Records.{cut, kind_at, word_at}
 use Rattle.parlog.specs.Scan.{lowest}
-use Rattle.parlog.specs.declared.Found.{Found}
-use Rattle.parlog.specs.declared.Found.TheVariants.{At, Nothing}
-use Rattle.trace.specs.declared.Tested.{Tested}
-use Rattle.trace.specs.declared.Tested.TheVariants.{Faulty, Records}
 
 -- ---- records
 
@@ -55,7 +52,7 @@ gap_at s zero = false
 gap_at s (suc k) = is_gap (stamp_at s (k * trace_size)) (stamp_at s (suc k * trace_size))
 
 -- Traces 3: the first of n records with a gap before it
-unfoldable pub first_gap : List ℕ → ℕ → Found
+unfoldable pub first_gap : List ℕ → ℕ → Option ℕ
 first_gap s n = lowest (gap_at s) n
 
 -- ---- the tests of a trace
@@ -82,40 +79,40 @@ abbrev pub records_in : List ℕ → ℕ
 records_in s = (length s + 9) / trace_size
 
 -- Traces 4: the first record that fails a test
-unfoldable pub first_fault : List ℕ → Found
+unfoldable pub first_fault : List ℕ → Option ℕ
 first_fault s = lowest (faulty s) (records_in s)
 
 -- Traces 4: then 19, and its place
-abbrev pub tested_gap : Found → List ℕ → Tested
-tested_gap (At k) s = Faulty (refusal 19 (k * trace_size))
-tested_gap Nothing s = Records (records_in s)
+abbrev pub tested_gap : Option ℕ → List ℕ → Answer ℕ
+tested_gap (Some k) s = Err (refusal 19 (k * trace_size))
+tested_gap None s = Ok (records_in s)
 
 -- Traces 4: 2, 3 or 4 first, over the whole trace, and its place
-abbrev pub tested_fault : Found → List ℕ → Tested
-tested_fault (At k) s = Faulty (refusal (record_fault s (k * trace_size)) (k * trace_size))
-tested_fault Nothing s = tested_gap (first_gap s (records_in s)) s
+abbrev pub tested_fault : Option ℕ → List ℕ → Answer ℕ
+tested_fault (Some k) s = Err (refusal (record_fault s (k * trace_size)) (k * trace_size))
+tested_fault None s = tested_gap (first_gap s (records_in s)) s
 
 -- Traces 4: what the tests of a trace come to
-unfoldable pub trace_tested : List ℕ → Tested
+unfoldable pub trace_tested : List ℕ → Answer ℕ
 trace_tested s = tested_fault (first_fault s) s
 
 -- ---- contracts
 
 -- the records of these bytes fill them
-abbrev pub Fills : List ℕ → Tested → Type 0
-Fills s (Faulty r) = Unit {0}
-Fills s (Records n) = n * trace_size ≡ length s
+abbrev pub Fills : List ℕ → Answer ℕ → Type 0
+Fills s (Err r) = Unit {0}
+Fills s (Ok n) = n * trace_size ≡ length s
 
 -- the tests 2, 3 and 4 alone
-abbrev pub fault_tested : Found → List ℕ → Tested
-fault_tested (At k) s = Faulty (refusal (record_fault s (k * trace_size)) (k * trace_size))
-fault_tested Nothing s = Records (records_in s)
+abbrev pub fault_tested : Option ℕ → List ℕ → Answer ℕ
+fault_tested (Some k) s = Err (refusal (record_fault s (k * trace_size)) (k * trace_size))
+fault_tested None s = Ok (records_in s)
 
-pub record FaultsSay (s : List ℕ) (t : Tested) : Type 0 where
+pub record FaultsSay (s : List ℕ) (t : Answer ℕ) : Type 0 where
   pub tests : t ≡ fault_tested (first_fault s) s
   pub fills : Fills s t
 
 -- all tests, and that the records fill the bytes where nothing is wrong
-pub record TestedSays (s : List ℕ) (t : Tested) : Type 0 where
+pub record TestedSays (s : List ℕ) (t : Answer ℕ) : Type 0 where
   pub tests : t ≡ trace_tested s
   pub fills : Fills s t

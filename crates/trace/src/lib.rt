@@ -7,7 +7,7 @@ ghost use Rattle.parlog.specs.Records.{cut, kind_at, word_at};
 ghost use Rattle.trace.specs.Trace.{first_gap, following, is_gap, known_kind, record_bytes, record_fault, stamp_at, TestedSays, trace_size, what_at, who_at};
 ghost use Rattle.trace.specs.Trace.{FaultsSay};
 
-use parlog::{Found, Refusal, codes};
+use parlog::{Answer, Refusal, codes};
 
 // The kinds of a trace's records.
 pub const STEP: usize = 32;
@@ -27,13 +27,6 @@ const STAMP: usize = 8;
 const GAP: u8 = 19;
 
 pub const DISAGREES: u8 = 20;
-
-// What the tests of a trace come to: how many records it has, or what is wrong.
-#[derive(Clone, Copy)]
-pub enum Tested {
-    Records(usize),
-    Faulty(Refusal),
-}
 
 // ---- stamps
 
@@ -153,54 +146,46 @@ fn record_fault(s: &[u8], at: usize) -> u8
 }
 
 // Record by record: how many there are, or the first that fails a test.
-fn faults(s: &[u8]) -> Tested
+fn faults(s: &[u8]) -> Answer<usize>
     ensures { FaultsSay s.now result }
 {
-    let n = s.len();
-    let mut at = 0;
-    let mut k = 0;
-    while at < n {
+    let n = s.len().div_ceil(SIZE);
+    for k in 0..n {
+        let at = k * SIZE;
         let fault = record_fault(s, at);
         if fault != 0 {
-            return Tested::Faulty(Refusal {
+            return Err(Refusal {
                 number: fault,
                 offset: at,
             });
         }
-        at += SIZE;
-        k += 1;
     }
-    Tested::Records(k)
+    Ok(n)
 }
 
 // The first of n records whose stamp does not follow the one before.
-fn first_gap(s: &[u8], n: usize) -> Found
+fn first_gap(s: &[u8], n: usize) -> Option<usize>
     requires { n * trace_size ≤ length s.now }
     ensures { result ≡ first_gap s.now n }
 {
-    let mut k = 1;
-    while k < n {
+    for k in 1..n {
         if gap(stamp(s, k - 1), stamp(s, k)) {
-            return Found::At(k);
+            return Some(k);
         }
-        k += 1;
     }
-    Found::Nothing
+    None
 }
 
 // All tests of a trace: 2, 3 and 4 by record, then 19.
-pub fn test_trace(s: &[u8]) -> Tested
+pub fn test_trace(s: &[u8]) -> Answer<usize>
     ensures { TestedSays s.now result }
 {
-    let f = faults(s);
-    let Tested::Records(n) = f else {
-        return f;
-    };
+    let n = faults(s)?;
     let g = first_gap(s, n);
-    let Found::At(k) = g else {
-        return f;
+    let Some(k) = g else {
+        return Ok(n);
     };
-    Tested::Faulty(Refusal {
+    Err(Refusal {
         number: GAP,
         offset: k * SIZE,
     })

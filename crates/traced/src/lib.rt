@@ -6,41 +6,30 @@ ghost use Rattle.bound.specs.Calls.{RowSays};
 ghost use Rattle.parlog.specs.Calls.{step_call};
 ghost use Rattle.parlog.specs.Limits.{small};
 ghost use Rattle.parlog.specs.Tables.{lent};
-ghost use Rattle.traced.specs.Traced.{or_room, step_traced_call, step_unnoted, supply_traced_call, supply_unnoted};
+ghost use Rattle.traced.specs.Traced.{step_traced_call, step_unnoted, supply_traced_call, supply_unnoted};
 
-use parlog::{Loaded, Stepped, Supplied, codes};
+use parlog::{Answer, Move, codes};
 
 // ---- a step
 
-// What refuses a step that has no room for its record: what refuses the plain one, else ROOM.
-fn or_room(number: u8) -> u8
-    ensures { result ≡ or_room number }
-{
-    if number != 0 {
-        return number;
-    }
-    codes::ROOM
-}
-
-// The step whose record has no room: it only reads.
-fn step_unnoted(image: &[u8], head: &[u8], procs: &[u8], vars: &[u8], process: u32) -> Stepped
+// The step whose record has no room: refused as the plain one, else with ROOM; it only reads.
+fn step_unnoted(image: &[u8], head: &[u8], procs: &[u8], vars: &[u8], process: u32) -> Answer<Move>
     ensures { result ≡ step_unnoted (step_call small image.now (lent head.now procs.now vars.now) process).answer }
 {
     let mut ix = [0u16; program_index::SIZE];
     let e = entry::enter(image, head, procs, vars, &mut ix);
-    let Loaded::Accepted(rels, clauses) = e else {
+    let Ok((rels, clauses)) = e else {
         let r = load::refusal(e);
-        return Stepped::Unmoved(r);
+        return Err(r);
     };
     let p = process as usize;
     let n = head::proc_count(head);
     if n <= p {
-        return Stepped::Unmoved(entry::refusal(codes::NODE));
+        return Err(entry::refusal(codes::NODE));
     }
     let told = step::ask(procs, n, p);
-    let d = step::planned(image, rels, clauses, &ix, head, procs, vars, p, told);
-    let number = or_room(d.number);
-    Stepped::Unmoved(entry::refusal(number))
+    step::planned(image, rels, clauses, &ix, head, procs, vars, p, told)?;
+    Err(entry::refusal(codes::ROOM))
 }
 
 // The step by number, and its record.
@@ -52,30 +41,27 @@ pub fn step_traced(
     trace: &mut [u8],
     process: u32,
     stamp: u16,
-) -> Stepped
+) -> Answer<Move>
     ensures { RowSays (step_traced_call small image.now (lent head.old procs.old vars.old) trace.old process stamp) result head.new procs.new vars.new trace.new }
 {
     if trace.len() < trace::SIZE {
         return step_unnoted(image, head, procs, vars, process);
     }
-    let a = step::step(image, head, procs, vars, process);
-    let Stepped::Moved(m) = a else {
-        return a;
-    };
+    let m = step::step(image, head, procs, vars, process)?;
     let rule = words::rule_number(m);
     trace::put_record(trace, 0, trace::STEP, process as usize, rule, stamp);
-    a
+    Ok(m)
 }
 
 // ---- a supply
 
 // The supply whose record has no room: refused as the plain one, else with ROOM.
-fn supply_unnoted(a: Supplied) -> Supplied
+fn supply_unnoted(a: Answer<usize>) -> Answer<usize>
     ensures { result ≡ supply_unnoted a }
 {
     match a {
-        Supplied::Given(_) => Supplied::Ungiven(entry::refusal(codes::ROOM)),
-        Supplied::Ungiven(r) => Supplied::Ungiven(r),
+        Ok(_) => Err(entry::refusal(codes::ROOM)),
+        Err(r) => Err(r),
     }
 }
 
@@ -89,17 +75,14 @@ pub fn supply_traced(
     variable: u32,
     value: u32,
     stamp: u16,
-) -> Supplied
+) -> Answer<usize>
     ensures { RowSays (supply_traced_call small image.now (lent head.now procs.now vars.old) trace.old variable value stamp) result head.now procs.now vars.new trace.new }
 {
     if trace.len() < trace::SIZE {
         let d = machine::decided(image, head, procs, vars, variable, value);
         return supply_unnoted(d);
     }
-    let a = machine::supply(image, head, procs, vars, variable, value);
-    let Supplied::Given(_) = a else {
-        return a;
-    };
+    let v = machine::supply(image, head, procs, vars, variable, value)?;
     trace::put_record(
         trace,
         0,
@@ -108,5 +91,5 @@ pub fn supply_traced(
         value as usize,
         stamp,
     );
-    a
+    Ok(v)
 }

@@ -1,4 +1,5 @@
 -- The tree of parents: one law for each way through the code that reads it.
+use Rattle.std.specs.Prelude.{Option, Some, None}
 use mathlib.Core.Path.{◌∙◌, ◌≡◌, refl}
 use mathlib.Core.Logic.{◌≢◌}
 use mathlib.Core.Bool.{◌||◌, cond, false}
@@ -8,7 +9,6 @@ use lib.Dec.{eqb, ltb}
 use lib.ListN.{length}
 use borrow.Author.Tests.{eq-eqb, eqb-false, eqb-true, ltb-false, ltb-true, ne_eqb}
 use native.Mathlib.Omega.{arith}
-use Rattle.parlog.proofs.Along.{less_one}
 use Rattle.parlog.proofs.Bools.{not_so, split}
 use Rattle.parlog.proofs.Fine.{below-child, child-lower}
 use Rattle.parlog.proofs.Kin.{below_at, below-test, Kin}
@@ -16,44 +16,41 @@ use Rattle.parlog.specs.Codes.{is_tag, try_clause}
 use Rattle.parlog.specs.Notions.{Below, deeper, next_below}
 use Rattle.parlog.specs.Tables.{at, procs_of, State}
 use Rattle.parlog.specs.Tree.{below, enclosing, first_of, try_above}
-use Rattle.parlog.specs.declared.Found.{Found}
-use Rattle.parlog.specs.declared.Found.TheVariants.{At, Nothing}
 use Rattle.parlog.specs.declared.Process.{Process}
 use Rattle.rows.proofs.Tables.{procs-length}
 use Rattle.tree.specs.Family.{Childless, Falls}
 
 -- ---- the nearest try-clause above
 
-pub enclosing-starts : (l : List ℕ) (n p : ℕ) → enclosing (procs_of l n) p ≡ try_above n (procs_of l n) p
+pub enclosing-starts : (l : List ℕ) (n p : ℕ) → enclosing (procs_of l n) p ≡ try_above (n - 0) (procs_of l n) p
 unfolding enclosing
-enclosing-starts l n p = rw procs-length
+enclosing-starts l n p = let e : n - 0 ≡ n = omega arith in rw (procs-length, e)
 
-pub above-end : (n : ℕ) (ps : List Process) (a : ℕ) → n ≡ 0 → try_above n ps a ≡ Nothing
+-- of n processes above, the first k are behind
+pub above-end : (n k : ℕ) (ps : List Process) (a : ℕ) → n ≤ k → try_above (n - k) ps a ≡ None
 unfolding try_above
-above-end n ps a z = rw z
+above-end n k ps a h = let e : n - k ≡ 0 = omega arith in rw e
 
-above_step : (n : ℕ) (ps : List Process) (a : ℕ) → 0 < n
-    → try_above n ps a ≡ cond (eqb a 0) Nothing (cond (is_tag try_clause (at ps (at ps a).parent).tag) (At (at ps a).parent) (try_above (n - 1) ps (at ps a).parent))
-unfolding try_above
-above_step zero ps a h = absurd (omega arith)
-above_step (suc n) ps a h = rw less_one
+module _ (n k : ℕ) (ps : List Process) (a : ℕ) (more : k < n) where
+  above_step : try_above (n - k) ps a ≡ cond (eqb a 0) None (cond (is_tag try_clause (at ps (at ps a).parent).tag) (Some (at ps a).parent) (try_above (n - (k + 1)) ps (at ps a).parent))
+  unfolding try_above
+  above_step = let e : n - k ≡ suc (n - (k + 1)) = omega arith in rw e
 
-module _ (n : ℕ) (ps : List Process) (a : ℕ) (pos : 0 < n) where
-  pub above_root : a ≡ 0 → try_above n ps a ≡ Nothing
-  above_root z = above_step n ps a pos ∙ rw (eq-eqb a 0 z)
+  pub above_root : a ≡ 0 → try_above (n - k) ps a ≡ None
+  above_root z = above_step ∙ rw (eq-eqb a 0 z)
 
   module _ (ne : a ≡ 0 → ⊥) {u v : ℕ} (eu : u ≡ (at ps a).parent) (ev : v ≡ (at ps u).tag) where
-    pub above-met : v ≡ 5 → try_above n ps a ≡ At u
-    above-met h = above_step n ps a pos ∙ rw (ne_eqb a 0 ne, ← eu, ← ev, eq-eqb v 5 h)
+    pub above-met : v ≡ 5 → try_above (n - k) ps a ≡ Some u
+    above-met h = above_step ∙ rw (ne_eqb a 0 ne, ← eu, ← ev, eq-eqb v 5 h)
 
-    pub above_on : (v ≡ 5 → ⊥) → try_above n ps a ≡ try_above (n - 1) ps u
-    above_on h = above_step n ps a pos ∙ rw (ne_eqb a 0 ne, ← eu, ← ev, ne_eqb v 5 h)
+    pub above_on : (v ≡ 5 → ⊥) → try_above (n - k) ps a ≡ try_above (n - (k + 1)) ps u
+    above_on h = above_step ∙ rw (ne_eqb a 0 ne, ← eu, ← ev, ne_eqb v 5 h)
 
-module _ (ps : List Process) {f e : Found} (is : f ≡ e) where
-  pub first-none : f ≡ Nothing → 0 ≡ first_of ps e
+module _ (ps : List Process) {f e : Option ℕ} (is : f ≡ e) where
+  pub first-none : f ≡ None → 0 ≡ first_of ps e
   first-none h = rw (← is, h)
 
-  pub first_found : {c v : ℕ} → f ≡ At c → v ≡ (at ps c).spot.first → v ≡ first_of ps e
+  pub first_found : {c v : ℕ} → f ≡ Some c → v ≡ (at ps c).spot.first → v ≡ first_of ps e
   first_found h ev = rw (← is, h) ev
 
 -- ---- where parents fall

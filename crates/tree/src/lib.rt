@@ -9,7 +9,7 @@ ghost use Rattle.parlog.specs.Tree.{below, enclosing, first_of};
 ghost use Rattle.rows.specs.Rows.{Table};
 ghost use Rattle.tree.specs.Family.{Childless, Falls, Marks, most_rows, slept, slept_below};
 
-use parlog::{Found, Process, codes};
+use parlog::{Process, codes};
 
 // The most rows that a table may have here: there is a mark for each.
 const MOST_ROWS: usize = 4096;
@@ -33,33 +33,29 @@ fn above(procs: &[u8], n: usize, a: usize) -> usize
 }
 
 // The nearest try-clause above p.
-fn enclosing(procs: &[u8], n: usize, p: usize) -> Found
+fn enclosing(procs: &[u8], n: usize, p: usize) -> Option<usize>
     requires { n * row_size ≤ length procs.now }
     ensures { result ≡ enclosing (procs_of procs.now n) p }
 {
     let mut a = p;
-    let mut left = n;
-    while 0 < left {
+    for _ in 0..n {
         if a == 0 {
-            return Found::Nothing;
+            return None;
         }
         let over = parent(procs, n, a);
         if rows::tag_at(procs, n, over) == codes::TRY_CLAUSE {
-            return Found::At(over);
+            return Some(over);
         }
         a = over;
-        left -= 1;
     }
-    Found::Nothing
+    None
 }
 
 fn first_at(procs: &[u8], n: usize, c: usize) -> usize
     requires { n * row_size ≤ length procs.now }
     ensures { result ≡ (at (procs_of procs.now n) c).spot.first }
 {
-    let x = rows::get(procs, n, c);
-    let spot = x.spot;
-    basics::wide_u16(spot.first)
+    usize::from(rows::get(procs, n, c).spot.first)
 }
 
 // Its first variable; 0 where there is none.
@@ -67,18 +63,19 @@ pub fn enclosing_first(procs: &[u8], n: usize, p: usize) -> usize
     requires { n * row_size ≤ length procs.now }
     ensures { result ≡ first_of (procs_of procs.now n) (enclosing (procs_of procs.now n) p) }
 {
-    let f = enclosing(procs, n, p);
-    let Found::At(c) = f else {
+    let Some(c) = enclosing(procs, n, p) else {
         return 0;
     };
     first_at(procs, n, c)
 }
 
-fn dormant(mut x: Process) -> Process
+fn dormant(x: Process) -> Process
     ensures { result ≡ with_mode dormant x }
 {
-    x.mode = codes::DORMANT;
-    x
+    Process {
+        mode: codes::DORMANT,
+        ..x
+    }
 }
 
 // The mode of a process known to be there.
@@ -125,14 +122,12 @@ fn first_child(procs: &[u8], n: usize, p: usize) -> usize
     requires { (n * row_size ≤ length procs.now) × (p < n) }
     ensures { (result ≤ n) × (p < result) × Childless (procs_of procs.now n) p result }
 {
-    let mut q = p + 1;
-    while q < n {
+    for q in p + 1..n {
         if above(procs, n, q) == p {
             return q;
         }
-        q += 1;
     }
-    q
+    n
 }
 
 // All below p falls asleep, from its first child on: one pass upward, in which a row has its mark before its children are reached.
@@ -141,10 +136,8 @@ fn sleep_from(procs: &mut [u8], n: usize, p: usize, first: usize)
     ensures { Table procs.old procs.new (slept_below (procs_of procs.old n) p) }
 {
     let mut marks = [0u8; MOST_ROWS];
-    let mut q = first;
-    while q < n {
+    for q in first..n {
         sleep_one(procs, n, &mut marks, p, q);
-        q += 1;
     }
 }
 

@@ -1,24 +1,21 @@
 -- The ways through a turn with the marker by value.
+use Rattle.parlog.specs.declared.Move.{Move}
+use Rattle.std.specs.Prelude.{Err, Ok}
+use Rattle.parlog.specs.Answer.{Answer}
 use mathlib.Core.Path.{◌∙◌, ◌≡◌, ap, refl, sym}
 use mathlib.Core.Bool.{false}
-use mathlib.Core.List.{[], ◌++◌, ◌∷◌, append-nil, List}
-use Prim.Native.Nat.{◌%◌, ◌/◌, ◌≤◌, ℕ}
+use mathlib.Core.List.{[], ◌++◌, ◌∷◌, List}
+use Prim.Native.Nat.{◌%◌, ◌/◌, ℕ}
 use lib.Dec.{eqb}
-use lib.ListN.{drop, drop_of_length-le, get_or, length, take}
-use lib.Seq.{paste}
-use native.Mathlib.Omega.{arith}
+use lib.ListN.{drop, get_or, length, take}
 use Rattle.load.specs.Fields.{refusal_of}
 use Rattle.parlog.proofs.Rows.{build-is}
 use Rattle.parlog.specs.Limits.{Limits}
 use Rattle.parlog.specs.Load.{load_of, refusal}
 use Rattle.parlog.specs.Scan.{build}
 use Rattle.parlog.specs.Tables.{lent, marker_last, marker_steps}
-use Rattle.parlog.specs.declared.Loaded.{Loaded}
-use Rattle.parlog.specs.declared.Loaded.TheVariants.{Accepted, Refused}
 use Rattle.parlog.specs.declared.Marker.{Marker}
 use Rattle.parlog.specs.declared.Refusal.{Refusal}
-use Rattle.parlog.specs.declared.Stepped.{Stepped}
-use Rattle.parlog.specs.declared.Stepped.TheVariants.{Unmoved}
 use Rattle.turn_forms.proofs.Marked.{beside-counts, beside-marker, head-marker, other-size, turn_away}
 use Rattle.turn_forms.specs.Away.{away_of}
 use Rattle.turn_forms.specs.Turned.{lent_with, marker_bytes, marker_in, turned_from, TurnedSays}
@@ -39,34 +36,26 @@ joined cs last steps a b len ea eb =
     let mb : List ℕ = marker_bytes (record { last = last; steps = steps }) in
     rw (ea, eb) (ap (λ (x : List ℕ). x ++ mb) (four cs len))
 
--- the first four copied
-pub copied : (l r : List ℕ) (k : ℕ) → length l ≡ 4 → k ≤ 4 → 4 ≤ k → paste l 0 r k ≡ take 4 r
-copied l r k len g h =
-    let e : k ≡ 4 = omega arith in
-    let n : length l ≤ 4 = omega arith in
-    let d : drop 4 l ≡ [] = drop_of_length-le l n in
-    rw (e, d) (append-nil (take 4 r))
-
 -- ---- the refusal of another size
 
-module _ (s : List ℕ) {a : Loaded} (is : a ≡ load_of s) where
-  pub away-refused : {f r : Refusal} → a ≡ Refused f → r ≡ refusal_of a → r ≡ away_of (load_of s)
+module _ (s : List ℕ) {a : Answer (ℕ × ℕ)} (is : a ≡ load_of s) where
+  pub away-refused : {f r : Refusal} → a ≡ Err f → r ≡ refusal_of a → r ≡ away_of (load_of s)
   away-refused e er = rw (← is, er, e)
 
-  pub away-accepted : {r c : ℕ} → a ≡ Accepted r c → refusal 8 0 ≡ away_of (load_of s)
+  pub away-accepted : {r c : ℕ} → a ≡ Ok (r, c) → refusal 8 0 ≡ away_of (load_of s)
   away-accepted e = rw (← is, e)
 
 -- ---- the turn
 
 -- THE LAW: counts of another size
-pub core-away : (lim : Limits) (s cs ps vs : List ℕ) (m : Marker) → eqb (length cs) 4 ≡ false → {f : Refusal} → f ≡ away_of (load_of s) → TurnedSays lim s cs ps vs m (turned_from m (Unmoved f)) cs ps vs
+pub core-away : (lim : Limits) (s cs ps vs : List ℕ) (m : Marker) → eqb (length cs) 4 ≡ false → {f : Refusal} → f ≡ away_of (load_of s) → TurnedSays lim s cs ps vs m (turned_from m (Err f)) cs ps vs
 core-away lim s cs ps vs m h ef =
     let k = turn_away (load_of s) lim s (lent_with cs m ps vs) refl (other-size cs m h) in
     record { turned = rw (k, beside-marker cs m, ef); counts = rw k (sym (beside-counts cs m)); procs = rw k; vars = rw k }
 
 -- THE LAW: a turn on the head that is counts and marker
 pub core-turned : (lim : Limits) (s cs ps vs : List ℕ) (m : Marker) → length cs ≡ 4 → {h : List ℕ} → h ≡ cs ++ marker_bytes m
-    → {a : Stepped} {h' p v : List ℕ} → TurnSays lim s (lent h ps vs) a h' p v
+    → {a : Answer Move} {h' p v : List ℕ} → TurnSays lim s (lent h ps vs) a h' p v
     → {c : List ℕ} → c ≡ take 4 h' → {t : Turned} → t ≡ turned_from (record { last = marker_last h'; steps = marker_steps h' }) a → TurnedSays lim s cs ps vs m t c p v
 core-turned lim s cs ps vs m len eh {a} {h'} told ec et =
     let k = rw eh at told in

@@ -1,4 +1,6 @@
 -- The laws of the marker beside the counts: its bytes and back, and the calls whose counts have another size.
+use Rattle.std.specs.Prelude.{Err, Ok}
+use Rattle.parlog.specs.Answer.{Answer}
 use mathlib.Core.Path.{◌∙◌, ◌≡◌, ap, refl}
 use mathlib.Core.Bool.{false}
 use mathlib.Core.List.{◌++◌, List}
@@ -16,11 +18,8 @@ use Rattle.parlog.specs.Load.{load_of, refusal}
 use Rattle.parlog.specs.Program.{Program, program_of}
 use Rattle.parlog.specs.TableRules.{full_size, lent_ok}
 use Rattle.parlog.specs.Tables.{head_size, Lent, marker_last, marker_steps}
-use Rattle.parlog.specs.declared.Loaded.{Loaded}
-use Rattle.parlog.specs.declared.Loaded.TheVariants.{Accepted, Refused}
 use Rattle.parlog.specs.declared.Marker.{Marker}
 use Rattle.parlog.specs.declared.Refusal.{Refusal}
-use Rattle.parlog.specs.declared.Stepped.TheVariants.{Unmoved}
 use Rattle.turn_forms.specs.Away.{away_of}
 use Rattle.turn_forms.specs.Turned.{marker_bytes, marker_in}
 
@@ -63,10 +62,10 @@ head-marker h =
 
 -- what such a call answers and leaves
 abbrev pub away : Refusal → Lent → StepCall
-away r l = record { answer = Unmoved r; lent = l }
+away r l = record { answer = Err r; lent = l }
 
 -- an image that is refused
-pub turn-refused : (lim : Limits) (s : List ℕ) (l : Lent) {f : Refusal} → load_of s ≡ Refused f → turn_call lim s l ≡ away f l
+pub turn-refused : (lim : Limits) (s : List ℕ) (l : Lent) {f : Refusal} → load_of s ≡ Err f → turn_call lim s l ≡ away f l
 unfolding turn_call enter
 turn-refused lim s l e = rw e
 
@@ -75,11 +74,11 @@ unfolding lent_ok full_size
 size-wrong lim pr l e = rw e
 
 -- a head of another size
-pub turn-sized : (lim : Limits) (s : List ℕ) (l : Lent) {r c : ℕ} → load_of s ≡ Accepted r c → eqb (length l.head) head_size ≡ false → turn_call lim s l ≡ away (refusal 8 0) l
+pub turn-sized : (lim : Limits) (s : List ℕ) (l : Lent) {r c : ℕ} → load_of s ≡ Ok (r, c) → eqb (length l.head) head_size ≡ false → turn_call lim s l ≡ away (refusal 8 0) l
 unfolding turn_call enter
 turn-sized lim s l {r} {c} e h = rw (e, size-wrong lim (program_of s r c) l h)
 
 -- THE LAW: both
-pub turn_away : (a : Loaded) (lim : Limits) (s : List ℕ) (l : Lent) → load_of s ≡ a → eqb (length l.head) head_size ≡ false → turn_call lim s l ≡ away (away_of a) l
-turn_away (Refused f) lim s l e h = turn-refused lim s l e
-turn_away (Accepted r c) lim s l e h = turn-sized lim s l e h
+pub turn_away : (a : Answer (ℕ × ℕ)) (lim : Limits) (s : List ℕ) (l : Lent) → load_of s ≡ a → eqb (length l.head) head_size ≡ false → turn_call lim s l ≡ away (away_of a) l
+turn_away (Err f) lim s l e h = turn-refused lim s l e
+turn_away (Ok (r, c)) lim s l e h = turn-sized lim s l e h

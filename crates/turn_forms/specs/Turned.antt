@@ -1,9 +1,10 @@
 -- A turn with the marker beside the counts.
+use Rattle.parlog.specs.declared.Move.{Move}
+use Rattle.parlog.specs.Answer.{Answer}
 use Rattle.std.specs.Prelude.{◌≡◌, [], ◌++◌, ◌∷◌, List, ◌%◌, ◌*◌, ◌+◌, ◌/◌, ℕ, drop, length, take}
 use Rattle.parlog.specs.Limits.{Limits}
 use Rattle.parlog.specs.Tables.{high, Lent, lent, low, u16_at}
 use Rattle.parlog.specs.declared.Marker.{Marker}
-use Rattle.parlog.specs.declared.Stepped.{Stepped}
 use Rattle.parlog.specs.Calls.{turn_call}
 use Rattle.turn_forms.specs.declared.Turned.{Turned}
 
@@ -20,7 +21,7 @@ unfoldable pub marker_in : List ℕ → Marker
 marker_in b = record { last = u16_at b 0; steps = u16_at b 2 + u16_at b 4 * 65536 }
 
 -- a marker and an answer together
-abbrev pub turned_from : Marker → Stepped → Turned
+abbrev pub turned_from : Marker → Answer Move → Turned
 turned_from m a = record { last = m.last; steps = m.steps; answer = a }
 
 -- Turns 2, 4: a turn with the marker beside the counts

@@ -8,14 +8,14 @@ ghost use Rattle.parlog.specs.Tables.{head_size, marker_last, marker_steps};
 ghost use Rattle.turn_forms.specs.Away.{away_of};
 ghost use Rattle.turn_forms.specs.Turned.{marker_bytes, TurnedSays, turned_from};
 
-use parlog::{Loaded, Marker, Refusal, Stepped, codes};
+use parlog::{Answer, Marker, Move, Refusal, codes};
 
 // What a turn hands back: the marker and the answer.
 #[derive(Clone, Copy)]
 pub struct Turned {
     pub last: u16,
     pub steps: u32,
-    pub answer: Stepped,
+    pub answer: Answer<Move>,
 }
 
 // The counts, and the marker behind them, as a head.
@@ -42,11 +42,7 @@ fn put_counts(counts: &mut [u8], head: &[u8])
     requires { (length counts.old ≡ 4) × (length head.now ≡ head_size) }
     ensures { counts.new ≡ take 4 head.now }
 {
-    let mut k = 0;
-    while k < 4 {
-        counts[k] = head[k];
-        k += 1;
-    }
+    counts.copy_from_slice(&head[..4]);
 }
 
 // The refusal of a call whose counts have another size: the image's comes first.
@@ -54,7 +50,7 @@ fn turned_away(image: &[u8]) -> Refusal
     ensures { result ≡ away_of (load_of image.now) }
 {
     let l = load::load(image);
-    let Loaded::Accepted(_, _) = l else {
+    let Ok(_) = l else {
         return load::refusal(l);
     };
     Refusal {
@@ -64,7 +60,7 @@ fn turned_away(image: &[u8]) -> Refusal
 }
 
 // The marker in a head, and the answer.
-fn hand_back(head: &[u8], answer: Stepped) -> Turned
+fn hand_back(head: &[u8], answer: Answer<Move>) -> Turned
     requires { length head.now ≡ head_size }
     ensures { result ≡ turned_from (record { last = marker_last head.now; steps = marker_steps head.now }) answer }
 {
@@ -72,8 +68,8 @@ fn hand_back(head: &[u8], answer: Stepped) -> Turned
     let steps = head::marker_steps(head);
     Turned {
         last: last as u16,
-        steps: steps,
-        answer: answer,
+        steps,
+        answer,
     }
 }
 
@@ -91,9 +87,9 @@ pub fn turn_core(
     if counts.len() != 4 {
         let f = turned_away(image);
         return Turned {
-            last: last,
-            steps: steps,
-            answer: Stepped::Unmoved(f),
+            last,
+            steps,
+            answer: Err(f),
         };
     }
     let mut head = join_head(counts, last, steps);
@@ -111,7 +107,7 @@ pub fn turn(
     procs: &mut [u8],
     vars: &mut [u8],
     marker: &mut Marker,
-) -> Stepped
+) -> Answer<Move>
     ensures { TurnedSays small image.now counts.old procs.old vars.old marker.old (turned_from marker.new result) counts.new procs.new vars.new }
 {
     let t = turn_core(image, counts, procs, vars, marker.last, marker.steps);

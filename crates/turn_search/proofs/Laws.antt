@@ -1,4 +1,6 @@
 -- One law for each way through the tests of one process.
+use Rattle.parlog.specs.declared.Term.{Term}
+use Rattle.std.specs.Prelude.{Option}
 use mathlib.Core.Path.{◌∙◌, ◌≡◌, ap, refl, sym}
 use mathlib.Core.Bool.{Bool, cond, false, not, true}
 use mathlib.Core.List.{List}
@@ -20,7 +22,6 @@ use Rattle.parlog.specs.Run.{can_move}
 use Rattle.parlog.specs.Scan.{every}
 use Rattle.parlog.specs.Tables.{at, noted, procs_of, State, vars_in}
 use Rattle.parlog.specs.Unify.{some_bound}
-use Rattle.parlog.specs.declared.Binding.{Binding}
 use Rattle.parlog.specs.declared.Process.{Process}
 use Rattle.turn_search.proofs.Saying.{note-says}
 use Rattle.turn_search.specs.Notes.{AllSaid, asks_of, tells}
@@ -68,7 +69,7 @@ asks_none (suc (suc (suc (suc (suc (suc (suc (suc t)))))))) a b c d e f g = refl
 -- ---- what a suspended process noted
 
 -- a count over four reads all of them
-pub noted-few : (vs : List Binding) (x : Process) {c k : ℕ} {ns : List ℕ} {b : Bool} → k ≡ x.count → c ≡ cond (ltb k 4) k 4 → ns ≡ x.notes → length ns ≡ 4
+pub noted-few : (vs : List (Option Term)) (x : Process) {c k : ℕ} {ns : List ℕ} {b : Bool} → k ≡ x.count → c ≡ cond (ltb k 4) k 4 → ns ≡ x.notes → length ns ≡ 4
     → b ≡ some_bound vs (take c ns) → b ≡ some_bound vs (noted x)
 unfolding noted
 noted-few vs x {c} {k} {ns} {b} ek ec en four e = rw (← ek, ← en) (e ∙ ap (some_bound vs) (ap (λ (j : ℕ). take j ns) ec ∙ go))

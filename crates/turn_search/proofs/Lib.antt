@@ -3,3 +3,4 @@ pub mod Saying
 pub mod Passing
 pub mod Order
 pub mod Laws
+pub mod Room

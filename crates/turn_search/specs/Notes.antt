@@ -1,28 +1,35 @@
 -- What one pass over the rows notes for each process about its children, and who can move by it.
-use Rattle.std.specs.Prelude.{◌≡◌, ◌||◌, Bool, cond, false, List, ◌<◌, ℕ, ltb, get_or, set}
+use Rattle.std.specs.Prelude.{◌≡◌, ◌||◌, Bool, cond, false, List, ◌<◌, ℕ, get_or, eqb, replicate, set}
 use Rattle.std.specs.Int.Bits.{bit_or}
-use Rattle.children.specs.Notes.{latest_bit, latest_in, none_silent, Noted, some_bad, some_good}
+use Rattle.children.specs.Notes.{good_note, hear, latest_bit, latest_in, none_silent, Noted, some_bad, some_good}
 use Rattle.children.specs.declared.Note.{Note}
 use Rattle.parlog.specs.Codes.{and_par, and_seq, equate, guard_eval, input_match, or_par, or_search, seq_search, Tag, try_clause}
-use Rattle.parlog.specs.declared.Found.{Found}
-use Rattle.parlog.specs.declared.Found.TheVariants.{At, Nothing}
 use Rattle.parlog.specs.declared.Process.{Process}
+use Rattle.turn_search.specs.declared.Notes.{Notes}
 
 -- what was said to process p: whether one has nothing to tell stands in a row of its own
-abbrev pub said_in : List ℕ → List ℕ → ℕ → ℕ
-said_in silent said p = bit_or (get_or silent p 0) (get_or said p 0)
+abbrev pub said_in : {w : ℕ} → Notes w → ℕ → ℕ
+said_in x p = bit_or (get_or x.silent p 0) (get_or x.said p 0)
 
 -- the note of process p, in four rows of numbers
-abbrev pub note_in : List ℕ → List ℕ → List ℕ → List ℕ → ℕ → Note
-note_in silent said latest lowest p = record { said = said_in silent said p; latest = get_or latest p 0; lowest = get_or lowest p 0 }
+abbrev pub note_in : {w : ℕ} → Notes w → ℕ → Note
+note_in x p = record { said = said_in x p; latest = get_or x.latest p 0; lowest = get_or x.lowest p 0 }
 
 -- row i becomes q, where this holds
 abbrev pub kept : Bool → List ℕ → ℕ → ℕ → List ℕ
 kept b rows i q = cond b (set rows i q) rows
 
+-- nobody was heard
+abbrev pub none_heard : (w : ℕ) → Notes w
+none_heard w = record { silent = replicate w 0; said = replicate w 0; latest = replicate w 0; lowest = replicate w 0 }
+
+-- process i hears q, which tells f
+abbrev pub told : {w : ℕ} → Notes w → ℕ → ℕ → ℕ → Notes w
+told x i f q = record { silent = x.silent; said = set x.said i (hear (said_in x i) f); latest = kept (eqb (said_in x i) 0) x.latest i q; lowest = kept (eqb f good_note) x.lowest i q }
+
 -- of each of the n the children from row q on were heard
-unfoldable pub AllNoted : List Process → ℕ → ℕ → List ℕ → List ℕ → List ℕ → List ℕ → Type 0
-AllNoted ps n q silent said latest lowest = (p : ℕ) → p < n → (get_or silent p 0 < 2) × (get_or said p 0 < 16) × Noted ps p q (note_in silent said latest lowest p)
+unfoldable pub AllNoted : {w : ℕ} → List Process → ℕ → ℕ → Notes w → Type 0
+AllNoted ps n q x = (p : ℕ) → p < n → (get_or x.silent p 0 < 2) × (get_or x.said p 0 < 16) × Noted ps p q (note_in x p)
 
 -- what the children of process p said, once all were heard
 abbrev pub AllSaid : List Process → ℕ → ℕ → Type 0
@@ -63,7 +70,3 @@ asks_of guard_eval = latest_bit
 asks_of equate = 0
 
 -- ---- the search
-
--- the number, where it is below n
-abbrev pub found_in : ℕ → ℕ → Found
-found_in n v = cond (ltb v n) (At v) Nothing

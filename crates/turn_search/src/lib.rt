@@ -1,27 +1,25 @@
 // Whose turn it is: one pass from the last row down, in which every process is asked whether it can move, and heard by its parent.
 #![tactic(auto)]
 
-ghost use Rattle.std.specs.Prelude.{◌≡◌, cond, ◌*◌, ◌≤◌, ◌<◌, suc, ℕ, eqb, ltb, length, set};
-ghost use Rattle.children.specs.Notes.{good_note, hear};
+ghost use Rattle.std.specs.Prelude.{◌≡◌, cond, ◌*◌, ◌≤◌, ◌<◌, suc, ℕ, ltb, length, Some};
 ghost use Rattle.children.specs.Telling.{Tells};
 ghost use Rattle.parlog.specs.Codes.{tag_of};
 ghost use Rattle.parlog.specs.Program.{Program};
 ghost use Rattle.parlog.specs.Run.{can_move, turn_of};
-ghost use Rattle.parlog.specs.Scan.{or_else};
 ghost use Rattle.parlog.specs.Tables.{at, cell_size, noted, procs_of, row_size, vars_in};
 ghost use Rattle.parlog.specs.Unify.{some_bound};
-ghost use Rattle.parlog.specs.declared.Found.TheVariants.{At};
 ghost use Rattle.move_plan.specs.Plans.{state_in};
 ghost use Rattle.tree.specs.Family.{Falls};
-ghost use Rattle.turn_search.specs.Notes.{AllNoted, AllSaid, asks_of, found_in, kept, note_in, said_in, tells};
+ghost use Rattle.turn_search.specs.Notes.{AllNoted, AllSaid, asks_of, none_heard, note_in, said_in, tells, told};
 
 use children::{Note, Told};
-use parlog::{Found, codes};
+use parlog::codes;
 
 // Whose turn it is, and what its children report.
+// Kept, no `Option` of a pair: `run::WhoseSays` says of `who` alone that it follows from the tables, whatever the program.
 #[derive(Clone, Copy)]
 pub struct Turn {
-    pub who: Found,
+    pub who: Option<usize>,
     pub told: Told,
 }
 
@@ -65,17 +63,11 @@ fn tells(tag: u8, s: u8) -> bool
     s & (k % HALF) != k / HALF
 }
 
-// The places for notes in a row.
-const NOTES: usize = codes::MOST_NOTES as usize;
-
-// No row has more notes than that.
+// No row has more notes than there are places for.
 fn few(count: u8) -> usize
     ensures { (result ≡ cond (ltb count 4) count 4) × (result ≤ 4) }
 {
-    if count < codes::MOST_NOTES {
-        return count as usize;
-    }
-    NOTES
+    usize::from(count.min(codes::MOST_NOTES))
 }
 
 // One of the variables that process p noted is bound.
@@ -112,222 +104,141 @@ fn can_move(procs: &[u8], n: usize, vars: &[u8], m: usize, p: usize, s: u8) -> b
 
 // ---- the notes of all
 
-// What is noted for process p.
-fn note_at(silent: &[u8], said: &[u8], latest: &[u16], lowest: &[u16], p: usize) -> Note
-    requires { (p < length silent.now) × (p < length said.now) × (p < length latest.now) × (p < length lowest.now) }
-    ensures { result ≡ note_in silent.now said.now latest.now lowest.now p }
-{
-    Note {
-        said: silent[p] | said[p],
-        latest: latest[p],
-        lowest: lowest[p],
+// What is noted for each of so many rows: whether one child is silent and what the others said, each in bits, the latest, the lowest that succeeded.
+#[derive(Drop)]
+struct Notes<const W: usize> {
+    silent: [u8; W],
+    said: [u8; W],
+    latest: [u16; W],
+    lowest: [u16; W],
+}
+
+impl<const W: usize> Notes<W> {
+    // Nobody was heard.
+    fn new() -> Notes<W>
+        ensures { result ≡ none_heard W }
+    {
+        Notes {
+            silent: [0; W],
+            said: [0; W],
+            latest: [0; W],
+            lowest: [0; W],
+        }
     }
-}
 
-// Row i becomes q, where this holds.
-fn keep(rows: &mut [u16], yes: bool, i: usize, q: u16)
-    requires { i < length rows.old }
-    ensures { rows.new ≡ kept yes rows.old i q }
-{
-    if yes {
-        rows[i] = q;
+    // What was said to process p.
+    fn said_to(&self, p: usize) -> u8
+        requires { p < W }
+        ensures { result ≡ said_in self.now p }
+    {
+        self.silent[p] | self.said[p]
     }
-}
 
-// Process `up` hears q, which tells f.
-fn hear_told(
-    silent: &[u8],
-    said: &mut [u8],
-    latest: &mut [u16],
-    lowest: &mut [u16],
-    up: usize,
-    f: u8,
-    q: u16,
-)
-    requires { (up < length silent.now) × (up < length said.old) × (up < length latest.old) × (up < length lowest.old) }
-    ensures { (said.new ≡ set said.old up (hear (said_in silent.now said.old up) f)) × (latest.new ≡ kept (eqb (said_in silent.now said.old up) 0) latest.old up q) × (lowest.new ≡ kept (eqb f good_note) lowest.old up q) }
-{
-    let s = silent[up] | said[up];
-    let t = children::with(s, f);
-    said[up] = t;
-    keep(latest, s == 0, up, q);
-    keep(lowest, f == children::SUCCEEDED, up, q);
-}
+    // What is noted for process p.
+    fn note_of(&self, p: usize) -> Note
+        requires { p < W }
+        ensures { result ≡ note_in self.now p }
+    {
+        Note {
+            said: self.said_to(p),
+            latest: self.latest[p],
+            lowest: self.lowest[p],
+        }
+    }
 
-// The parent of process q hears it; process 0 has none.
-fn hear_row(
-    procs: &[u8],
-    n: usize,
-    w: usize,
-    silent: &mut [u8],
-    said: &mut [u8],
-    latest: &mut [u16],
-    lowest: &mut [u16],
-    q: usize,
-)
-    requires { (n * row_size ≤ length procs.now) × (n ≤ w) × (q < n) × Falls (procs_of procs.now n) × (length silent.old ≡ w) × (length said.old ≡ w) × (length latest.old ≡ w) × (length lowest.old ≡ w) × AllNoted (procs_of procs.now n) n (suc q) silent.old said.old latest.old lowest.old × (w ≤ 512) }
-    ensures { (length silent.new ≡ w) × (length said.new ≡ w) × (length latest.new ≡ w) × (length lowest.new ≡ w) × AllNoted (procs_of procs.now n) n q silent.new said.new latest.new lowest.new }
-{
-    let up = rows::parent_at(procs, n, q) as usize;
-    if up < q {
-        let f = children::note_of(procs, n, q);
-        if f == children::SILENT {
-            silent[up] = children::SILENT;
-        } else {
-            hear_told(silent, said, latest, lowest, up, f, q as u16);
+    // Process `up` hears q, which tells f.
+    fn hear(&mut self, up: usize, f: u8, q: u16)
+        requires { up < W }
+        ensures { self.new ≡ told self.old up f q }
+    {
+        let s = self.said_to(up);
+        self.said[up] = children::with(s, f);
+        if s == 0 {
+            self.latest[up] = q;
+        }
+        if f == children::SUCCEEDED {
+            self.lowest[up] = q;
+        }
+    }
+
+    // The parent of process q hears it; process 0 has none.
+    fn hear_row(&mut self, procs: &[u8], n: usize, q: usize)
+        requires { (n * row_size ≤ length procs.now) × (n ≤ W) × (W ≤ 512) × (q < n) × Falls (procs_of procs.now n) × AllNoted (procs_of procs.now n) n (suc q) self.old }
+        ensures { AllNoted (procs_of procs.now n) n q self.new }
+    {
+        let up = rows::parent_at(procs, n, q) as usize;
+        if up < q {
+            let f = children::note_of(procs, n, q);
+            if f == children::SILENT {
+                self.silent[up] = children::SILENT;
+            } else {
+                self.hear(up, f, q as u16);
+            }
         }
     }
 }
 
 // ---- whose turn it is
 
-// q where this holds, else what was found before.
-fn found(yes: bool, q: usize, before: usize) -> usize
-    ensures { result ≡ cond yes q before }
-{
-    if yes { q } else { before }
-}
-
-// The first of two numbers that is below n.
-fn first_below(n: usize, a: usize, b: usize) -> Found
-    ensures { result ≡ or_else (found_in n a) (found_in n b) }
-{
-    if a < n {
-        return Found::At(a);
-    }
-    if b < n {
-        return Found::At(b);
-    }
-    Found::Nothing
-}
-
 // The next process behind the last that can move, else the lowest that can: one pass over the rows, in which each is heard by its parent.
-fn pass(
+fn pass<const W: usize>(
     procs: &[u8],
     n: usize,
     vars: &[u8],
     m: usize,
     last: usize,
-    w: usize,
-    silent: &mut [u8],
-    said: &mut [u8],
-    latest: &mut [u16],
-    lowest: &mut [u16],
-) -> Found
-    requires { (n * row_size ≤ length procs.now) × (n ≤ w) × (m * cell_size ≤ length vars.now) × Falls (procs_of procs.now n) × (length silent.old ≡ w) × (length said.old ≡ w) × (length latest.old ≡ w) × (length lowest.old ≡ w) × AllNoted (procs_of procs.now n) n n silent.old said.old latest.old lowest.old × (w ≤ 512) }
-    ensures { ((pr : Program) → result ≡ turn_of (can_move pr (state_in procs.now n vars.now m)) n last) × (length silent.new ≡ w) × (length said.new ≡ w) × (length latest.new ≡ w) × (length lowest.new ≡ w) × AllNoted (procs_of procs.now n) n 0 silent.new said.new latest.new lowest.new }
+    notes: &mut Notes<W>,
+) -> Option<usize>
+    requires { (n * row_size ≤ length procs.now) × (n ≤ W) × (W ≤ 512) × (m * cell_size ≤ length vars.now) × Falls (procs_of procs.now n) × AllNoted (procs_of procs.now n) n n notes.old }
+    ensures { ((pr : Program) → result ≡ turn_of (can_move pr (state_in procs.now n vars.now m)) n last) × AllNoted (procs_of procs.now n) n 0 notes.new }
 {
-    let mut behind = n;
-    let mut round = n;
-    let mut q = n;
-    while 0 < q {
-        q -= 1;
-        let s = silent[q] | said[q];
-        let can = can_move(procs, n, vars, m, q, s);
-        let near = found(can, q, behind);
-        behind = found(last < q, near, behind);
-        round = found(can, q, round);
-        hear_row(procs, n, w, silent, said, latest, lowest, q);
+    let mut behind = None;
+    let mut round = None;
+    for q in (0..n).rev() {
+        let s = notes.said_to(q);
+        if can_move(procs, n, vars, m, q, s) {
+            round = Some(q);
+            if last < q {
+                behind = round;
+            }
+        }
+        notes.hear_row(procs, n, q);
     }
-    first_below(n, behind, round)
+    behind.or(round)
 }
 
 // What the children of that process report.
-fn told_of(
-    procs: &[u8],
-    n: usize,
-    w: usize,
-    silent: &[u8],
-    said: &[u8],
-    latest: &[u16],
-    lowest: &[u16],
-    who: Found,
-) -> Told
-    requires { (n * row_size ≤ length procs.now) × (n ≤ w) × (length silent.now ≡ w) × (length said.now ≡ w) × (length latest.now ≡ w) × (length lowest.now ≡ w) × AllNoted (procs_of procs.now n) n 0 silent.now said.now latest.now lowest.now × ((p : ℕ) → who ≡ At p → p < n) × (w ≤ 512) }
-    ensures { (p : ℕ) → who ≡ At p → Tells (procs_of procs.now n) p result }
+fn told_of<const W: usize>(procs: &[u8], n: usize, notes: &Notes<W>, who: Option<usize>) -> Told
+    requires { (n * row_size ≤ length procs.now) × (n ≤ W) × AllNoted (procs_of procs.now n) n 0 notes.now × ((p : ℕ) → who ≡ Some p → p < n) }
+    ensures { (p : ℕ) → who ≡ Some p → Tells (procs_of procs.now n) p result }
 {
-    let Found::At(p) = who else {
+    let Some(p) = who else {
         return children::nothing();
     };
-    let x = note_at(silent, said, latest, lowest, p);
-    children::told_by(procs, n, x)
+    children::told_by(procs, n, notes.note_of(p))
 }
 
 // Up to so many rows the notes take little room, which is soon set to zero.
 const FEW: usize = 64;
 
-// The same as `next`, for few rows.
-fn next_few(procs: &[u8], n: usize, vars: &[u8], m: usize, last: usize) -> Turn
-    requires { (n * row_size ≤ length procs.now) × (n ≤ 64) × (m * cell_size ≤ length vars.now) × Falls (procs_of procs.now n) × (last < n) }
-    ensures { ((pr : Program) → result.who ≡ turn_of (can_move pr (state_in procs.now n vars.now m)) n last) × ((p : ℕ) → result.who ≡ At p → Tells (procs_of procs.now n) p result.told) }
+// The same as `next`, for as many rows as the notes have room for.
+fn next_in<const W: usize>(procs: &[u8], n: usize, vars: &[u8], m: usize, last: usize) -> Turn
+    requires { (n * row_size ≤ length procs.now) × (n ≤ W) × (W ≤ 512) × (m * cell_size ≤ length vars.now) × Falls (procs_of procs.now n) × (last < n) }
+    ensures { ((pr : Program) → result.who ≡ turn_of (can_move pr (state_in procs.now n vars.now m)) n last) × ((p : ℕ) → result.who ≡ Some p → Tells (procs_of procs.now n) p result.told) }
 {
-    let mut silent = [0u8; FEW];
-    let mut said = [0u8; FEW];
-    let mut latest = [0u16; FEW];
-    let mut lowest = [0u16; FEW];
-    let who = pass(
-        procs,
-        n,
-        vars,
-        m,
-        last,
-        FEW,
-        &mut silent,
-        &mut said,
-        &mut latest,
-        &mut lowest,
-    );
-    let told = told_of(procs, n, FEW, &silent, &said, &latest, &lowest, who);
-    Turn {
-        who: who,
-        told: told,
-    }
-}
-
-// The same, for as many as there can be.
-fn next_many(procs: &[u8], n: usize, vars: &[u8], m: usize, last: usize) -> Turn
-    requires { (n * row_size ≤ length procs.now) × (n ≤ 512) × (m * cell_size ≤ length vars.now) × Falls (procs_of procs.now n) × (last < n) }
-    ensures { ((pr : Program) → result.who ≡ turn_of (can_move pr (state_in procs.now n vars.now m)) n last) × ((p : ℕ) → result.who ≡ At p → Tells (procs_of procs.now n) p result.told) }
-{
-    let mut silent = [0u8; codes::MOST_PROCS];
-    let mut said = [0u8; codes::MOST_PROCS];
-    let mut latest = [0u16; codes::MOST_PROCS];
-    let mut lowest = [0u16; codes::MOST_PROCS];
-    let who = pass(
-        procs,
-        n,
-        vars,
-        m,
-        last,
-        codes::MOST_PROCS,
-        &mut silent,
-        &mut said,
-        &mut latest,
-        &mut lowest,
-    );
-    let told = told_of(
-        procs,
-        n,
-        codes::MOST_PROCS,
-        &silent,
-        &said,
-        &latest,
-        &lowest,
-        who,
-    );
-    Turn {
-        who: who,
-        told: told,
-    }
+    let mut notes = Notes::<W>::new();
+    let who = pass(procs, n, vars, m, last, &mut notes);
+    let told = told_of(procs, n, &notes, who);
+    Turn { who, told }
 }
 
 // The next process behind the last that can move, coming round to the last itself, and what its children report.
 pub fn next(procs: &[u8], n: usize, vars: &[u8], m: usize, last: usize) -> Turn
     requires { (n * row_size ≤ length procs.now) × (n ≤ 512) × (m * cell_size ≤ length vars.now) × Falls (procs_of procs.now n) × (last < n) }
-    ensures { ((pr : Program) → result.who ≡ turn_of (can_move pr (state_in procs.now n vars.now m)) n last) × ((p : ℕ) → result.who ≡ At p → Tells (procs_of procs.now n) p result.told) }
+    ensures { ((pr : Program) → result.who ≡ turn_of (can_move pr (state_in procs.now n vars.now m)) n last) × ((p : ℕ) → result.who ≡ Some p → Tells (procs_of procs.now n) p result.told) }
 {
     if n <= FEW {
-        return next_few(procs, n, vars, m, last);
+        return next_in::<FEW>(procs, n, vars, m, last);
     }
-    next_many(procs, n, vars, m, last)
+    next_in::<{ codes::MOST_PROCS }>(procs, n, vars, m, last)
 }

@@ -1,4 +1,5 @@
 -- What a unifier binds: variables below the count, each to a constant or a lower variable.
+use Rattle.std.specs.Prelude.{Option, None, Some}
 use mathlib.Core.Path.{◌≡◌, refl}
 use mathlib.Core.Bool.{Bool, cond, false, true}
 use mathlib.Core.List.{[], ◌++◌, ◌∷◌, List}
@@ -13,8 +14,6 @@ use Rattle.parlog.specs.Sane.{all_of}
 use Rattle.parlog.specs.TableRules.{binding_ok}
 use Rattle.parlog.specs.Tables.{binding_of, number_code}
 use Rattle.parlog.specs.Unify.{bound, changed, chase, clash, follow, joined, meet, meet_vars, Outcome, unify, unify_from, unify_one, value, value_of}
-use Rattle.parlog.specs.declared.Binding.{Binding}
-use Rattle.parlog.specs.declared.Binding.TheVariants.{Bound, Free}
 use Rattle.parlog.specs.declared.Change.{Change}
 use Rattle.parlog.specs.declared.Met.TheVariants.{Bind, Clash, Same}
 use Rattle.parlog.specs.declared.Pair.{Pair}
@@ -24,19 +23,19 @@ use Rattle.unify.specs.Pending.{AllLower, Lowers, no_change, no_pair, OutcomeLow
 
 -- ---- values
 
-top-follow : (a : ℕ) (b : Binding) (f : ℕ → Term) → ((w : ℕ) → w < a → top (f w) ≤ suc w) → top (follow a b f) ≤ suc a
+top-follow : (a : ℕ) (b : Option Term) (f : ℕ → Term) → ((w : ℕ) → w < a → top (f w) ≤ suc w) → top (follow a b f) ≤ suc a
 unfolding top follow
-top-follow a Free f h = omega arith
-top-follow a (Bound (Const c)) f h = omega arith
-top-follow a (Bound (Var w)) f h = split (leb a w) (λ e. rw e (omega arith)) (λ e. rw e (omega (arith, h w (leb-false a w e), leb-false a w e)))
+top-follow a None f h = omega arith
+top-follow a (Some (Const c)) f h = omega arith
+top-follow a (Some (Var w)) f h = split (leb a w) (λ e. rw e (omega arith)) (λ e. rw e (omega (arith, h w (leb-false a w e), leb-false a w e)))
 
-top-chase : (vs : List Binding) (n a : ℕ) → top (chase vs n a) ≤ suc a
+top-chase : (vs : List (Option Term)) (n a : ℕ) → top (chase vs n a) ≤ suc a
 unfolding chase
 top-chase vs zero a = unfold top in (omega arith)
 top-chase vs (suc n) a = top-follow a (binding_of vs a) (λ w. chase vs n w) (λ w lt. top-chase vs n w)
 
 -- a value is no higher than its term
-pub top-value : (vs : List Binding) (t : Term) → top (value vs t) ≤ top t
+pub top-value : (vs : List (Option Term)) (t : Term) → top (value vs t) ≤ top t
 unfolding value value_of
 top-value vs (Const c) = omega arith
 top-value vs (Var v) = unfold top in (top-chase vs (suc v) v)
@@ -66,14 +65,14 @@ module _ (n : ℕ) (cs : List Change) (h : AllLower n cs) where
   lowers-meet (Var v) (Const b) hx hy = lowers-snoc n cs (record { var = v; to = Const b }) h (hx, omega arith)
   lowers-meet (Var v) (Var w) hx hy = lowers-join v w hx hy (ltb v w) (ltb w v) refl refl
 
-lowers-one : (n : ℕ) (vs : List Binding) (o : Outcome) (e : Pair) → OutcomeLowers n o → top e.left ≤ n → top e.right ≤ n → OutcomeLowers n (unify_one vs o e)
+lowers-one : (n : ℕ) (vs : List (Option Term)) (o : Outcome) (e : Pair) → OutcomeLowers n o → top e.left ≤ n → top e.right ≤ n → OutcomeLowers n (unify_one vs o e)
 unfolding unify_one
 lowers-one n vs clash e h p q = tt
 lowers-one n vs (bound cs) e h p q =
     lowers-meet n cs h (value (changed vs cs) e.left) (value (changed vs cs) e.right)
     (omega (arith, top-value (changed vs cs) e.left)) (omega (arith, top-value (changed vs cs) e.right))
 
-pub lowers-all : (n : ℕ) (vs : List Binding) (es : List Pair) (o : Outcome) → OutcomeLowers n o
+pub lowers-all : (n : ℕ) (vs : List (Option Term)) (es : List Pair) (o : Outcome) → OutcomeLowers n o
     → ((k : ℕ) → k < length es → (top (get_or es k no_pair).left ≤ n) × (top (get_or es k no_pair).right ≤ n)) → OutcomeLowers n (unify_from vs o es)
 unfolding unify_from
 lowers-all n vs [] o h b = h
@@ -85,25 +84,25 @@ lowers_at n [] h k lt = absurd (omega arith)
 lowers_at n (c ∷ cs) h zero lt = h.0
 lowers_at n (c ∷ cs) h (suc k) lt = lowers_at n cs h.1 k (omega arith)
 
-pub unify-lowers : (n : ℕ) (vs : List Binding) (es : List Pair)
+pub unify-lowers : (n : ℕ) (vs : List (Option Term)) (es : List Pair)
     → ((k : ℕ) → k < length es → (top (get_or es k no_pair).left ≤ n) × (top (get_or es k no_pair).right ≤ n)) → OutcomeLowers n (unify vs es)
 unfolding unify
 unify-lowers n vs es b = lowers-all n vs es (bound []) tt b
 
 -- ---- what a writer of the table asks
 
-number-low : (n v : ℕ) (t : Term) → v < n → n ≤ 16777216 → binding_ok v (Bound t) ≡ true → number_code (Bound t) < 16777216
+number-low : (n v : ℕ) (t : Term) → v < n → n ≤ 16777216 → binding_ok v (Some t) ≡ true → number_code (Some t) < 16777216
 number-low n v (Const c) h g e = omega (arith, leb-true c 32767 e)
 number-low n v (Var w) h g e = omega (arith, ltb-true w v e)
 
 module _ (n : ℕ) (g : n ≤ 16777216) where
-  change-low : (c : Change) → change_in n c ≡ true → (c.var < n) × (number_code (Bound c.to) < 16777216)
+  change-low : (c : Change) → change_in n c ≡ true → (c.var < n) × (number_code (Some c.to) < 16777216)
   change-low c e =
-      let a = and-true (ltb c.var n) (binding_ok c.var (Bound c.to)) e in
+      let a = and-true (ltb c.var n) (binding_ok c.var (Some c.to)) e in
       let h : c.var < n = ltb-true c.var n a.0 in
       (h, number-low n c.var c.to h g a.1)
 
-  changes-low : (cs : List Change) → changes_in n cs ≡ true → (k : ℕ) → k < length cs → ((get_or cs k no_change).var < n) × (number_code (Bound (get_or cs k no_change).to) < 16777216)
+  changes-low : (cs : List Change) → changes_in n cs ≡ true → (k : ℕ) → k < length cs → ((get_or cs k no_change).var < n) × (number_code (Some (get_or cs k no_change).to) < 16777216)
   unfolding all_of
   changes-low [] e k h = absurd (omega arith)
   changes-low (c ∷ cs) e zero h = change-low c (and-true (change_in n c) (changes_in n cs) e).0

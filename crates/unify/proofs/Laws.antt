@@ -1,6 +1,7 @@
 -- The laws of pending bindings: one for each way through the code.
+use Rattle.std.specs.Prelude.{Option, None, Some}
 use mathlib.Core.Path.{◌∙◌, ◌≡◌, ap, refl, sym}
-use mathlib.Core.Bool.{Bool, cond, false, not, true}
+use mathlib.Core.Bool.{◌||◌, Bool, cond, false, not, true}
 use mathlib.Core.List.{[], ◌∷◌, List}
 use Prim.Native.Nat.{◌*◌, ◌+◌, ◌<◌, ◌≤◌, suc, zero, ℕ}
 use lib.Dec.{eqb, leb}
@@ -9,10 +10,9 @@ use lib.Seq.{drop-cons, get_or-set_other, get_or-set_same, get_or-take, length-t
 use borrow.Author.Tests.{eqb-false, eqb-true, le-leb, leb-false, lt-leb}
 use native.Mathlib.Omega.{arith}
 use native.Mathlib.Numerals.{add-one}
+use Rattle.std.specs.List.{list_any}
 use Rattle.parlog.specs.Tables.{binding_at, binding_by, binding_of, number_at, sort_at, vars_in}
 use Rattle.parlog.specs.Unify.{bound, changed, chase, clash, follow, is_bound, joined, meet, Outcome, some_bound, unify_from, unify_one, value, value_of}
-use Rattle.parlog.specs.declared.Binding.{Binding}
-use Rattle.parlog.specs.declared.Binding.TheVariants.{Bound, Free}
 use Rattle.parlog.specs.declared.Change.{Change}
 use Rattle.parlog.specs.declared.Met.{Met}
 use Rattle.parlog.specs.declared.Met.TheVariants.{Bind}
@@ -23,7 +23,10 @@ use Rattle.unify.specs.Pending.{bound_in, bound_vars, latest, newer_of, no_chang
 use Rattle.unify.specs.declared.Unified.{Unified}
 use Rattle.vars.proofs.Tables.{vars-at, vars-length, vars-past}
 
--- ---- what is left of the first n
+-- ---- what is left of a row, and of its first n
+
+pub rest_on : {A : Type 0} (xs : List A) (k : ℕ) (d : A) → k < length xs → drop k xs ≡ get_or xs k d ∷ drop (k + 1) xs
+rest_on xs k d h = drop-cons xs k d h ∙ rw add-one
 
 pub rest_more : {A : Type 0} (xs : List A) (n k : ℕ) (d : A) → k < n → n ≤ length xs → drop k (take n xs) ≡ get_or xs k d ∷ drop (k + 1) (take n xs)
 rest_more xs n k d h g =
@@ -38,29 +41,29 @@ test : (t : Bool) (z : Term) {x y : Term} → (t ≡ false → x ≡ y) → cond
 test true z h = refl
 test false z h = h refl
 
-follow-cong : (a : ℕ) (c : Binding) (f g : ℕ → Term) → ((w : ℕ) → w < a → f w ≡ g w) → follow a c f ≡ follow a c g
+follow-cong : (a : ℕ) (c : Option Term) (f g : ℕ → Term) → ((w : ℕ) → w < a → f w ≡ g w) → follow a c f ≡ follow a c g
 unfolding follow
-follow-cong a Free f g h = refl
-follow-cong a (Bound (Const c)) f g h = refl
-follow-cong a (Bound (Var w)) f g h = test (leb a w) (Var a) (λ e. h w (leb-false a w e))
+follow-cong a None f g h = refl
+follow-cong a (Some (Const c)) f g h = refl
+follow-cong a (Some (Var w)) f g h = test (leb a w) (Var a) (λ e. h w (leb-false a w e))
 
-chase-fuel : (l : List Binding) (n m a : ℕ) → a < n → a < m → chase l n a ≡ chase l m a
+chase-fuel : (l : List (Option Term)) (n m a : ℕ) → a < n → a < m → chase l n a ≡ chase l m a
 unfolding chase
 chase-fuel l zero m a h k = absurd (omega arith)
 chase-fuel l (suc n) zero a h k = absurd (omega arith)
 chase-fuel l (suc n) (suc m) a h k = follow-cong a (binding_of l a) (λ w. chase l n w) (λ w. chase l m w) (λ w lt. chase-fuel l n m w (omega arith) (omega arith))
 
 -- the equation by which value_of is used: no fuel in it
-pub value-step : (vs : List Binding) (a : ℕ) → value_of vs a ≡ follow a (binding_of vs a) (λ w. value_of vs w)
+pub value-step : (vs : List (Option Term)) (a : ℕ) → value_of vs a ≡ follow a (binding_of vs a) (λ w. value_of vs w)
 unfolding value_of chase
 value-step l a = follow-cong a (binding_of l a) (λ w. chase l a w) (λ w. chase l (suc w) w) (λ w lt. chase-fuel l a (suc w) w lt (omega arith))
 
-module _ (vs : List Binding) (a : ℕ) {b : Binding} (is : b ≡ binding_of vs a) where
-  pub value-unbound : b ≡ Free → value_of vs a ≡ Var a
+module _ (vs : List (Option Term)) (a : ℕ) {b : Option Term} (is : b ≡ binding_of vs a) where
+  pub value-unbound : b ≡ None → value_of vs a ≡ Var a
   unfolding follow
   value-unbound e = value-step vs a ∙ rw (sym is ∙ e)
 
-  module _ {t : Term} (e : b ≡ Bound t) where
+  module _ {t : Term} (e : b ≡ Some t) where
     pub value-const : {c : ℕ} → t ≡ Const c → value_of vs a ≡ t
     unfolding follow
     value-const f = value-step vs a ∙ rw (sym is ∙ e, f)
@@ -75,32 +78,31 @@ module _ (vs : List Binding) (a : ℕ) {b : Binding} (is : b ≡ binding_of vs a
 
 -- ---- the binding under pending changes
 
-latest-is : (vs : List Binding) (cs : List Change) (v : ℕ) → v < length vs → latest cs (get_or vs v Free) v ≡ get_or (changed vs cs) v Free
+latest-is : (vs : List (Option Term)) (cs : List Change) (v : ℕ) → v < length vs → latest cs (get_or vs v None) v ≡ get_or (changed vs cs) v None
 unfolding latest changed
 latest-is vs [] v h = refl
 latest-is vs (c ∷ cs) v h =
-    ap (λ (b : Binding). latest cs b v) (one c (eqb c.var v) refl)
-    ∙ latest-is (set vs c.var (Bound c.to)) cs v (rw length-set h)
+    ap (λ (b : Option Term). latest cs b v) (one c (eqb c.var v) refl)
+    ∙ latest-is (set vs c.var (Some c.to)) cs v (rw length-set h)
   where
-    one : (c : Change) (t : Bool) → eqb c.var v ≡ t → newer_of c (get_or vs v Free) v ≡ get_or (set vs c.var (Bound c.to)) v Free
-    one c true e = unfold newer_of in (rw (e, ← eqb-true c.var v e, get_or-set_same vs c.var (Bound c.to) Free (rw (eqb-true c.var v e) h)))
-    one c false e = unfold newer_of in (rw (e, get_or-set_other vs c.var v (Bound c.to) Free (λ q. eqb-false c.var v e (sym q))))
+    one : (c : Change) (t : Bool) → eqb c.var v ≡ t → newer_of c (get_or vs v None) v ≡ get_or (set vs c.var (Some c.to)) v None
+    one c true e = unfold newer_of in (rw (e, ← eqb-true c.var v e, get_or-set_same vs c.var (Some c.to) None (rw (eqb-true c.var v e) h)))
+    one c false e = unfold newer_of in (rw (e, get_or-set_other vs c.var v (Some c.to) None (λ q. eqb-false c.var v e (sym q))))
 
-pub under_at : (l : List ℕ) (n : ℕ) (cs : List Change) (v : ℕ) → v < n → {row b : Binding} → row ≡ binding_of (vars_in l n) v → b ≡ latest cs row v → b ≡ binding_of (under l n cs) v
+pub under_at : (l : List ℕ) (n : ℕ) (cs : List Change) (v : ℕ) → v < n → {row b : Option Term} → row ≡ binding_of (vars_in l n) v → b ≡ latest cs row v → b ≡ binding_of (under l n cs) v
 unfolding under
-under_at l n cs v h p q = q ∙ ap (λ (r : Binding). latest cs r v) p ∙ latest-is (vars_in l n) cs v (rw vars-length h)
+under_at l n cs v h p q = q ∙ ap (λ (r : Option Term). latest cs r v) p ∙ latest-is (vars_in l n) cs v (rw vars-length h)
 
 -- ---- the loop over pending changes
 
-module _ (xs : List Change) (n k : ℕ) (h : k < n) (g : n ≤ length xs) where
-  pub latest-more : (b c : Binding) (v : ℕ) → c ≡ newer_of (get_or xs k no_change) b v → latest (drop (k + 1) (take n xs)) c v ≡ latest (drop k (take n xs)) b v
+module _ (xs : List Change) (k : ℕ) where
+  pub latest-more : k < length xs → (b c : Option Term) (v : ℕ) → c ≡ newer_of (get_or xs k no_change) b v → latest (drop (k + 1) xs) c v ≡ latest (drop k xs) b v
   unfolding latest
-  latest-more b c v e = rw (rest_more xs n k no_change h g, e)
+  latest-more h b c v e = rw (rest_on xs k no_change h, e)
 
-module _ (xs : List Change) (n k : ℕ) (h : n ≤ k) (g : n ≤ length xs) where
-  pub latest-done : (b : Binding) (v : ℕ) → b ≡ latest (drop k (take n xs)) b v
+  pub latest-done : length xs ≤ k → (b : Option Term) (v : ℕ) → b ≡ latest (drop k xs) b v
   unfolding latest
-  latest-done b v = rw (rest-none xs n k h g)
+  latest-done h b v = rw (drop_of_length-le xs {i = k} h)
 
 -- ---- one pair
 
@@ -132,22 +134,22 @@ bound-same u e h = e ∙ ap bound_vars h
 
 -- ---- the pairs
 
-module _ (vs : List Binding) (es : List Pair) (n k : ℕ) (g : n ≤ length es) where
-  pub unify-more : (o o' : Outcome) → k < n → o' ≡ unify_one vs o (get_or es k no_pair) → unify_from vs o' (drop (k + 1) (take n es)) ≡ unify_from vs o (drop k (take n es))
+module _ (vs : List (Option Term)) (es : List Pair) (k : ℕ) where
+  pub unify-more : (o o' : Outcome) → k < length es → o' ≡ unify_one vs o (get_or es k no_pair) → unify_from vs o' (drop (k + 1) es) ≡ unify_from vs o (drop k es)
   unfolding unify_from
-  unify-more o o' h e = rw (rest_more es n k no_pair h g, e)
+  unify-more o o' h e = rw (rest_on es k no_pair h, e)
 
-  pub unify-done : (o : Outcome) → n ≤ k → unify_from vs o (drop k (take n es)) ≡ o
+  pub unify-done : (o : Outcome) → length es ≤ k → unify_from vs o (drop k es) ≡ o
   unfolding unify_from
-  unify-done o h = rw (rest-none es n k h g)
+  unify-done o h = rw (drop_of_length-le es {i = k} h)
 
 -- ---- the ways through value_under and unify_one
 
-pub value-known : (vs : List Binding) {t : Term} {c : ℕ} → t ≡ Const c → t ≡ value vs t
+pub value-known : (vs : List (Option Term)) {t : Term} {c : ℕ} → t ≡ Const c → t ≡ value vs t
 unfolding value
 value-known vs e = rw e
 
-pub value-var : (vs : List Binding) {t : Term} {v : ℕ} → t ≡ Var v → value_of vs v ≡ value vs t
+pub value-var : (vs : List (Option Term)) {t : Term} {v : ℕ} → t ≡ Var v → value_of vs v ≡ value vs t
 unfolding value
 value-var vs e = rw e
 
@@ -155,7 +157,7 @@ pub top-var : {t : Term} {v : ℕ} → t ≡ Var v → top t ≡ suc v
 unfolding top
 top-var e = rw e
 
-pub unify-kept : (vs : List Binding) (u : Unified) (p : Pair) → u.ok ≡ false → outcome u ≡ unify_one vs (outcome u) p
+pub unify-kept : (vs : List (Option Term)) (u : Unified) (p : Pair) → u.ok ≡ false → outcome u ≡ unify_one vs (outcome u) p
 unfolding unify_one
 unify-kept vs u p e = rw (outcome-clash u e)
 
@@ -175,7 +177,7 @@ pub bound-sort : (l : List ℕ) (m v : ℕ) → v < m → not (eqb (get_or l (v 
 unfolding binding_at binding_by
 bound-sort l m v h = rw (vars-at l m v h) (go (eqb (sort_at l v) 0) (eqb (sort_at l v) 1))
   where
-    go : (a b : Bool) → not a ≡ is_bound (cond a Free (cond b (Bound (Const (number_at l v))) (Bound (Var (number_at l v)))))
+    go : (a b : Bool) → not a ≡ is_bound (cond a None (cond b (Some (Const (number_at l v))) (Some (Var (number_at l v)))))
     go true b = refl
     go false true = refl
     go false false = refl
@@ -183,16 +185,7 @@ bound-sort l m v h = rw (vars-at l m v h) (go (eqb (sort_at l v) 0) (eqb (sort_a
 pub bound-past : (l : List ℕ) (m v : ℕ) → m ≤ v → false ≡ is_bound (binding_of (vars_in l m) v)
 bound-past l m v h = rw (vars-past l m v h)
 
-module _ (vs : List Binding) (ns : List ℕ) (n k : ℕ) (g : n ≤ length ns) where
-  module _ (h : k < n) {t : Bool} (here : t ≡ is_bound (binding_of vs (get_or ns k 0))) where
-    pub some-hit : t ≡ true → true ≡ some_bound vs (drop k (take n ns))
-    unfolding some_bound
-    some-hit e = rw (rest_more ns n k 0 h g, ← here, e)
-
-    pub some-miss : t ≡ false → some_bound vs (drop (k + 1) (take n ns)) ≡ some_bound vs (drop k (take n ns))
-    unfolding some_bound
-    some-miss e = rw (rest_more ns n k 0 h g, ← here, e)
-
-  pub some-done : n ≤ k → false ≡ some_bound vs (drop k (take n ns))
-  unfolding some_bound
-  some-done h = rw (rest-none ns n k h g)
+pub some-is : (vs : List (Option Term)) (ns : List ℕ) → list_any (λ v. is_bound (binding_of vs v)) ns ≡ some_bound vs ns
+unfolding some_bound
+some-is vs [] = refl
+some-is vs (v ∷ ns) = ap (λ (b : Bool). is_bound (binding_of vs v) || b) (some-is vs ns)

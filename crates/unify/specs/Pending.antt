@@ -1,9 +1,7 @@
 -- The unifier that the code carries, and what its pending bindings say.
-use Rattle.std.specs.Prelude.{Bool, cond, false, true, [], ◌∷◌, List, map, ◌<◌, ◌≤◌, suc, ℕ, eqb, get_or, length, take}
+use Rattle.std.specs.Prelude.{Bool, cond, false, true, [], ◌∷◌, List, map, ◌<◌, ◌≤◌, suc, ℕ, eqb, get_or, length, take, Option, Some}
 use Rattle.parlog.specs.Tables.{number_code, vars_in}
 use Rattle.parlog.specs.Unify.{bound, changed, clash, Outcome}
-use Rattle.parlog.specs.declared.Binding.{Binding}
-use Rattle.parlog.specs.declared.Binding.TheVariants.{Bound}
 use Rattle.parlog.specs.declared.Change.{Change}
 use Rattle.parlog.specs.declared.Pair.{Pair}
 use Rattle.parlog.specs.declared.Term.{Term}
@@ -47,16 +45,16 @@ bound_in u = vars_bound (pending u)
 -- ---- the table under changes
 
 -- the binding of v after one change, where it was b
-unfoldable pub newer_of : Change → Binding → ℕ → Binding
-newer_of c b v = cond (eqb c.var v) (Bound c.to) b
+unfoldable pub newer_of : Change → Option Term → ℕ → Option Term
+newer_of c b v = cond (eqb c.var v) (Some c.to) b
 
 -- the binding of v after changes, where it was b
-unfoldable pub latest : List Change → Binding → ℕ → Binding
+unfoldable pub latest : List Change → Option Term → ℕ → Option Term
 latest [] b v = b
 latest (c ∷ cs) b v = latest cs (newer_of c b v) v
 
 -- the table's bindings after changes
-unfoldable pub under : List ℕ → ℕ → List Change → List Binding
+unfoldable pub under : List ℕ → ℕ → List Change → List (Option Term)
 under l n cs = changed (vars_in l n) cs
 
 -- ---- bounds
@@ -87,4 +85,4 @@ OutcomeLowers n (bound cs) = AllLower n cs
 -- what a writer of the table asks of changes: every variable among the first n, every number one of three bytes
 pub record Writable (n : ℕ) (cs : List Change) : Type 0 where
   pub rows : (k : ℕ) → k < length cs → (get_or cs k no_change).var < n
-  pub numbers : (k : ℕ) → k < length cs → number_code (Bound (get_or cs k no_change).to) < 16777216
+  pub numbers : (k : ℕ) → k < length cs → number_code (Some (get_or cs k no_change).to) < 16777216

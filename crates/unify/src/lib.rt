@@ -6,7 +6,7 @@ ghost use Rattle.parlog.specs.Tables.{binding_of, cell_size, vars_in};
 ghost use Rattle.parlog.specs.Unify.{bound, is_bound, joined, meet, meet_vars, some_bound, unify, unify_one, value, value_of};
 ghost use Rattle.unify.specs.Pending.{Below, bound_in, bound_vars, latest, newer_of, outcome, pending, top, under};
 
-use parlog::{Binding, Change, Met, Pair, Term, codes};
+use parlog::{Change, Met, Pair, Term, codes};
 
 // A unifier so far: whether no two constants clashed, and the bindings in the order made.
 #[derive(Clone, Copy)]
@@ -17,26 +17,21 @@ pub struct Unified {
 }
 
 // What one binding makes of the row b of v.
-fn newer(c: Change, b: Binding, v: u32) -> Binding
+fn newer(c: Change, b: Option<Term>, v: u32) -> Option<Term>
     ensures { result ≡ newer_of c b v }
 {
     let t = c.to;
-    if c.var == v { Binding::Bound(t) } else { b }
+    if c.var == v { Some(t) } else { b }
 }
 
 // What v is bound to under the pending bindings, where its row has a binding of its own.
-fn found_in(u: Unified, row: Binding, v: u32) -> Binding
+fn found_in(u: Unified, row: Option<Term>, v: u32) -> Option<Term>
     requires { (u.count ≤ 4) × (length u.binds ≡ 4) }
     ensures { result ≡ latest (pending u) row v }
 {
-    let binds = u.binds;
-    let n = u.count;
     let mut b = row;
-    let mut k = 0;
-    while k < n {
-        let c = binds[k];
-        b = newer(c, b, v);
-        k += 1;
+    for c in &u.binds[..u.count] {
+        b = newer(*c, b, v);
     }
     b
 }
@@ -50,7 +45,7 @@ fn value_of_var(vars: &[u8], n: usize, u: Unified, v: u32) -> Term
     loop {
         let row = vars::get(vars, n, a as usize);
         let b = found_in(u, row, a);
-        let Binding::Bound(t) = b else {
+        let Some(t) = b else {
             return Term::Var(a);
         };
         let Term::Var(w) = t else {
@@ -175,11 +170,8 @@ pub fn unify(vars: &[u8], n: usize, pairs: [Pair; codes::MOST_ARITY], count: usi
     ensures { (outcome result ≡ unify (vars_in vars.now n) (take count pairs)) × (result.count ≤ count) × (length result.binds ≡ 4) × (bound_in result ≡ bound_vars (unify (vars_in vars.now n) (take count pairs))) }
 {
     let mut u = nothing();
-    let mut i = 0;
-    while i < count {
-        let p = pairs[i];
-        u = unify_one(vars, n, u, p);
-        i += 1;
+    for p in &pairs[..count] {
+        u = unify_one(vars, n, u, *p);
     }
     u
 }
@@ -205,13 +197,7 @@ pub fn some_bound(
     requires { (n * cell_size ≤ length vars.now) × (count ≤ 4) }
     ensures { result ≡ some_bound (vars_in vars.now n) (take count notes) }
 {
-    let mut k = 0;
-    while k < count {
-        let v = notes[k];
-        if is_bound(vars, n, v as usize) {
-            return true;
-        }
-        k += 1;
-    }
-    false
+    notes[..count]
+        .iter()
+        .any(|v| is_bound(vars, n, *v as usize))
 }

@@ -1,4 +1,6 @@
 -- The ways through a look at all goal variables, and the rows that it writes.
+use Rattle.std.specs.Prelude.{Option, None, Err, Some, Ok}
+use Rattle.parlog.specs.Answer.{Answer}
 use mathlib.Core.Path.{◌∙◌, ◌≡◌, refl, sym}
 use mathlib.Core.Bool.{◌&&◌, false, true}
 use mathlib.Core.List.{[], ◌++◌, ◌∷◌, append_assoc, append-nil, List}
@@ -27,28 +29,22 @@ use Rattle.parlog.specs.Scan.{build, every}
 use Rattle.parlog.specs.TableRules.{cell_known, full_size, lent_ok, tables_ok}
 use Rattle.parlog.specs.Tables.{binding_bytes, cell_size, Lent, number_at, number_code, rows_bytes, sort_at, sort_code, tables_in, var_count, vars_in, written}
 use Rattle.parlog.specs.Unify.{value}
-use Rattle.parlog.specs.declared.Binding.{Binding}
-use Rattle.parlog.specs.declared.Binding.TheVariants.{Bound, Free}
-use Rattle.parlog.specs.declared.Loaded.{Loaded}
-use Rattle.parlog.specs.declared.Loaded.TheVariants.{Accepted, Refused}
 use Rattle.parlog.specs.declared.Refusal.{Refusal}
 use Rattle.parlog.specs.declared.Term.{Term}
 use Rattle.parlog.specs.declared.Term.TheVariants.{Const, Var}
 use Rattle.unify.specs.Pending.{top}
 use Rattle.values.specs.Values.{gathered, GatherSays, value_in, values_bytes, values_call, ValuesSays}
-use Rattle.values.specs.declared.Gathered.{Gathered}
-use Rattle.values.specs.declared.Gathered.TheVariants.{Ungathered, Values}
 use Rattle.vars.proofs.Laws.{cell-length}
 use Rattle.vars.specs.Cells.{put_cell}
 
 -- ---- rows
 
-rows_snoc : (bs : List Binding) (b : Binding) → rows_bytes binding_bytes (bs ++ (b ∷ [])) ≡ rows_bytes binding_bytes bs ++ binding_bytes b
+rows_snoc : (bs : List (Option Term)) (b : Option Term) → rows_bytes binding_bytes (bs ++ (b ∷ [])) ≡ rows_bytes binding_bytes bs ++ binding_bytes b
 unfolding rows_bytes
 rows_snoc [] b = append-nil (binding_bytes b)
 rows_snoc (x ∷ bs) b = rw (rows_snoc bs b) (sym (append_assoc (binding_bytes x) (rows_bytes binding_bytes bs) (binding_bytes b)))
 
-module _ (vs : List Binding) where
+module _ (vs : List (Option Term)) where
   pub values_length : (n : ℕ) → length (values_bytes vs n) ≡ n * cell_size
   unfolding values_bytes
   values_length n = rows-length binding_bytes cell_size cell-length (build (value_in vs) n) ∙ rw build-length
@@ -82,39 +78,35 @@ unfolding top
 var-top v g n h k = omega arith
 
 -- the number of a value has three bytes
-pub value-small : (vs : List Binding) → KeepRules vs → (v g : ℕ) → v < g → g ≤ 255 → {t : Term} → t ≡ value vs (Var v) → number_code (Bound t) < 16777216
+pub value-small : (vs : List (Option Term)) → KeepRules vs → (v g : ℕ) → v < g → g ≤ 255 → {t : Term} → t ≡ value vs (Var v) → number_code (Some t) < 16777216
 value-small vs ok v g h few {t} e = go t (rw (← e) at (value_in_lem vs (bindings-facts vs ok) g (Var v) (lt-ltb v g h)))
   where
-    go : (x : Term) → term_in g x ≡ true → number_code (Bound x) < 16777216
+    go : (x : Term) → term_in g x ≡ true → number_code (Some x) < 16777216
     go (Const c) q = omega (arith, leb-true c 32767 q)
     go (Var w) q = omega (arith, ltb-true w g q)
 
-module _ (vs : List Binding) (row : List ℕ) (v g : ℕ) {l : List ℕ} (so_far : l ≡ written (values_bytes vs v) row) where
+module _ (vs : List (Option Term)) (row : List ℕ) (v g : ℕ) {l : List ℕ} (so_far : l ≡ written (values_bytes vs v) row) where
   -- the value of v is written behind those before
-  pub values-put : v < g → g * cell_size ≤ length row → {t : Term} → t ≡ value vs (Var v) → {m : List ℕ} → m ≡ put_cell l v (binding_bytes (Bound t)) → m ≡ written (values_bytes vs (v + 1)) row
+  pub values-put : v < g → g * cell_size ≤ length row → {t : Term} → t ≡ value vs (Var v) → {m : List ℕ} → m ≡ put_cell l v (binding_bytes (Some t)) → m ≡ written (values_bytes vs (v + 1)) row
   values-put h ample e em = rw (em, e, so_far, add-one v) (values-more vs v row (omega arith))
-
-  -- all are written
-  pub values-all : v ≤ g → g ≤ v → l ≡ written (values_bytes vs g) row
-  values-all a b = let e : v ≡ g = omega arith in rw e at so_far
 
 -- ---- the call
 
-module _ (n : ℕ) (vs : List Binding) (row : List ℕ) {g : ℕ} (eg : g ≡ n) where
-  pub gather-short : length row < g * cell_size → {f : Refusal} → f ≡ refusal 11 0 → GatherSays n vs row (Ungathered f) row
+module _ (n : ℕ) (vs : List (Option Term)) (row : List ℕ) {g : ℕ} (eg : g ≡ n) where
+  pub gather-short : length row < g * cell_size → {f : Refusal} → f ≡ refusal 11 0 → GatherSays n vs row (Err f) row
   unfolding gathered
   gather-short h ef = let q : leb (n * cell_size) (length row) ≡ false = rw (← eg) (lt-leb (g * cell_size) (length row) h) in record { answer = rw (q, ef); row_is = rw q }
 
-  pub gather-all : g * cell_size ≤ length row → {a : List ℕ} → a ≡ written (values_bytes vs g) row → GatherSays n vs row (Values g) a
+  pub gather-all : g * cell_size ≤ length row → {a : List ℕ} → a ≡ written (values_bytes vs g) row → GatherSays n vs row (Ok g) a
   unfolding gathered
   gather-all h ea = let q : leb (n * cell_size) (length row) ≡ true = rw (← eg) (le-leb (g * cell_size) (length row) h) in record { answer = rw (q, eg); row_is = rw (q, ← eg) ea }
 
-module _ (lim : Limits) (s : List ℕ) (l : Lent) (row : List ℕ) {a : Loaded} (told : EnterSays lim s l a) where
-  pub values-refused : {f r : Refusal} → a ≡ Refused f → r ≡ refusal_of a → ValuesSays lim s l row (Ungathered r) row
+module _ (lim : Limits) (s : List ℕ) (l : Lent) (row : List ℕ) {a : Answer (ℕ × ℕ)} (told : EnterSays lim s l a) where
+  pub values-refused : {f r : Refusal} → a ≡ Err f → r ≡ refusal_of a → ValuesSays lim s l row (Err r) row
   unfolding values_call
   values-refused e er = record { answer = rw (told.entry, er, e); row_is = rw (told.entry, e) }
 
-  pub values-gathered : {r c : ℕ} → a ≡ Accepted r c → {x : Gathered} {z : List ℕ} → GatherSays (program_of s r c).goal_vars (vars_in l.vars (var_count l.head)) row x z → ValuesSays lim s l row x z
+  pub values-gathered : {r c : ℕ} → a ≡ Ok (r, c) → {x : Answer ℕ} {z : List ℕ} → GatherSays (program_of s r c).goal_vars (vars_in l.vars (var_count l.head)) row x z → ValuesSays lim s l row x z
   unfolding values_call tables_in
   values-gathered e g = record { answer = rw (told.entry, e) g.answer; row_is = rw (told.entry, e) g.row_is }
 
@@ -128,16 +120,16 @@ inside-ruled lim s r c l i =
 
 -- ---- what the rows say
 
-module _ (vs : List Binding) (n : ℕ) (row : List ℕ) (v : ℕ) (h : v < n) where
+module _ (vs : List (Option Term)) (n : ℕ) (row : List ℕ) (v : ℕ) (h : v < n) where
   byte-at : (k : ℕ) → k < cell_size → get_or (written (values_bytes vs n) row) (v * cell_size + k) 0 ≡ get_or (binding_bytes (value_in vs v)) k 0
   byte-at k u =
       let z = values_length vs n in
-      let e : get_or (build (value_in vs) n) v Free ≡ value_in vs v = build-at (value_in vs) n v Free h in
+      let e : get_or (build (value_in vs) n) v None ≡ value_in vs v = build-at (value_in vs) n v None h in
       let g : v < length (build (value_in vs) n) = rw build-length h in
       written_in (values_bytes vs n) row (v * cell_size + k) (omega arith) ∙ in_rows k u ∙ rw e
     where
-      in_rows : (k : ℕ) → k < cell_size → get_or (values_bytes vs n) (v * cell_size + k) 0 ≡ get_or (binding_bytes (get_or (build (value_in vs) n) v Free)) k 0
-      in_rows k u = unfold values_bytes in rows-byte binding_bytes cell_size cell-length (build (value_in vs) n) Free v k (rw build-length h) u
+      in_rows : (k : ℕ) → k < cell_size → get_or (values_bytes vs n) (v * cell_size + k) 0 ≡ get_or (binding_bytes (get_or (build (value_in vs) n) v None)) k 0
+      in_rows k u = unfold values_bytes in rows-byte binding_bytes cell_size cell-length (build (value_in vs) n) None v k (rw build-length h) u
 
   -- the sort and the number in row v are those of the value of v
   pub values-sort : sort_at (written (values_bytes vs n) row) v ≡ sort_code (value_in vs v)

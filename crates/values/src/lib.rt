@@ -9,25 +9,16 @@ ghost use Rattle.parlog.specs.Orders.{KeepRules};
 ghost use Rattle.program_index.specs.Indexed.{Indexed};
 ghost use Rattle.values.specs.Values.{GatherSays, ValuesSays, values_bytes};
 
-use parlog::{Loaded, Refusal, Term, codes};
-
-// The answer of a look at all goal variables: how many they are.
-#[derive(Clone, Copy)]
-pub enum Gathered {
-    Values(usize),
-    Ungathered(Refusal),
-}
+use parlog::{Answer, Term, codes};
 
 // The values of the first `goal` variables, one row behind the other.
 fn write(vars: &[u8], n: usize, goal: usize, values: &mut [u8])
     requires { (n * cell_size ≤ length vars.now) × (goal ≤ n) × (goal ≤ 255) × (goal * cell_size ≤ length values.old) × KeepRules (vars_in vars.now n) }
     ensures { values.new ≡ written (values_bytes (vars_in vars.now n) goal) values.old }
 {
-    let mut v: u32 = 0;
-    while (v as usize) < goal {
-        let seen = unify::value_of(vars, n, Term::Var(v));
-        vars::put_bound(values, v as usize, seen);
-        v += 1;
+    for v in 0..goal {
+        let seen = unify::value_of(vars, n, Term::Var(v as u32));
+        vars::put_bound(values, v, seen);
     }
 }
 
@@ -40,28 +31,34 @@ fn gather(
     head: &[u8],
     vars: &[u8],
     values: &mut [u8],
-) -> Gathered
+) -> Answer<usize>
     requires { (rels ≤ 32) × (clauses ≤ 64) × (head_size ≤ length head.now) × (var_count head.now * cell_size ≤ length vars.now) × ((program_of image.now rels clauses).goal_vars ≤ var_count head.now) × KeepRules (vars_in vars.now (var_count head.now)) × Indexed image.now rels clauses ix.now }
     ensures { GatherSays (program_of image.now rels clauses).goal_vars (vars_in vars.now (var_count head.now)) values.old result values.new }
 {
     let goal = program_clause::goal_vars(image, rels, clauses, ix);
     if values.len() < goal * codes::CELL_SIZE {
-        return Gathered::Ungathered(entry::refusal(codes::ROOM));
+        return Err(entry::refusal(codes::ROOM));
     }
     let n = head::var_count(head);
     write(vars, n, goal, values);
-    Gathered::Values(goal)
+    Ok(goal)
 }
 
 // The values of all goal variables.
-pub fn values(image: &[u8], head: &[u8], procs: &[u8], vars: &[u8], values: &mut [u8]) -> Gathered
+pub fn values(
+    image: &[u8],
+    head: &[u8],
+    procs: &[u8],
+    vars: &[u8],
+    values: &mut [u8],
+) -> Answer<usize>
     ensures { ValuesSays small image.now (lent head.now procs.now vars.now) values.old result values.new }
 {
     let mut ix = [0u16; program_index::SIZE];
     let e = entry::enter(image, head, procs, vars, &mut ix);
-    let Loaded::Accepted(rels, clauses) = e else {
+    let Ok((rels, clauses)) = e else {
         let r = load::refusal(e);
-        return Gathered::Ungathered(r);
+        return Err(r);
     };
     gather(image, rels, clauses, &ix, head, vars, values)
 }

@@ -1,4 +1,6 @@
 -- What a table's bindings are, with its rest, fixes every byte, where no bytes stand that no record has.
+use Rattle.parlog.specs.declared.Term.{Term}
+use Rattle.std.specs.Prelude.{Option, None}
 use mathlib.Core.Path.{◌∙◌, ◌≡◌, ap, sym}
 use mathlib.Core.Logic.{◌≢◌}
 use mathlib.Core.Bool.{◌&&◌, true}
@@ -15,8 +17,6 @@ use Rattle.parlog.proofs.Scans.{every-at, every-is}
 use Rattle.parlog.specs.Scan.{every, implies}
 use Rattle.parlog.specs.TableRules.{cell_known}
 use Rattle.parlog.specs.Tables.{binding_at, binding_by, binding_bytes, binding_of, cell_size, number_at, number_code, rows_bytes, sort_at, sort_code, written}
-use Rattle.parlog.specs.declared.Binding.{Binding}
-use Rattle.parlog.specs.declared.Binding.TheVariants.{Free}
 use Rattle.rows.specs.Rows.{Bytes}
 use Rattle.vars.proofs.Laws.{binding-back, binding-cong, cell-length, known-back, known-cong}
 use Rattle.vars.proofs.Tables.{cells_at, vars-is}
@@ -68,7 +68,7 @@ module _ (l : List ℕ) (v : ℕ) (are : Bytes l) (known : cell_known l v ≡ tr
   cell-byte (suc (suc (suc (suc k)))) h = absurd (omega arith)
 
 -- the bytes of a table are its bindings' bytes, and past them what was there
-pub cells-bytes : {n : ℕ} {l₀ l : List ℕ} {vs : List Binding} → Cells n l₀ l vs → every (cell_known l₀) n ≡ true → Bytes l → length vs * cell_size ≤ length l₀ → l ≡ written (rows_bytes binding_bytes vs) l₀
+pub cells-bytes : {n : ℕ} {l₀ l : List ℕ} {vs : List (Option Term)} → Cells n l₀ l vs → every (cell_known l₀) n ≡ true → Bytes l → length vs * cell_size ≤ length l₀ → l ≡ written (rows_bytes binding_bytes vs) l₀
 cells-bytes {n} {l₀} {l} {vs} t known are enough =
     let m : length (rows_bytes binding_bytes vs) ≡ length vs * cell_size = rows-length binding_bytes cell_size cell-length vs in
     written_is (rows_bytes binding_bytes vs) l₀ l t.size (omega arith) (λ j h. inside j (omega arith)) (λ j h. t.rest j (omega arith))
@@ -80,12 +80,12 @@ cells-bytes {n} {l₀} {l} {vs} t known are enough =
         let e : v * cell_size + k ≡ j = omega arith in
         let g : get_or l (v * cell_size + k) 0 ≡ get_or (rows_bytes binding_bytes vs) (v * cell_size + k) 0 =
         cell-byte l v are (every-at (cell_known l) (length vs) v (t.known known) (omega arith)) k (omega arith)
-        ∙ ap (λ (x : Binding). get_or (binding_bytes x) k 0) (cells_at v t (omega arith))
-        ∙ sym (rows-byte binding_bytes cell_size cell-length vs Free v k (omega arith) (omega arith)) in
+        ∙ ap (λ (x : Option Term). get_or (binding_bytes x) k 0) (cells_at v t (omega arith))
+        ∙ sym (rows-byte binding_bytes cell_size cell-length vs None v k (omega arith) (omega arith)) in
         rw e at g
 
 -- and those bytes are a table with these bindings
-pub cells-written : (n : ℕ) (l₀ : List ℕ) (vs : List Binding) → length vs * cell_size ≤ length l₀ → Cells n l₀ (written (rows_bytes binding_bytes vs) l₀) vs
+pub cells-written : (n : ℕ) (l₀ : List ℕ) (vs : List (Option Term)) → length vs * cell_size ≤ length l₀ → Cells n l₀ (written (rows_bytes binding_bytes vs) l₀) vs
 cells-written n l₀ vs enough =
     let m : length (rows_bytes binding_bytes vs) ≡ length vs * cell_size = rows-length binding_bytes cell_size cell-length vs in
     record {
@@ -99,5 +99,5 @@ cells-written n l₀ vs enough =
     here v h k u =
         let m : length (rows_bytes binding_bytes vs) ≡ length vs * cell_size = rows-length binding_bytes cell_size cell-length vs in
         written_in (rows_bytes binding_bytes vs) l₀ (v * cell_size + k) (omega arith)
-        ∙ rows-byte binding_bytes cell_size cell-length vs Free v k h u
+        ∙ rows-byte binding_bytes cell_size cell-length vs None v k h u
         ∙ ap (λ (j : ℕ). get_or (binding_bytes (binding_of vs v)) j 0) (omega arith)

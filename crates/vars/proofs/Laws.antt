@@ -1,4 +1,5 @@
 -- The laws of variable rows: what a binding is after a row was written.
+use Rattle.std.specs.Prelude.{Option, None, Some}
 use mathlib.Core.Path.{◌∙◌, ◌≡◌, ap, refl}
 use mathlib.Core.Logic.{⊎_elim}
 use mathlib.Core.Bool.{true}
@@ -13,8 +14,6 @@ use native.Mathlib.Numerals.{add-one, add-three, add-two}
 use Rattle.parlog.proofs.Rows.{apart, splice-after, splice-before, splice-in, splice-length}
 use Rattle.parlog.specs.TableRules.{cell_known}
 use Rattle.parlog.specs.Tables.{binding_at, binding_by, binding_bytes, cell_size, number_at, number_code, sort_at, sort_code}
-use Rattle.parlog.specs.declared.Binding.{Binding}
-use Rattle.parlog.specs.declared.Binding.TheVariants.{Bound, Free}
 use Rattle.parlog.specs.declared.Term.{Term}
 use Rattle.parlog.specs.declared.Term.TheVariants.{Const, Var}
 use Rattle.vars.specs.Cells.{put_cell}
@@ -38,24 +37,24 @@ module _ (l m : List ℕ) (v w : ℕ) (h : (k : ℕ) → k < cell_size → get_o
   unfolding cell_known
   known-cong = rw (sort-cong, number-cong)
 
-pub cell-length : (b : Binding) → length (binding_bytes b) ≡ cell_size
+pub cell-length : (b : Option Term) → length (binding_bytes b) ≡ cell_size
 unfolding binding_bytes
 cell-length b = refl
 
 -- what the bytes of a binding mean, as a table of one row
-pub binding-back : (b : Binding) → binding_at (binding_bytes b) 0 ≡ b
+pub binding-back : (b : Option Term) → binding_at (binding_bytes b) 0 ≡ b
 unfolding binding_bytes binding_at binding_by
-binding-back Free = refl
-binding-back (Bound (Const c)) = simp thirds
-binding-back (Bound (Var v)) = simp thirds
+binding-back None = refl
+binding-back (Some (Const c)) = simp thirds
+binding-back (Some (Var v)) = simp thirds
 
-pub known-back : (b : Binding) → cell_known (binding_bytes b) 0 ≡ true
+pub known-back : (b : Option Term) → cell_known (binding_bytes b) 0 ≡ true
 unfolding binding_bytes cell_known
-known-back Free = refl
-known-back (Bound (Const c)) = refl
-known-back (Bound (Var v)) = refl
+known-back None = refl
+known-back (Some (Const c)) = refl
+known-back (Some (Var v)) = refl
 
-module _ (l : List ℕ) (v : ℕ) (b : Binding) (enough : v * cell_size + cell_size ≤ length l) where
+module _ (l : List ℕ) (v : ℕ) (b : Option Term) (enough : v * cell_size + cell_size ≤ length l) where
   pub cell-put-length : length (put_cell l v (binding_bytes b)) ≡ length l
   unfolding put_cell
   cell-put-length = splice-length l (v * cell_size) (binding_bytes b) cell_size (cell-length b) enough
@@ -93,14 +92,14 @@ stores : (l : List ℕ) (i a b c d : ℕ) → i + cell_size ≤ length l → set
 stores l i a b c d enough = rw (add-one i, add-two i, add-three i) (sets-eq (a ∷ b ∷ c ∷ d ∷ []) l i enough)
 
 pub four-stores : (l : List ℕ) (v m a b c d : ℕ) (t : Term) → v * cell_size + cell_size ≤ length l
-    → m ≡ number_code (Bound t) → a ≡ sort_code (Bound t) → b ≡ m % 256 → c ≡ m / 256 % 256 → d ≡ m / 65536
-    → set (set (set (set l (v * cell_size) a) (v * cell_size + 1) b) (v * cell_size + 2) c) (v * cell_size + 3) d ≡ put_cell l v (binding_bytes (Bound t))
+    → m ≡ number_code (Some t) → a ≡ sort_code (Some t) → b ≡ m % 256 → c ≡ m / 256 % 256 → d ≡ m / 65536
+    → set (set (set (set l (v * cell_size) a) (v * cell_size + 1) b) (v * cell_size + 2) c) (v * cell_size + 3) d ≡ put_cell l v (binding_bytes (Some t))
 unfolding put_cell binding_bytes
 four-stores l v m a b c d t enough em ea eb ec ed = stores l (v * cell_size) a b c d enough ∙ rw (ea, eb, ec, ed, em)
 
 -- a row of zeros
 module _ (l : List ℕ) (v : ℕ) (none : (k : ℕ) → k < cell_size → get_or l (v * cell_size + k) 0 ≡ 0) where
-  cleared : (k : ℕ) → k < cell_size → get_or l (v * cell_size + k) 0 ≡ get_or (binding_bytes Free) (0 * cell_size + k) 0
+  cleared : (k : ℕ) → k < cell_size → get_or l (v * cell_size + k) 0 ≡ get_or (binding_bytes None) (0 * cell_size + k) 0
   unfolding binding_bytes
   cleared zero h = none zero h
   cleared (suc zero) h = none 1 h
@@ -108,8 +107,8 @@ module _ (l : List ℕ) (v : ℕ) (none : (k : ℕ) → k < cell_size → get_or
   cleared (suc (suc (suc zero))) h = none 3 h
   cleared (suc (suc (suc (suc k)))) h = absurd (omega arith)
 
-  pub binding-none : binding_at l v ≡ Free
-  binding-none = binding-cong l (binding_bytes Free) v 0 cleared ∙ binding-back Free
+  pub binding-none : binding_at l v ≡ None
+  binding-none = binding-cong l (binding_bytes None) v 0 cleared ∙ binding-back None
 
   pub known-none : cell_known l v ≡ true
-  known-none = known-cong l (binding_bytes Free) v 0 cleared ∙ known-back Free
+  known-none = known-cong l (binding_bytes None) v 0 cleared ∙ known-back None

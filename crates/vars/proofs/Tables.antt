@@ -1,4 +1,6 @@
 -- The table as a list of bindings.
+use Rattle.parlog.specs.declared.Term.{Term}
+use Rattle.std.specs.Prelude.{Option, None}
 use mathlib.Core.Path.{◌∙◌, ◌≡◌, ap, refl, sym}
 use mathlib.Core.Bool.{true}
 use mathlib.Core.List.{◌++◌, List}
@@ -13,8 +15,6 @@ use Rattle.parlog.proofs.Scans.{build-at, build-length, every-at, every-is}
 use Rattle.parlog.specs.Scan.{every}
 use Rattle.parlog.specs.TableRules.{cell_known}
 use Rattle.parlog.specs.Tables.{binding_at, binding_bytes, binding_of, cell_size, vars_in}
-use Rattle.parlog.specs.declared.Binding.{Binding}
-use Rattle.parlog.specs.declared.Binding.TheVariants.{Free}
 use Rattle.rows.proofs.Laws.{wiped-after, wiped-before, wiped-in, wiped-length}
 use Rattle.rows.specs.Rows.{wiped}
 use Rattle.vars.proofs.Laws.{binding-cong, binding-none, binding-other, binding-same, cell-byte-past, known-cong, known-none, known-other, known_same, cell-put-length}
@@ -26,30 +26,30 @@ vars-length l n = build-length (binding_at l) n
 
 pub vars-at : (l : List ℕ) (n v : ℕ) → v < n → binding_of (vars_in l n) v ≡ binding_at l v
 unfolding vars_in
-vars-at l n v h = build-at (binding_at l) n v Free h
+vars-at l n v h = build-at (binding_at l) n v None h
 
 -- past the used rows every variable is unbound
-pub vars-past : (l : List ℕ) (n v : ℕ) → n ≤ v → binding_of (vars_in l n) v ≡ Free
+pub vars-past : (l : List ℕ) (n v : ℕ) → n ≤ v → binding_of (vars_in l n) v ≡ None
 unfolding vars_in
-vars-past l n v h = build-past (binding_at l) n v Free h
+vars-past l n v h = build-past (binding_at l) n v None h
 
 pub vars-cong : (l m : List ℕ) (n : ℕ) → ((v : ℕ) → v < n → binding_at l v ≡ binding_at m v) → vars_in l n ≡ vars_in m n
 unfolding vars_in
 vars-cong l m n h = build-cong (binding_at l) (binding_at m) n h
 
-pub vars-is : (l : List ℕ) (vs : List Binding) → ((v : ℕ) → v < length vs → binding_at l v ≡ binding_of vs v) → vars_in l (length vs) ≡ vs
+pub vars-is : (l : List ℕ) (vs : List (Option Term)) → ((v : ℕ) → v < length vs → binding_at l v ≡ binding_of vs v) → vars_in l (length vs) ≡ vs
 unfolding vars_in
-vars-is l vs h = build-is (binding_at l) Free vs h
+vars-is l vs h = build-is (binding_at l) None vs h
 
-pub vars-set-length : (l : List ℕ) (n v : ℕ) (b : Binding) → length (set (vars_in l n) v b) ≡ n
+pub vars-set-length : (l : List ℕ) (n v : ℕ) (b : Option Term) → length (set (vars_in l n) v b) ≡ n
 vars-set-length l n v b = length-set (vars_in l n) v b ∙ vars-length l n
 
-pub vars-more-length : (l : List ℕ) (n k : ℕ) → length (vars_in l n ++ replicate k Free) ≡ n + k
-vars-more-length l n k = length-append (vars_in l n) (replicate k Free) ∙ rw (vars-length, length-replicate)
+pub vars-more-length : (l : List ℕ) (n k : ℕ) → length (vars_in l n ++ replicate k None) ≡ n + k
+vars-more-length l n k = length-append (vars_in l n) (replicate k None) ∙ rw (vars-length, length-replicate)
 
 -- ---- one row written
 
-module _ (l : List ℕ) (n v : ℕ) (b : Binding) (enough : n * cell_size ≤ length l) (h : v < n) where
+module _ (l : List ℕ) (n v : ℕ) (b : Option Term) (enough : n * cell_size ≤ length l) (h : v < n) where
   pub vars-put : vars_in (put_cell l v (binding_bytes b)) n ≡ set (vars_in l n) v b
   unfolding vars_in
   vars-put =
@@ -80,11 +80,11 @@ module _ (l : List ℕ) (n k : ℕ) (enough : n * cell_size + k * cell_size ≤ 
   new-byte v h j u =
       ap (λ (i : ℕ). get_or (wiped l (n * cell_size) (k * cell_size)) i 0) (omega arith) ∙ wiped-in l (n * cell_size) (k * cell_size) enough (v * cell_size + j) (omega arith)
 
-  pub vars-grow : vars_in (wiped l (n * cell_size) (k * cell_size)) (n + k) ≡ vars_in l n ++ replicate k Free
+  pub vars-grow : vars_in (wiped l (n * cell_size) (k * cell_size)) (n + k) ≡ vars_in l n ++ replicate k None
   unfolding vars_in
   vars-grow =
-      build-more (binding_at (wiped l (n * cell_size) (k * cell_size))) n k Free (λ v h. binding-none (wiped l (n * cell_size) (k * cell_size)) (n + v) (new-byte v h))
-      ∙ ap (λ (vs : List Binding). vs ++ replicate k Free)
+      build-more (binding_at (wiped l (n * cell_size) (k * cell_size))) n k None (λ v h. binding-none (wiped l (n * cell_size) (k * cell_size)) (n + v) (new-byte v h))
+      ∙ ap (λ (vs : List (Option Term)). vs ++ replicate k None)
       (build-cong (binding_at (wiped l (n * cell_size) (k * cell_size))) (binding_at l) n (λ v h. binding-cong (wiped l (n * cell_size) (k * cell_size)) l v v (old-byte v h)))
 
   known-grow : every (cell_known l) n ≡ true → every (cell_known (wiped l (n * cell_size) (k * cell_size))) (n + k) ≡ true
@@ -94,9 +94,9 @@ module _ (l : List ℕ) (n k : ℕ) (enough : n * cell_size + k * cell_size ≤ 
       let i : n + (v - n) ≡ v = omega arith in
       rw i at (known-none (wiped l (n * cell_size) (k * cell_size)) (n + (v - n)) (new-byte (v - n) (omega arith)))))
 
-  pub cells-grow : Cells n l (wiped l (n * cell_size) (k * cell_size)) (vars_in l n ++ replicate k Free)
+  pub cells-grow : Cells n l (wiped l (n * cell_size) (k * cell_size)) (vars_in l n ++ replicate k None)
   cells-grow =
-      let m : length (vars_in l n ++ replicate k Free) ≡ n + k = length-append (vars_in l n) (replicate k Free) ∙ omega (arith, vars-length l n, length-replicate k Free) in
+      let m : length (vars_in l n ++ replicate k None) ≡ n + k = length-append (vars_in l n) (replicate k None) ∙ omega (arith, vars-length l n, length-replicate {A = Option Term} k None) in
       record {
         size = wiped-length l (n * cell_size) (k * cell_size) enough;
         cells = rw m vars-grow;
@@ -113,13 +113,13 @@ cells_same l n =
     record { size = refl; cells = ap (vars_in l) k; rest = λ j u. refl; known = λ e. rw k e }
 
 -- one change after another
-pub cells-then : {n : ℕ} {l m k : List ℕ} {us vs : List Binding} → Cells n l m us → Cells (length us) m k vs → length us ≤ length vs → Cells n l k vs
+pub cells-then : {n : ℕ} {l m k : List ℕ} {us vs : List (Option Term)} → Cells n l m us → Cells (length us) m k vs → length us ≤ length vs → Cells n l k vs
 cells-then a b h = record { size = b.size ∙ a.size; cells = b.cells; rest = λ j u. b.rest j u ∙ a.rest j (omega arith); known = λ e. b.known (a.known e) }
 
 -- the rows of a table, by their number
-pub cells-rows : {n : ℕ} {l m : List ℕ} {vs : List Binding} (k : ℕ) → Cells n l m vs → length vs ≡ k → vars_in m k ≡ vs
+pub cells-rows : {n : ℕ} {l m : List ℕ} {vs : List (Option Term)} (k : ℕ) → Cells n l m vs → length vs ≡ k → vars_in m k ≡ vs
 cells-rows {vs = vs} k t e = rw e at t.cells
 
 -- a row of it
-pub cells_at : {n : ℕ} {l m : List ℕ} {vs : List Binding} (v : ℕ) → Cells n l m vs → v < length vs → binding_at m v ≡ binding_of vs v
-cells_at {m = m} {vs = vs} v t h = sym (vars-at m (length vs) v h) ∙ ap (λ (q : List Binding). binding_of q v) t.cells
+pub cells_at : {n : ℕ} {l m : List ℕ} {vs : List (Option Term)} (v : ℕ) → Cells n l m vs → v < length vs → binding_at m v ≡ binding_of vs v
+cells_at {m = m} {vs = vs} v t h = sym (vars-at m (length vs) v h) ∙ ap (λ (q : List (Option Term)). binding_of q v) t.cells

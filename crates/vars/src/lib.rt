@@ -1,12 +1,11 @@
 // The variable table: a lent row of bytes, one cell of them a variable, read and written a binding at a time.
 #![tactic(auto)]
 
-ghost use Rattle.std.specs.Prelude.{◌≡◌, ◌++◌, ◌+◌, ◌*◌, ◌/◌, ◌%◌, ◌≤◌, ◌<◌, length, replicate, set};
+ghost use Rattle.std.specs.Prelude.{◌≡◌, ◌++◌, ◌+◌, ◌*◌, ◌/◌, ◌%◌, ◌≤◌, ◌<◌, length, replicate, set, None, Some};
 ghost use Rattle.parlog.specs.Tables.{binding_at, binding_by, binding_bytes, binding_of, cell_size, number_code, sort_code, vars_in};
-ghost use Rattle.parlog.specs.declared.Binding.TheVariants.{Bound, Free};
 ghost use Rattle.vars.specs.Cells.{Cells, put_cell};
 
-use parlog::{Binding, Term, codes};
+use parlog::{Term, codes};
 
 // ---- numbers of three bytes, and terms as sort and number
 
@@ -37,7 +36,7 @@ pub fn join(a: u8, b: u8, c: u8) -> u32
 }
 
 fn sort_of(t: Term) -> u8
-    ensures { result ≡ sort_code (Bound t) }
+    ensures { result ≡ sort_code (Some t) }
 {
     match t {
         Term::Const(_) => codes::CONSTANT,
@@ -46,7 +45,7 @@ fn sort_of(t: Term) -> u8
 }
 
 fn number_of(t: Term) -> u32
-    ensures { result ≡ number_code (Bound t) }
+    ensures { result ≡ number_code (Some t) }
 {
     match t {
         Term::Const(c) => c,
@@ -54,19 +53,19 @@ fn number_of(t: Term) -> u32
     }
 }
 
-fn binding_by(sort: u8, number: u32) -> Binding
+fn binding_by(sort: u8, number: u32) -> Option<Term>
     ensures { result ≡ binding_by sort number }
 {
     if sort == codes::UNBOUND {
-        return Binding::Free;
+        return None;
     }
     if sort == codes::CONSTANT {
-        return Binding::Bound(Term::Const(number));
+        return Some(Term::Const(number));
     }
-    Binding::Bound(Term::Var(number))
+    Some(Term::Var(number))
 }
 
-fn get_binding(vars: &[u8], v: usize) -> Binding
+fn get_binding(vars: &[u8], v: usize) -> Option<Term>
     requires { v * cell_size + cell_size ≤ length vars.now }
     ensures { result ≡ binding_at vars.now v }
 {
@@ -78,8 +77,8 @@ fn get_binding(vars: &[u8], v: usize) -> Binding
 
 // Row v becomes that of a variable bound to t.
 pub fn put_bound(vars: &mut [u8], v: usize, t: Term)
-    requires { (v * cell_size + cell_size ≤ length vars.old) × (number_code (Bound t) < 16777216) }
-    ensures { vars.new ≡ put_cell vars.old v (binding_bytes (Bound t)) }
+    requires { (v * cell_size + cell_size ≤ length vars.old) × (number_code (Some t) < 16777216) }
+    ensures { vars.new ≡ put_cell vars.old v (binding_bytes (Some t)) }
 {
     let b = v * codes::CELL_SIZE;
     let number = number_of(t);
@@ -90,20 +89,20 @@ pub fn put_bound(vars: &mut [u8], v: usize, t: Term)
 }
 
 // The binding of variable v of the first n; past them, unbound.
-pub fn get(vars: &[u8], n: usize, v: usize) -> Binding
+pub fn get(vars: &[u8], n: usize, v: usize) -> Option<Term>
     requires { n * cell_size ≤ length vars.now }
     ensures { result ≡ binding_of (vars_in vars.now n) v }
 {
     if v < n {
         return get_binding(vars, v);
     }
-    Binding::Free
+    None
 }
 
 // Variable v of the first n becomes bound to t.
 pub fn bind(vars: &mut [u8], n: usize, v: usize, t: Term)
-    requires { (n * cell_size ≤ length vars.old) × (v < n) × (number_code (Bound t) < 16777216) }
-    ensures { Cells n vars.old vars.new (set (vars_in vars.old n) v (Bound t)) }
+    requires { (n * cell_size ≤ length vars.old) × (v < n) × (number_code (Some t) < 16777216) }
+    ensures { Cells n vars.old vars.new (set (vars_in vars.old n) v (Some t)) }
 {
     put_bound(vars, v, t);
 }
@@ -111,7 +110,7 @@ pub fn bind(vars: &mut [u8], n: usize, v: usize, t: Term)
 // After the first n come k variables more, unbound.
 pub fn grow(vars: &mut [u8], n: usize, k: usize)
     requires { n * cell_size + k * cell_size ≤ length vars.old }
-    ensures { Cells n vars.old vars.new (vars_in vars.old n ++ replicate k Free) }
+    ensures { Cells n vars.old vars.new (vars_in vars.old n ++ replicate k None) }
 {
     rows::wipe(vars, n * codes::CELL_SIZE, k * codes::CELL_SIZE);
 }

@@ -4,18 +4,16 @@
 ghost use Rattle.std.specs.Prelude.{◌≡◌};
 ghost use Rattle.parlog.specs.Run.{watch_of};
 
-use parlog::{Found, Process};
+use parlog::Process;
 
 // The lowest number of a process that is suspended, or none; any row will do.
-pub fn watch(rows: &[Process]) -> Found
+pub fn watch(rows: &[Process]) -> Option<usize>
     ensures { result ≡ watch_of rows.now }
 {
-    let mut i = 0;
-    while i < rows.len() {
-        if watch_rows::is_suspended(rows[i]) {
-            return Found::At(i);
+    for (i, row) in rows.iter().enumerate() {
+        if watch_rows::is_suspended(*row) {
+            return Some(i);
         }
-        i += 1;
     }
-    Found::Nothing
+    None
 }

@@ -1,18 +1,18 @@
 -- What the watch finds, and one turn of a scan that comes to it.
+use Rattle.std.specs.Prelude.{Some, None}
 use mathlib.Core.Path.{◌∙◌, ◌≡◌, sym}
 use mathlib.Core.Bool.{Bool, false, true}
 use mathlib.Core.List.{List}
-use Prim.Native.Nat.{◌+◌, ◌<◌, ◌≤◌, ℕ}
+use Prim.Native.Nat.{◌<◌, ◌≤◌, ℕ}
 use lib.Dec.{ltb}
 use lib.ListN.{length}
 use borrow.Author.Tests.{ltb-false, ltb-true}
 use native.Mathlib.Omega.{arith}
 use Rattle.parlog.proofs.Bools.{never, not_so, split}
-use Rattle.parlog.proofs.Scans.{below_suc, lowest-at, lowest-is, lowest-none, lowest-nothing}
+use Rattle.parlog.proofs.Scans.{lowest-at, lowest-is, lowest-none, lowest-nothing}
 use Rattle.parlog.specs.Codes.{is_mode, suspended}
 use Rattle.parlog.specs.Run.{watch_of}
 use Rattle.parlog.specs.Tables.{at}
-use Rattle.parlog.specs.declared.Found.TheVariants.{At, Nothing}
 use Rattle.parlog.specs.declared.Process.{Process}
 
 -- process i is suspended
@@ -23,9 +23,6 @@ suspended_at ps i = is_mode suspended (at ps i).mode
 abbrev pub Quiet : List Process → ℕ → Type 0
 Quiet ps q = (i : ℕ) → i < q → suspended_at ps i ≡ false
 
-pub quiet-start : (ps : List Process) → Quiet ps 0
-quiet-start ps i h = absurd (omega arith)
-
 -- ---- what an answer says
 
 -- the lowest number of a suspended process
@@ -35,38 +32,35 @@ pub record First (ps : List Process) (i : ℕ) : Type 0 where
   pub quiet : Quiet ps i
 
 module _ (ps : List Process) where
-  pub watch-at : (i : ℕ) → watch_of ps ≡ At i → First ps i
+  pub watch-at : (i : ℕ) → watch_of ps ≡ Some i → First ps i
   unfolding watch_of
   watch-at i e =
       let r = lowest-at (suspended_at ps) (length ps) i e in
       record { there = r.there; suspends = r.passes; quiet = λ j h. not_so (suspended_at ps j) (λ p. absurd (let l = r.least j (omega (arith, r.there)) p in omega arith)) }
 
-  pub watch-none : watch_of ps ≡ Nothing → Quiet ps (length ps)
+  pub watch-none : watch_of ps ≡ None → Quiet ps (length ps)
   unfolding watch_of
   watch-none e i h = lowest-none (suspended_at ps) (length ps) i e h
 
   -- ---- and what makes it
 
-  pub watch-first : (i : ℕ) → First ps i → watch_of ps ≡ At i
+  pub watch-first : (i : ℕ) → First ps i → watch_of ps ≡ Some i
   unfolding watch_of
   watch-first i f = lowest-is (suspended_at ps) (length ps) i (record { there = f.there; passes = f.suspends; least = least })
     where
       least : (j : ℕ) → j < length ps → suspended_at ps j ≡ true → i ≤ j
       least j h p = split (ltb j i) (λ z. never (sym (f.quiet j (ltb-true j i z)) ∙ p)) (λ z. ltb-false j i z)
 
-  pub watch-quiet : Quiet ps (length ps) → watch_of ps ≡ Nothing
+  pub watch-quiet : Quiet ps (length ps) → watch_of ps ≡ None
   unfolding watch_of
   watch-quiet q = lowest-nothing (suspended_at ps) (length ps) q
 
 -- ---- a turn of a scan that has come to q; b is what the test says of process q
 
 module _ (ps : List Process) (q : ℕ) (so : Quiet ps q) where
-  pub watch-end : length ps ≤ q → watch_of ps ≡ Nothing
+  pub watch-end : length ps ≤ q → watch_of ps ≡ None
   watch-end h = watch-quiet ps (λ i u. so i (omega arith))
 
   module _ {b : Bool} (e : b ≡ suspended_at ps q) where
-    pub watch-hit : q < length ps → b ≡ true → watch_of ps ≡ At q
+    pub watch-hit : q < length ps → b ≡ true → watch_of ps ≡ Some q
     watch-hit h y = watch-first ps q (record { there = h; suspends = sym e ∙ y; quiet = so })
-
-    pub quiet_next : b ≡ false → Quiet ps (q + 1)
-    quiet_next y i u = below_suc i q (omega arith) (λ z. rw z (sym e ∙ y)) (λ l. so i l)

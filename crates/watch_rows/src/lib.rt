@@ -6,7 +6,7 @@ ghost use Rattle.parlog.specs.Codes.{is_mode, suspended};
 ghost use Rattle.parlog.specs.Run.{watch_of};
 ghost use Rattle.parlog.specs.Tables.{procs_of, row_size};
 
-use parlog::{Found, Process, codes};
+use parlog::{Process, codes};
 
 // A process is suspended.
 pub fn is_suspended(x: Process) -> bool
@@ -16,17 +16,15 @@ pub fn is_suspended(x: Process) -> bool
 }
 
 // The lowest number of a row whose process is suspended; a rest of fewer bytes than a row has is no row.
-pub fn watch_rows(procs: &[u8]) -> Found
+pub fn watch_rows(procs: &[u8]) -> Option<usize>
     ensures { result ≡ watch_of (procs_of procs.now (length procs.now / row_size)) }
 {
     let n = procs.len() / codes::ROW_SIZE;
-    let mut q = 0;
-    while q < n {
+    for q in 0..n {
         let x = rows::get(procs, n, q);
         if is_suspended(x) {
-            return Found::At(q);
+            return Some(q);
         }
-        q += 1;
     }
-    Found::Nothing
+    None
 }

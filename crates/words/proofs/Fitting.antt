@@ -1,4 +1,7 @@
 -- Every number in the answer of a call has 32 bits.
+use Rattle.parlog.specs.declared.Term.{Term}
+use Rattle.std.specs.Prelude.{Option, Result, Some, Ok, None, Err}
+use Rattle.parlog.specs.Answer.{Answer}
 use mathlib.Core.Path.{◌≡◌, refl}
 use mathlib.Core.Bool.{◌&&◌, Bool, cond, false, true}
 use mathlib.Core.List.{List}
@@ -22,17 +25,10 @@ use Rattle.parlog.specs.Run.{given, goal_ended, halt, Looking, made, procs_in, r
 use Rattle.parlog.specs.Scan.{every}
 use Rattle.parlog.specs.TableRules.{cell_known, full_size, lent_ok, state_ok, tables_ok}
 use Rattle.parlog.specs.Tables.{at, cell_size, Lent, Tables, tables_in, var_count}
-use Rattle.parlog.specs.declared.Binding.{Binding}
 use Rattle.parlog.specs.declared.End.TheVariants.{Budget}
-use Rattle.parlog.specs.declared.Found.{Found}
-use Rattle.parlog.specs.declared.Found.TheVariants.{At, Nothing}
-use Rattle.parlog.specs.declared.Loaded.{Loaded}
-use Rattle.parlog.specs.declared.Loaded.TheVariants.{Accepted, Refused}
 use Rattle.parlog.specs.declared.Move.{Move}
 use Rattle.parlog.specs.declared.Process.{Process}
 use Rattle.parlog.specs.declared.Progress.{Progress}
-use Rattle.parlog.specs.declared.Verdict.{Verdict}
-use Rattle.parlog.specs.declared.Verdict.TheVariants.{Goes, Refuses}
 use Rattle.values.specs.Values.{gather_by, gathered, values_call, values_entry}
 use Rattle.words.proofs.Moves.{rule-within, RuleWithin}
 use Rattle.words.specs.Fits.{MoveWithin, reached, RefusalFits, RunFits, StartFits, StepFits, SupplyFits, ValueFits, ValuesFits}
@@ -40,18 +36,18 @@ use Rattle.words.specs.Fits.{MoveWithin, reached, RefusalFits, RunFits, StartFit
 -- ---- a load
 
 -- a refusal at an offset up to n
-abbrev pub LoadWithin : ℕ → Loaded → Type 0
-LoadWithin n (Accepted r c) = Unit {0}
-LoadWithin n (Refused r) = r.offset ≤ n
+abbrev pub LoadWithin : ℕ → Answer (ℕ × ℕ) → Type 0
+LoadWithin n (Ok (r, c)) = Unit {0}
+LoadWithin n (Err r) = r.offset ≤ n
 
 module _ (s : List ℕ) where
   ends-within : (g : Progress) (b : Bool) → eqb g.kind 3 ≡ b → LoadWithin (length s) (load_end s g)
   ends-within g true e = rw e tt
   ends-within g false e = rw e (omega arith)
 
-  after-within : (rest : Progress → Loaded) → ((g : Progress) → LoadWithin (length s) (rest g)) → (at : ℕ) → at < length s → (v : Verdict) → LoadWithin (length s) (after rest at v)
-  after-within rest go at h (Refuses k) = omega arith
-  after-within rest go at h (Goes g) = go g
+  after-within : (rest : Progress → Answer (ℕ × ℕ)) → ((g : Progress) → LoadWithin (length s) (rest g)) → (at : ℕ) → at < length s → (v : Result Progress ℕ) → LoadWithin (length s) (after rest at v)
+  after-within rest go at h (Err k) = omega arith
+  after-within rest go at h (Ok g) = go g
 
   records-within : LoadWithin (length s) (records s (length s) 0 nothing_read)
   records-within = walk-holds s broken (judged s) (load_end s) (λ at g. Unit {0}) (LoadWithin (length s))
@@ -65,11 +61,11 @@ module _ (s : List ℕ) where
   unfolding load_of long
   load_fits = by (ltb 32768 (length s)) refl
     where
-      wider : (l : Loaded) → LoadWithin (length s) l → length s ≤ 32768 → LoadWithin 4294967295 l
-      wider (Accepted r c) h k = tt
-      wider (Refused r) h k = omega (arith, h, k)
+      wider : (l : Answer (ℕ × ℕ)) → LoadWithin (length s) l → length s ≤ 32768 → LoadWithin 4294967295 l
+      wider (Ok (r, c)) h k = tt
+      wider (Err r) h k = omega (arith, h, k)
 
-      by : (b : Bool) → ltb 32768 (length s) ≡ b → LoadWithin 4294967295 (cond b (Refused (record { number = 1; offset = 0 })) (records s (length s) 0 nothing_read))
+      by : (b : Bool) → ltb 32768 (length s) ≡ b → LoadWithin 4294967295 (cond b (Err (record { number = 1; offset = 0 })) (records s (length s) 0 nothing_read))
       by true e = omega arith
       by false e = wider (records s (length s) 0 nothing_read) records-within (ltb-false 32768 (length s) e)
 
@@ -83,9 +79,9 @@ start_fits lim s l = by (load_of s) (load_fits s)
     sized false pr = omega arith
     sized true pr = tt
 
-    by : (a : Loaded) → LoadWithin 4294967295 a → StartFits (start_loaded a lim s l).answer
-    by (Refused r) h = h
-    by (Accepted r c) h = sized (full_size lim l) (program_of s r c)
+    by : (a : Answer (ℕ × ℕ)) → LoadWithin 4294967295 a → StartFits (start_loaded a lim s l).answer
+    by (Err r) h = h
+    by (Ok (r, c)) h = sized (full_size lim l) (program_of s r c)
 
 -- ---- what a call knows that was let in
 
@@ -111,9 +107,9 @@ enter-within lim s l = by (load_of s) (load_fits s)
     told pr false e = omega arith
     told pr true e = good-within lim pr l e
 
-    by : (a : Loaded) → LoadWithin 4294967295 a → EntryWithin lim (enter_loaded a lim s l)
-    by (Refused r) h = h
-    by (Accepted r c) h = told (program_of s r c) (lent_ok lim (program_of s r c) l) refl
+    by : (a : Answer (ℕ × ℕ)) → LoadWithin 4294967295 a → EntryWithin lim (enter_loaded a lim s l)
+    by (Err r) h = h
+    by (Ok (r, c)) h = told (program_of s r c) (lent_ok lim (program_of s r c) l) refl
 
 -- ---- a step and a turn
 
@@ -143,9 +139,9 @@ module _ (lim : Limits) (ok : Usable lim) (pr : Program) (t : Tables) (h : procs
   unfolding turn_tables
   turn-within = by (turn_for pr t)
     where
-      by : (f : Found) → StepWithin (turn_to f lim pr t)
-      by Nothing = unfold turn_to in tt
-      by (At p) = unfold turn_to in step-within p
+      by : (f : Option ℕ) → StepWithin (turn_to f lim pr t)
+      by None = unfold turn_to in tt
+      by (Some p) = unfold turn_to in step-within p
 
 answer-fits : (x : Stepping) (l : Lent) → StepWithin x → StepFits (step_answer x l).answer
 answer-fits (unmade k) l h = omega arith
@@ -170,10 +166,10 @@ turn-fits lim ok s l = by (enter lim s l) (enter-within lim s l)
 -- ---- a run
 
 module _ (lim : Limits) (pr : Program) where
-  turn-most : (k : ℕ) (f : Found) (n : ℕ) (t : Tables) (go : ℕ → Running) → n ≤ k → ((p : ℕ) → (go p).moves ≤ k) → (run_turn f n t go).moves ≤ k
+  turn-most : (k : ℕ) (f : Option ℕ) (n : ℕ) (t : Tables) (go : ℕ → Running) → n ≤ k → ((p : ℕ) → (go p).moves ≤ k) → (run_turn f n t go).moves ≤ k
   unfolding run_turn
-  turn-most k Nothing n t go h all = h
-  turn-most k (At p) n t go h all = all p
+  turn-most k None n t go h all = h
+  turn-most k (Some p) n t go h all = all p
 
   test-most : (k : ℕ) (b : Bool) (n : ℕ) (t : Tables) (go : ℕ → Running) → n ≤ k → ((p : ℕ) → (go p).moves ≤ k) → (run_test b pr n t go).moves ≤ k
   unfolding run_test
@@ -236,7 +232,7 @@ pub values-fits : (lim : Limits) → Usable lim → (s : List ℕ) (l : Lent) (r
 unfolding values_call gathered
 values-fits lim ok s l row = by (enter lim s l) (enter-within lim s l)
   where
-    told : (b : Bool) (n : ℕ) (vs : List Binding) → n ≤ lim.vars → ValuesFits (gather_by b n vs row).answer
+    told : (b : Bool) (n : ℕ) (vs : List (Option Term)) → n ≤ lim.vars → ValuesFits (gather_by b n vs row).answer
     told false n vs h = omega arith
     told true n vs h = omega (arith, h, ok.vars_counted)
 
@@ -250,6 +246,6 @@ values-fits lim ok s l row = by (enter lim s l) (enter-within lim s l)
 pub watch-reached : (ps : List Process) → length ps ≤ 4294967296 → reached (watch_of ps) ≡ watch_of ps
 watch-reached ps h = by (watch_of ps) refl
   where
-    by : (f : Found) → watch_of ps ≡ f → reached f ≡ f
-    by Nothing e = refl
-    by (At i) e = unfold watch_of in (let u = (lowest-at (λ j. is_mode suspended (at ps j).mode) (length ps) i e).there in rw (lt-ltb i 4294967296 (omega (arith, u, h))))
+    by : (f : Option ℕ) → watch_of ps ≡ f → reached f ≡ f
+    by None e = refl
+    by (Some i) e = unfold watch_of in (let u = (lowest-at (λ j. is_mode suspended (at ps j).mode) (length ps) i e).there in rw (lt-ltb i 4294967296 (omega (arith, u, h))))

@@ -1,4 +1,5 @@
 -- A move touches its own process, the first that it makes, or a variable.
+use Rattle.std.specs.Prelude.{Option, Some, None}
 use mathlib.Core.Bool.{Bool, false, true}
 use mathlib.Core.List.{[], ◌∷◌, List}
 use Prim.Native.Nat.{◌≤◌, suc, zero, ℕ}
@@ -10,8 +11,6 @@ use Rattle.parlog.specs.Rules.{and_par_start, and_par_wait, and_seq_start, and_s
 use Rattle.parlog.specs.Tables.{at, State}
 use Rattle.parlog.specs.Tree.{bad, good, Heard, silent}
 use Rattle.parlog.specs.Unify.{binds, Decided, fails, suspends}
-use Rattle.parlog.specs.declared.Found.{Found}
-use Rattle.parlog.specs.declared.Found.TheVariants.{At, Nothing}
 use Rattle.parlog.specs.declared.Process.{Process}
 use Rattle.words.specs.Fits.{MoveWithin}
 
@@ -84,11 +83,11 @@ module _ (n : ℕ) (pr : Program) (s : State) (hs : length s.procs ≤ n) where
     unfolding or_search_start
     or-search-start ks = first_made_lem p h (tries pr p x.spot (length s.vars) ks)
 
-    or-search-wait : (f : Found) (b : Bool) → RuleWithin n (or_search_wait f b s p x)
+    or-search-wait : (f : Option ℕ) (b : Bool) → RuleWithin n (or_search_wait f b s p x)
     unfolding or_search_wait
-    or-search-wait (At c) b = h
-    or-search-wait Nothing true = h
-    or-search-wait Nothing false = tt
+    or-search-wait (Some c) b = h
+    or-search-wait None true = h
+    or-search-wait None false = tt
 
     try-clause-wait : (b c : Bool) → RuleWithin n (try_clause_wait b c p x)
     unfolding try_clause_wait

@@ -1,4 +1,6 @@
 -- A save fits into a word, and an offset is told.
+use Rattle.parlog.specs.Answer.{Answer}
+use Rattle.std.specs.Prelude.{Err, Ok}
 use mathlib.Core.Path.{◌∙◌, ◌≡◌, ap}
 use mathlib.Core.Bool.{Bool, false, true}
 use mathlib.Core.List.{List}
@@ -12,13 +14,9 @@ use Rattle.parlog.specs.Limits.{Limits}
 use Rattle.parlog.specs.Load.{load_of}
 use Rattle.parlog.specs.Numbers.{refused_as, word}
 use Rattle.parlog.specs.Tables.{Lent}
-use Rattle.parlog.specs.declared.Loaded.TheVariants.{Refused}
 use Rattle.parlog.specs.declared.Refusal.{Refusal}
 use Rattle.resume.specs.Calls.{save_by, save_call, save_entry}
 use Rattle.resume.specs.Says.{StoredFew}
-use Rattle.resume.specs.declared.Resumed.TheVariants.{Unresumed}
-use Rattle.resume.specs.declared.Saved.{Saved}
-use Rattle.resume.specs.declared.Saved.TheVariants.{Stored, Unsaved}
 use Rattle.saved.specs.Form.{saved_bytes}
 use Rattle.words.proofs.Fitting.{enter-within, EntryWithin, load_fits}
 use Rattle.words.specs.Fits.{RefusalFits}
@@ -35,9 +33,9 @@ pub told-near : (r : Refusal) → r.offset ≤ 4294967295 → r ≡ told_refusal
 told-near r h = rw (le-ltb 4294967295 r.offset h)
 
 -- the refusals of a save
-abbrev RefusedFits : Saved → Type 0
-RefusedFits (Stored n) = Unit {0}
-RefusedFits (Unsaved r) = RefusalFits r
+abbrev RefusedFits : Answer ℕ → Type 0
+RefusedFits (Ok n) = Unit {0}
+RefusedFits (Err r) = RefusalFits r
 
 save-within : (lim : Limits) (s : List ℕ) (l : Lent) (row : List ℕ) → RefusedFits (save_call lim s l row).answer
 unfolding save_call
@@ -52,14 +50,14 @@ save-within lim s l row = by (enter lim s l) (enter-within lim s l)
     by (entered pr t) h = roomy (ltb (length row) (length (saved_bytes l (length s)))) (saved_bytes l (length s))
 
 -- the size too
-pub save-fits : (lim : Limits) (s : List ℕ) (l : Lent) (row : List ℕ) (a : Saved) → a ≡ (save_call lim s l row).answer → StoredFew a → SaveFits a
-save-fits lim s l row (Stored n) e f = f
-save-fits lim s l row (Unsaved r) e f = rw (← e) at (save-within lim s l row)
+pub save-fits : (lim : Limits) (s : List ℕ) (l : Lent) (row : List ℕ) (a : Answer ℕ) → a ≡ (save_call lim s l row).answer → StoredFew a → SaveFits a
+save-fits lim s l row (Ok n) e f = f
+save-fits lim s l row (Err r) e f = rw (← e) at (save-within lim s l row)
 
 -- no offset in an image is over 32 bits
-pub image-near : (s : List ℕ) {f : Refusal} → load_of s ≡ Refused f → f.offset ≤ 4294967295
+pub image-near : (s : List ℕ) {f : Refusal} → load_of s ≡ Err f → f.offset ≤ 4294967295
 image-near s e = rw e at (load_fits s)
 
 -- a refusal told in place of another
-pub resume-told : (r : Refusal) {t : Refusal} {w : ℕ} → t ≡ told_refusal r → w ≡ word (refused_as t) → w ≡ word (resume_numbers (Unresumed r))
+pub resume-told : (r : Refusal) {t : Refusal} {w : ℕ} → t ≡ told_refusal r → w ≡ word (refused_as t) → w ≡ word (resume_numbers (Err r))
 resume-told r e k = k ∙ ap (λ (x : Refusal). word (refused_as x)) e

@@ -1,22 +1,11 @@
 -- The answers whose numbers fit into a word: an offset, a process and a count of moves have 32 bits there.
-use Rattle.std.specs.Prelude.{◌≡◌, cond, ◌≤◌, suc, zero, ℕ, ltb}
+use Rattle.parlog.specs.declared.Term.{Term}
+use Rattle.parlog.specs.declared.End.{End}
+use Rattle.parlog.specs.Answer.{Answer}
+use Rattle.std.specs.Prelude.{◌≡◌, cond, ◌≤◌, suc, zero, ℕ, ltb, ⊤, Option, Some, Err, Ok, None}
 use Rattle.parlog.specs.Numbers.{rule_number, touched}
-use Rattle.parlog.specs.declared.Found.{Found}
-use Rattle.parlog.specs.declared.Found.TheVariants.{At, Nothing}
 use Rattle.parlog.specs.declared.Move.{Move}
-use Rattle.parlog.specs.declared.Ran.{Ran}
-use Rattle.parlog.specs.declared.Ran.TheVariants.{Ended, Unrun}
 use Rattle.parlog.specs.declared.Refusal.{Refusal}
-use Rattle.parlog.specs.declared.Started.{Started}
-use Rattle.parlog.specs.declared.Started.TheVariants.{Begun, Unstarted}
-use Rattle.parlog.specs.declared.Stepped.{Stepped}
-use Rattle.parlog.specs.declared.Stepped.TheVariants.{Moved, Unmoved}
-use Rattle.parlog.specs.declared.Supplied.{Supplied}
-use Rattle.parlog.specs.declared.Supplied.TheVariants.{Given, Ungiven}
-use Rattle.parlog.specs.declared.Valued.{Valued}
-use Rattle.parlog.specs.declared.Valued.TheVariants.{Unvalued, Value}
-use Rattle.values.specs.declared.Gathered.{Gathered}
-use Rattle.values.specs.declared.Gathered.TheVariants.{Ungathered, Values}
 
 -- the offset of a refusal
 abbrev pub RefusalFits : Refusal → Type 0
@@ -32,39 +21,39 @@ abbrev pub MoveWithin : ℕ → Move → Type 0
 MoveWithin n m = NumberWithin n (touched m).sort (touched m).number
 
 -- of a start
-abbrev pub StartFits : Started → Type 0
-StartFits Begun = Unit {0}
-StartFits (Unstarted r) = RefusalFits r
+abbrev pub StartFits : Answer ⊤ → Type 0
+StartFits (Ok tt) = Unit {0}
+StartFits (Err r) = RefusalFits r
 
 -- of a step or a turn
-abbrev pub StepFits : Stepped → Type 0
-StepFits (Moved m) = MoveWithin 4294967295 m
-StepFits (Unmoved r) = RefusalFits r
+abbrev pub StepFits : Answer Move → Type 0
+StepFits (Ok m) = MoveWithin 4294967295 m
+StepFits (Err r) = RefusalFits r
 
 -- of a run
-abbrev pub RunFits : Ran → Type 0
-RunFits (Ended e n) = n ≤ 4294967295
-RunFits (Unrun r) = RefusalFits r
+abbrev pub RunFits : Answer (End × ℕ) → Type 0
+RunFits (Ok (e, n)) = n ≤ 4294967295
+RunFits (Err r) = RefusalFits r
 
 -- of a supply
-abbrev pub SupplyFits : Supplied → Type 0
-SupplyFits (Given v) = Unit {0}
-SupplyFits (Ungiven r) = RefusalFits r
+abbrev pub SupplyFits : Answer ℕ → Type 0
+SupplyFits (Ok v) = Unit {0}
+SupplyFits (Err r) = RefusalFits r
 
 -- of a look
-abbrev pub ValueFits : Valued → Type 0
-ValueFits (Value t) = Unit {0}
-ValueFits (Unvalued r) = RefusalFits r
+abbrev pub ValueFits : Answer Term → Type 0
+ValueFits (Ok t) = Unit {0}
+ValueFits (Err r) = RefusalFits r
 
 -- of a look at all goal variables
-abbrev pub ValuesFits : Gathered → Type 0
-ValuesFits (Values n) = n ≤ 4294967295
-ValuesFits (Ungathered r) = RefusalFits r
+abbrev pub ValuesFits : Answer ℕ → Type 0
+ValuesFits (Ok n) = n ≤ 4294967295
+ValuesFits (Err r) = RefusalFits r
 
 -- of a watch: a row whose number has more than 32 bits cannot be told
-abbrev pub reached : Found → Found
-reached (At i) = cond (ltb i 4294967296) (At i) Nothing
-reached Nothing = Nothing
+abbrev pub reached : Option ℕ → Option ℕ
+reached (Some i) = cond (ltb i 4294967296) (Some i) None
+reached None = None
 
 -- the rule of a move, the sort of what it touched, and its number
 pub record ToldSays (m : Move) (rule sort number : ℕ) : Type 0 where

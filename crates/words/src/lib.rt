@@ -1,16 +1,13 @@
 // Each answer of a call as the one word that C is given.
 #![tactic(auto)]
 
-ghost use Rattle.std.specs.Prelude.{◌≡◌, ◌≤◌};
+ghost use Rattle.std.specs.Prelude.{◌≡◌, ◌≤◌, Ok};
 ghost use Rattle.parlog.specs.Numbers.{end_number, refused_as, rule_number, run_numbers, start_numbers, step_numbers, supply_numbers, term_numbers, value_numbers, variable, watch_numbers, word};
-ghost use Rattle.parlog.specs.declared.Stepped.TheVariants.{Moved};
 ghost use Rattle.words.specs.Fits.{MoveWithin, reached, RefusalFits, RunFits, StartFits, StepFits, SupplyFits, ToldSays, ValueFits, ValuesFits};
 ghost use Rattle.values.specs.Values.{values_numbers};
 ghost use Rattle.words.specs.Nights.{resume_numbers, SaveFits, save_numbers, told_offset, told_refusal};
 
-use parlog::{End, Found, Move, Ran, Refusal, Started, Stepped, Supplied, Term, Valued, codes};
-use resume::{Resumed, Saved};
-use values::Gathered;
+use parlog::{Answer, End, Move, Refusal, Term, codes};
 
 // The refusal of a call that is accepted.
 const ACCEPTED: usize = 0;
@@ -52,13 +49,13 @@ pub fn refused(r: Refusal) -> u64
 }
 
 // Of a start: nothing to tell.
-pub fn start_word(a: Started) -> u64
+pub fn start_word(a: Answer<()>) -> u64
     requires { StartFits a }
     ensures { result ≡ word (start_numbers a) }
 {
     match a {
-        Started::Begun => word(ACCEPTED, 0, 0, 0),
-        Started::Unstarted(r) => refused(r),
+        Ok(()) => word(ACCEPTED, 0, 0, 0),
+        Err(r) => refused(r),
     }
 }
 
@@ -132,20 +129,20 @@ pub fn rule_number(m: Move) -> usize
 // A move as one word.
 fn move_word(m: Move) -> u64
     requires { MoveWithin 4294967295 m }
-    ensures { result ≡ word (step_numbers (Moved m)) }
+    ensures { result ≡ word (step_numbers (Ok m)) }
 {
     let t = tell(m);
     word(ACCEPTED, t.0 as usize, t.1 as usize, t.2)
 }
 
 // Of a step or a turn: the rule, and what it touched.
-pub fn step_word(a: Stepped) -> u64
+pub fn step_word(a: Answer<Move>) -> u64
     requires { StepFits a }
     ensures { result ≡ word (step_numbers a) }
 {
     match a {
-        Stepped::Moved(m) => move_word(m),
-        Stepped::Unmoved(r) => refused(r),
+        Ok(m) => move_word(m),
+        Err(r) => refused(r),
     }
 }
 
@@ -165,24 +162,24 @@ fn end_number(e: End) -> u8
 }
 
 // Of a run: its end, and the moves made.
-pub fn run_word(a: Ran) -> u64
+pub fn run_word(a: Answer<(End, usize)>) -> u64
     requires { RunFits a }
     ensures { result ≡ word (run_numbers a) }
 {
     match a {
-        Ran::Ended(e, n) => word(ACCEPTED, end_number(e) as usize, 0, n),
-        Ran::Unrun(r) => refused(r),
+        Ok((e, n)) => word(ACCEPTED, end_number(e) as usize, 0, n),
+        Err(r) => refused(r),
     }
 }
 
 // Of a supply: nothing to tell.
-pub fn supply_word(a: Supplied) -> u64
+pub fn supply_word(a: Answer<usize>) -> u64
     requires { SupplyFits a }
     ensures { result ≡ word (supply_numbers a) }
 {
     match a {
-        Supplied::Given(_) => word(ACCEPTED, 0, 0, 0),
-        Supplied::Ungiven(r) => refused(r),
+        Ok(_) => word(ACCEPTED, 0, 0, 0),
+        Err(r) => refused(r),
     }
 }
 
@@ -197,32 +194,32 @@ fn term_word(t: Term) -> u64
 }
 
 // Of a look: what was seen.
-pub fn value_word(a: Valued) -> u64
+pub fn value_word(a: Answer<Term>) -> u64
     requires { ValueFits a }
     ensures { result ≡ word (value_numbers a) }
 {
     match a {
-        Valued::Value(t) => term_word(t),
-        Valued::Unvalued(r) => refused(r),
+        Ok(t) => term_word(t),
+        Err(r) => refused(r),
     }
 }
 
 // Of a look at all goal variables: how many they are.
-pub fn values_word(a: Gathered) -> u64
+pub fn values_word(a: Answer<usize>) -> u64
     requires { ValuesFits a }
     ensures { result ≡ word (values_numbers a) }
 {
     match a {
-        Gathered::Values(n) => word(ACCEPTED, 0, 0, n),
-        Gathered::Ungathered(r) => refused(r),
+        Ok(n) => word(ACCEPTED, 0, 0, n),
+        Err(r) => refused(r),
     }
 }
 
 // Of a watch: 1 and the number, where there is one that can be told.
-pub fn watch_word(a: Found) -> u64
+pub fn watch_word(a: Option<usize>) -> u64
     ensures { result ≡ word (watch_numbers (reached a)) }
 {
-    let Found::At(i) = a else {
+    let Some(i) = a else {
         return word(ACCEPTED, 0, 0, 0);
     };
     if MOST_NUMBER < i {
@@ -254,22 +251,22 @@ pub fn told_refusal(r: Refusal) -> Refusal
 }
 
 // Of a save: how many bytes the saved run has.
-pub fn save_word(a: Saved) -> u64
+pub fn save_word(a: Answer<usize>) -> u64
     requires { SaveFits a }
     ensures { result ≡ word (save_numbers a) }
 {
     match a {
-        Saved::Stored(n) => word(ACCEPTED, 0, 0, n),
-        Saved::Unsaved(r) => refused(r),
+        Ok(n) => word(ACCEPTED, 0, 0, n),
+        Err(r) => refused(r),
     }
 }
 
 // Of a resume: nothing to tell.
-pub fn resume_word(a: Resumed) -> u64
+pub fn resume_word(a: Answer<()>) -> u64
     ensures { result ≡ word (resume_numbers a) }
 {
     match a {
-        Resumed::Restored => word(ACCEPTED, 0, 0, 0),
-        Resumed::Unresumed(r) => refused(told_refusal(r)),
+        Ok(()) => word(ACCEPTED, 0, 0, 0),
+        Err(r) => refused(told_refusal(r)),
     }
 }

@@ -2,86 +2,59 @@
 #![tactic(auto)]
 
 ghost use Rattle.std.specs.Prelude.{◌&&◌, true, ◌≡◌, ◌+◌, ◌≤◌};
-ghost use Rattle.entry_table.specs.Entered.{Entered};
-ghost use Rattle.lay_text.specs.Laying.{Writes};
+ghost use Rattle.lay_text.specs.Wrote.{Wrote};
 ghost use Rattle.parlog.specs.Image.{goal_end, record_end};
 ghost use Rattle.parlog.specs.Program.{clause_of, goal_of};
 ghost use Rattle.parlog.specs.Scan.{list_of};
 ghost use Rattle.text_program.specs.Parsing.{all_of};
 ghost use Rattle.text_program.specs.Printing.{clause_named, clauses_text, clause_text, end_mark, goal_named, halves_text, next_mark};
 
-use entry_table::Noted;
-use lay_text::To;
+use lay_text::Writer;
 use parlog::codes;
+use write_goal::Source;
 
 // Guard and body, from the guard's place on.
-fn halves(
-    out: &mut [u8],
-    w: To,
-    s: &[u8],
-    names: &[u8],
-    table: &[usize],
-    e: Noted,
-    r: usize,
-    at: usize,
-) -> To
-    requires { (r ≤ 255) × (at ≤ 67108864) × Entered names.now table.now e.every e.count }
-    ensures { Writes out.old w (halves_text r names.now (goal_of s.now at) (goal_of s.now (goal_end s.now at))) (goal_named r names.now (goal_of s.now at) && goal_named r names.now (goal_of s.now (goal_end s.now at))) out.new result }
+fn halves(w: &mut Writer, s: &Source, at: usize)
+    requires { at ≤ 67108864 }
+    ensures { Wrote w.old (halves_text s.now.relations s.now.names.row.now (goal_of s.now.image.now at) (goal_of s.now.image.now (goal_end s.now.image.now at))) (goal_named s.now.relations s.now.names.row.now (goal_of s.now.image.now at) && goal_named s.now.relations s.now.names.row.now (goal_of s.now.image.now (goal_end s.now.image.now at))) w.new }
 {
-    let body = place::goal_end(s, at);
-    if place::byte_at(s, at) == 0 {
-        if place::byte_at(s, body) == 0 {
-            return w;
+    let body = place::goal_end(s.image, at);
+    if place::byte_at(s.image, at) == 0 {
+        if place::byte_at(s.image, body) == 0 {
+            return;
         }
-        let a = lay_text::word(out, w, b" <- ");
-        return write_goal::goal(out, a, s, names, table, e, r, body);
+        w.word(b" <- ");
+        write_goal::goal(w, s, body);
+        return;
     }
-    let a = lay_text::word(out, w, b" <- ");
-    let b = write_goal::goal(out, a, s, names, table, e, r, at);
-    let c = lay_text::word(out, b, b" : ");
-    write_goal::goal(out, c, s, names, table, e, r, body)
+    w.word(b" <- ");
+    write_goal::goal(w, s, at);
+    w.word(b" : ");
+    write_goal::goal(w, s, body);
 }
 
 // The end of a clause, by the next one's mark.
-fn clause_end(out: &mut [u8], w: To, mark: usize) -> To
-    ensures { Writes out.old w (end_mark mark) true out.new result }
+fn clause_end(w: &mut Writer, mark: usize)
+    ensures { Wrote w.old (end_mark mark) true w.new }
 {
     if mark == 1 {
-        return lay_text::word(out, w, b";\n");
+        w.word(b";\n");
+    } else {
+        w.word(b".\n");
     }
-    lay_text::word(out, w, b".\n")
 }
 
 // The clause at a place.
-fn clause(
-    out: &mut [u8],
-    w: To,
-    s: &[u8],
-    names: &[u8],
-    table: &[usize],
-    e: Noted,
-    r: usize,
-    at: usize,
-    mark: usize,
-) -> To
-    requires { (r ≤ 255) × (at ≤ 33554432) × Entered names.now table.now e.every e.count }
-    ensures { Writes out.old w (clause_text r names.now (clause_of s.now at) mark) (clause_named r names.now (clause_of s.now at)) out.new result }
+fn clause(w: &mut Writer, s: &Source, at: usize, mark: usize)
+    requires { at ≤ 33554432 }
+    ensures { Wrote w.old (clause_text s.now.relations s.now.names.row.now (clause_of s.now.image.now at) mark) (clause_named s.now.relations s.now.names.row.now (clause_of s.now.image.now at)) w.new }
 {
-    let rel = place::byte_at(s, at + codes::CLAUSE_RELATION);
-    let n = place::byte_at(s, at + codes::CLAUSE_ARITY);
-    let a = lay_text::name(out, w, names, table, e, rel);
-    let b = write_goal::arguments(out, a, s, names, table, e, r, at + codes::CLAUSE_HEAD, n);
-    let c = halves(
-        out,
-        b,
-        s,
-        names,
-        table,
-        e,
-        r,
-        at + codes::CLAUSE_HEAD + codes::TERM_SIZE * n,
-    );
-    clause_end(out, c, mark)
+    let rel = place::byte_at(s.image, at + codes::CLAUSE_RELATION);
+    let n = place::byte_at(s.image, at + codes::CLAUSE_ARITY);
+    w.name(&s.names, rel);
+    write_goal::arguments(w, s, at + codes::CLAUSE_HEAD, n);
+    halves(w, s, at + codes::CLAUSE_HEAD + codes::TERM_SIZE * n);
+    clause_end(w, mark);
 }
 
 // The mark of the clause at a place, of which so many are left; 0 where none is.
@@ -96,29 +69,15 @@ fn next_mark(s: &[u8], at: usize, left: usize) -> usize
 }
 
 // n clauses from a place on.
-pub fn clauses(
-    out: &mut [u8],
-    w: To,
-    s: &[u8],
-    names: &[u8],
-    table: &[usize],
-    e: Noted,
-    r: usize,
-    from: usize,
-    n: usize,
-) -> To
-    requires { (r ≤ 255) × (from ≤ 4194304) × (n ≤ 255) × Entered names.now table.now e.every e.count }
-    ensures { Writes out.old w (clauses_text r names.now (list_of (clause_of s.now) (record_end s.now) n from)) (all_of (clause_named r names.now) (list_of (clause_of s.now) (record_end s.now) n from)) out.new result }
+pub fn clauses(w: &mut Writer, s: &Source, from: usize, n: usize)
+    requires { (from ≤ 4194304) × (n ≤ 255) }
+    ensures { Wrote w.old (clauses_text s.now.relations s.now.names.row.now (list_of (clause_of s.now.image.now) (record_end s.now.image.now) n from)) (all_of (clause_named s.now.relations s.now.names.row.now) (list_of (clause_of s.now.image.now) (record_end s.now.image.now) n from)) w.new }
 {
-    let mut to = w;
     let mut at = from;
-    let mut left = n;
-    while 0 < left {
-        left -= 1;
-        let next = at + place::word_at(s, at);
-        let mark = next_mark(s, next, left);
-        to = clause(out, to, s, names, table, e, r, at, mark);
+    for left in (0..n).rev() {
+        let next = at + place::word_at(s.image, at);
+        let mark = next_mark(s.image, next, left);
+        clause(w, s, at, mark);
         at = next;
     }
-    to
 }

@@ -7,9 +7,9 @@ use lib.ListN.{get_or, length}
 use borrow.Author.Tests.{eq-eqb, ne_eqb}
 use native.Mathlib.Omega.{arith}
 use native.Mathlib.Numerals.{add-one}
-use Rattle.lay_text.proofs.Laws.{left_as, left_end, left-start, left_step, writes-both}
-use Rattle.lay_text.specs.Laying.{Left, most, Writes}
-use Rattle.lay_text.specs.declared.To.{To}
+use Rattle.lay_text.proofs.Lent.{Leaves, leaves_as, leaves_end, leaves-start, leaves_step, wrote-both}
+use Rattle.lay_text.specs.Wrote.{Wrote}
+use Rattle.lay_text.specs.declared.Writer.{Writer}
 use Rattle.parlog.proofs.Along.{list_length}
 use Rattle.parlog.specs.Image.{literal_end, stage_end}
 use Rattle.parlog.specs.Program.{goal_of, Literal, literal_of, stage_of}
@@ -50,24 +50,24 @@ module _ {A : Type 0} (text : A → List ℕ) (ok : A → Bool) (mark : List ℕ
     turn-ok n k q h = rw (items_more n k q h)
 
     -- what is left before item k, at place q
-    abbrev pub RowAt : ℕ → ℕ → ℕ → List ℕ → To → List ℕ → Bool → List ℕ → To → Type 0
-    RowAt n k q o w bs g p x = Left o w bs g p x (row_left text mark k (list_of read next (n - k) q)) (all_of ok (list_of read next (n - k) q))
+    abbrev pub RowAt : ℕ → ℕ → ℕ → Writer → List ℕ → Bool → Writer → Type 0
+    RowAt n k q w bs g x = Leaves w bs g x (row_left text mark k (list_of read next (n - k) q)) (all_of ok (list_of read next (n - k) q))
 
-    pub row-start : (n q : ℕ) (o : List ℕ) (w : To) → length o ≤ most → w.at ≤ most →
-        RowAt n 0 q o w (row_text text mark (list_of read next n q)) (all_of ok (list_of read next n q)) o w
+    pub row-start : (n q : ℕ) (w : Writer) →
+        RowAt n 0 q w (row_text text mark (list_of read next n q)) (all_of ok (list_of read next n q)) w
     unfolding row_left
-    row-start n q o w h g = let e : n - 0 ≡ n = omega arith in rw e (left-start o w _ _ h g)
+    row-start n q w = let e : n - 0 ≡ n = omega arith in rw e (leaves-start w _ _)
 
-    pub row-turn : (n k q : ℕ) {o : List ℕ} {w : To} {bs : List ℕ} {g : Bool} {p : List ℕ} {x : To} {p1 : List ℕ} {x1 : To} {p2 : List ℕ} {x2 : To} → k < n →
-        RowAt n k q o w bs g p x → Writes p x (lead_of mark k) true p1 x1 → Writes p1 x1 (text (read q)) (ok (read q)) p2 x2 → RowAt n (k + 1) (next q) o w bs g p2 x2
+    pub row-turn : (n k q : ℕ) {w : Writer} {bs : List ℕ} {g : Bool} {x : Writer} {x1 : Writer} {x2 : Writer} → k < n →
+        RowAt n k q w bs g x → Wrote x (lead_of mark k) true x1 → Wrote x1 (text (read q)) (ok (read q)) x2 → RowAt n (k + 1) (next q) w bs g x2
     row-turn n k q h l a b =
-        left_step (text (read q)) (row_left text mark (k + 1) (list_of read next (n - (k + 1)) (next q))) (ok (read q)) (all_of ok (list_of read next (n - (k + 1)) (next q)))
-        (left_step (lead_of mark k) (text (read q) ++ row_left text mark (k + 1) (list_of read next (n - (k + 1)) (next q))) true (ok (read q) && all_of ok (list_of read next (n - (k + 1)) (next q)))
-        (left_as (turn-text n k q h) (turn-ok n k q h) l) a) b
+        leaves_step (text (read q)) (row_left text mark (k + 1) (list_of read next (n - (k + 1)) (next q))) (ok (read q)) (all_of ok (list_of read next (n - (k + 1)) (next q)))
+        (leaves_step (lead_of mark k) (text (read q) ++ row_left text mark (k + 1) (list_of read next (n - (k + 1)) (next q))) true (ok (read q) && all_of ok (list_of read next (n - (k + 1)) (next q)))
+        (leaves_as (turn-text n k q h) (turn-ok n k q h) l) a) b
 
-    pub row-stop : (n k q : ℕ) {o : List ℕ} {w : To} {bs : List ℕ} {g : Bool} {p : List ℕ} {x : To} → n ≤ k → RowAt n k q o w bs g p x → Writes o w bs g p x
+    pub row-stop : (n k q : ℕ) {w : Writer} {bs : List ℕ} {g : Bool} {x : Writer} → n ≤ k → RowAt n k q w bs g x → Wrote w bs g x
     unfolding all_of
-    row-stop n k q h l = left_end (left_as (ap (row_left text mark k) (items-none n k q h) ∙ row-none k) (ap (all_of ok) (items-none n k q h)) l)
+    row-stop n k q h l = leaves_end (leaves_as (ap (row_left text mark k) (items-none n k q h) ∙ row-none k) (ap (all_of ok) (items-none n k q h)) l)
 
 -- ---- the lead
 
@@ -82,19 +82,19 @@ lead-mark mark (suc k) h = refl
 
 -- ---- a term
 
-module _ (r : ℕ) (nm : List ℕ) {o : List ℕ} {w : To} {p : List ℕ} {x : To} where
-  pub const-term : (t : Term) (c k : ℕ) → t ≡ Const c → k ≡ r + c → Writes o w (entry_name nm k) (is_entry nm k) p x → Writes o w (term_text r nm t) (term_named r nm t) p x
+module _ (r : ℕ) (nm : List ℕ) {w x : Writer} where
+  pub const-term : (t : Term) (c k : ℕ) → t ≡ Const c → k ≡ r + c → Wrote w (entry_name nm k) (is_entry nm k) x → Wrote w (term_text r nm t) (term_named r nm t) x
   unfolding term_text term_named
   const-term t c k e f v = rw (e, ← f) v
 
-  pub var-term : (t : Term) (v b : ℕ) → t ≡ Var v → b ≡ 65 + v % 16 → Writes o w (b ∷ []) true p x → Writes o w (term_text r nm t) (term_named r nm t) p x
+  pub var-term : (t : Term) (v b : ℕ) → t ≡ Var v → b ≡ 65 + v % 16 → Wrote w (b ∷ []) true x → Wrote w (term_text r nm t) (term_named r nm t) x
   unfolding term_text term_named
   var-term t v b e f g = rw (e, ← f) g
 
 -- ---- brackets
 
-pub brackets-none : {A : Type 0} (text : A → List ℕ) (ok : A → Bool) (read : ℕ → A) (next : ℕ → ℕ) (n q : ℕ) {o : List ℕ} {w : To} {p : List ℕ} {x : To} → n ≡ 0 →
-    Writes o w [] true p x → Writes o w (bracket_text text (list_of read next n q)) (all_of ok (list_of read next n q)) p x
+pub brackets-none : {A : Type 0} (text : A → List ℕ) (ok : A → Bool) (read : ℕ → A) (next : ℕ → ℕ) (n q : ℕ) {w x : Writer} → n ≡ 0 →
+    Wrote w [] true x → Wrote w (bracket_text text (list_of read next n q)) (all_of ok (list_of read next n q)) x
 unfolding bracket_text list_of all_of
 brackets-none text ok read next n q e v = rw e v
 
@@ -103,33 +103,33 @@ unfolding bracket_text
 brackets-is text [] h = absurd (omega arith)
 brackets-is text (x ∷ xs) h = refl
 
-pub brackets-some : {A : Type 0} (text : A → List ℕ) (ok : A → Bool) (read : ℕ → A) (next : ℕ → ℕ) (n q : ℕ) {o p p1 p2 : List ℕ} {w x x1 x2 : To} → 0 < n → w.at ≤ most →
-    Writes o w (40 ∷ []) true p x → Writes p x (row_text text (44 ∷ []) (list_of read next n q)) (all_of ok (list_of read next n q)) p1 x1 → Writes p1 x1 (41 ∷ []) true p2 x2 →
-    Writes o w (bracket_text text (list_of read next n q)) (all_of ok (list_of read next n q)) p2 x2
-brackets-some text ok read next n q h g a b c =
+pub brackets-some : {A : Type 0} (text : A → List ℕ) (ok : A → Bool) (read : ℕ → A) (next : ℕ → ℕ) (n q : ℕ) {w x x1 x2 : Writer} → 0 < n →
+    Wrote w (40 ∷ []) true x → Wrote x (row_text text (44 ∷ []) (list_of read next n q)) (all_of ok (list_of read next n q)) x1 → Wrote x1 (41 ∷ []) true x2 →
+    Wrote w (bracket_text text (list_of read next n q)) (all_of ok (list_of read next n q)) x2
+brackets-some text ok read next n q h a b c =
     rw (brackets-is text (list_of read next n q) (rw (list_length read next n q) h), ← true-right (all_of ok (list_of read next n q)))
-    (writes-both a (writes-both b c))
+    (wrote-both a (wrote-both b c))
 
 -- ---- a literal
 
-module _ (r : ℕ) (nm s : List ℕ) (at rel n : ℕ) {o p : List ℕ} {w x : To} where
+module _ (r : ℕ) (nm s : List ℕ) (at rel n : ℕ) {w x : Writer} where
   pub literal-equality : rel ≡ get_or s at 0 → n ≡ get_or s (at + 1) 0 → rel ≡ 255 →
-      Writes o w (row_text (term_text r nm) (32 ∷ 61 ∷ 32 ∷ []) (terms_at s n (at + 2))) (all_of (term_named r nm) (terms_at s n (at + 2))) p x →
-      Writes o w (literal_text r nm (literal_of s at)) (literal_named r nm (literal_of s at)) p x
+      Wrote w (row_text (term_text r nm) (32 ∷ 61 ∷ 32 ∷ []) (terms_at s n (at + 2))) (all_of (term_named r nm) (terms_at s n (at + 2))) x →
+      Wrote w (literal_text r nm (literal_of s at)) (literal_named r nm (literal_of s at)) x
   unfolding literal_text literal_named literal_of
   literal-equality e f h v = rw (← e, ← f, eq-eqb rel 255 h) v
 
-  pub literal-call : {p1 : List ℕ} {x1 : To} → rel ≡ get_or s at 0 → n ≡ get_or s (at + 1) 0 → (rel ≡ 255 → ⊥) → w.at ≤ most →
-      Writes o w (entry_name nm rel) (is_entry nm rel) p x → Writes p x (bracket_text (term_text r nm) (terms_at s n (at + 2))) (all_of (term_named r nm) (terms_at s n (at + 2))) p1 x1 →
-      Writes o w (literal_text r nm (literal_of s at)) (literal_named r nm (literal_of s at)) p1 x1
+  pub literal-call : {x1 : Writer} → rel ≡ get_or s at 0 → n ≡ get_or s (at + 1) 0 → (rel ≡ 255 → ⊥) →
+      Wrote w (entry_name nm rel) (is_entry nm rel) x → Wrote x (bracket_text (term_text r nm) (terms_at s n (at + 2))) (all_of (term_named r nm) (terms_at s n (at + 2))) x1 →
+      Wrote w (literal_text r nm (literal_of s at)) (literal_named r nm (literal_of s at)) x1
   unfolding literal_text literal_named literal_of
-  literal-call e f h g v u = rw (← e, ← f, ne_eqb rel 255 h) (writes-both v u)
+  literal-call e f h v u = rw (← e, ← f, ne_eqb rel 255 h) (wrote-both v u)
 
 -- ---- a stage and a goal, by what their loops leave
 
-pub stage-told : (r : ℕ) (nm s : List ℕ) (from n : ℕ) {o p : List ℕ} {w x : To} → n ≡ get_or s from 0 →
-    Writes o w (row_text (literal_text r nm) comma_mark (list_of (literal_of s) (literal_end s) n (from + 1))) (all_of (literal_named r nm) (list_of (literal_of s) (literal_end s) n (from + 1))) p x →
-    Writes o w (row_text (literal_text r nm) comma_mark (stage_of s from)) (all_of (literal_named r nm) (stage_of s from)) p x
+pub stage-told : (r : ℕ) (nm s : List ℕ) (from n : ℕ) {w x : Writer} → n ≡ get_or s from 0 →
+    Wrote w (row_text (literal_text r nm) comma_mark (list_of (literal_of s) (literal_end s) n (from + 1))) (all_of (literal_named r nm) (list_of (literal_of s) (literal_end s) n (from + 1))) x →
+    Wrote w (row_text (literal_text r nm) comma_mark (stage_of s from)) (all_of (literal_named r nm) (stage_of s from)) x
 unfolding stage_of
 stage-told r nm s from n e v = rw (← e) v
 
@@ -139,8 +139,8 @@ stage_text r nm st = row_text (literal_text r nm) comma_mark st
 abbrev pub stage_named : ℕ → List ℕ → List Literal → Bool
 stage_named r nm st = all_of (literal_named r nm) st
 
-pub goal-told : (r : ℕ) (nm s : List ℕ) (from n : ℕ) {o p : List ℕ} {w x : To} → n ≡ get_or s from 0 →
-    Writes o w (row_text (stage_text r nm) and_mark (list_of (stage_of s) (stage_end s) n (from + 1))) (all_of (stage_named r nm) (list_of (stage_of s) (stage_end s) n (from + 1))) p x →
-    Writes o w (goal_text r nm (goal_of s from)) (goal_named r nm (goal_of s from)) p x
+pub goal-told : (r : ℕ) (nm s : List ℕ) (from n : ℕ) {w x : Writer} → n ≡ get_or s from 0 →
+    Wrote w (row_text (stage_text r nm) and_mark (list_of (stage_of s) (stage_end s) n (from + 1))) (all_of (stage_named r nm) (list_of (stage_of s) (stage_end s) n (from + 1))) x →
+    Wrote w (goal_text r nm (goal_of s from)) (goal_named r nm (goal_of s from)) x
 unfolding goal_of goal_text
 goal-told r nm s from n e v = rw (← e) v

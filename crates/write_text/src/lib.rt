@@ -2,8 +2,7 @@
 #![tactic(auto)]
 
 ghost use Rattle.std.specs.Prelude.{true, [], ◌∷◌, ◌≡◌, ◌*◌, ◌+◌, ◌≤◌};
-ghost use Rattle.entry_table.specs.Entered.{Entered};
-ghost use Rattle.lay_text.specs.Laying.{Writes};
+ghost use Rattle.lay_text.specs.Wrote.{Wrote};
 ghost use Rattle.parlog.specs.Image.{byte_at, mode_end, record_at, record_end};
 ghost use Rattle.parlog.specs.Program.{goal_of, modes_of, program_of};
 ghost use Rattle.parlog.specs.Scan.{list_of};
@@ -12,117 +11,80 @@ ghost use Rattle.text_program.specs.Parsing.{all_of};
 ghost use Rattle.text_program.specs.Printing.{bracket_text, goal_line_text, goal_named, mode_lines_text, mode_line_text, mode_text, program_named, program_text, relations_named, row_text};
 ghost use Rattle.write_text.specs.Modes.{any_mode};
 
-use entry_table::Noted;
-use lay_text::To;
+use lay_text::Writer;
 use parlog::codes;
+use write_goal::Source;
 
 // ---- mode lines
 
 // The mark of a mode.
-fn mode(out: &mut [u8], w: To, m: usize) -> To
-    ensures { Writes out.old w (mode_text m) (any_mode m) out.new result }
+fn mode(w: &mut Writer, m: usize)
+    ensures { Wrote w.old (mode_text m) (any_mode m) w.new }
 {
     if m == 0 {
-        return lay_text::put(out, w, b'?');
+        w.put(b'?');
+    } else {
+        w.put(b'^');
     }
-    lay_text::put(out, w, b'^')
 }
 
 // n modes from a place on.
-fn modes(out: &mut [u8], w: To, s: &[u8], from: usize, n: usize) -> To
+fn modes(w: &mut Writer, s: &[u8], from: usize, n: usize)
     requires { (from ≤ 1073741824) × (n ≤ 255) }
-    ensures { Writes out.old w (row_text mode_text (44 ∷ []) (list_of (byte_at s.now) mode_end n from)) (all_of any_mode (list_of (byte_at s.now) mode_end n from)) out.new result }
+    ensures { Wrote w.old (row_text mode_text (44 ∷ []) (list_of (byte_at s.now) mode_end n from)) (all_of any_mode (list_of (byte_at s.now) mode_end n from)) w.new }
 {
-    let mut to = w;
-    let mut at = from;
-    let mut k = 0;
-    while k < n {
-        to = write_goal::lead(out, to, k, b",");
-        to = mode(out, to, place::byte_at(s, at));
-        at += 1;
-        k += 1;
+    for k in 0..n {
+        write_goal::lead(w, k, b",");
+        mode(w, place::byte_at(s, from + k));
     }
-    to
 }
 
 // The modes of the relation at a place, in brackets.
-fn mode_marks(out: &mut [u8], w: To, s: &[u8], at: usize) -> To
+fn mode_marks(w: &mut Writer, s: &[u8], at: usize)
     requires { at ≤ 33554432 }
-    ensures { Writes out.old w (bracket_text mode_text (modes_of s.now at)) true out.new result }
+    ensures { Wrote w.old (bracket_text mode_text (modes_of s.now at)) true w.new }
 {
     let n = place::byte_at(s, at + codes::RELATION_ARITY);
     if n == 0 {
-        return w;
+        return;
     }
-    let a = lay_text::put(out, w, b'(');
-    let b = modes(out, a, s, at + codes::RELATION_MODES, n);
-    lay_text::put(out, b, b')')
+    w.put(b'(');
+    modes(w, s, at + codes::RELATION_MODES, n);
+    w.put(b')');
 }
 
 // The mode line of relation k, at a place.
-fn mode_line(
-    out: &mut [u8],
-    w: To,
-    s: &[u8],
-    names: &[u8],
-    table: &[usize],
-    e: Noted,
-    r: usize,
-    k: usize,
-    at: usize,
-) -> To
-    requires { (at ≤ 33554432) × Entered names.now table.now e.every e.count }
-    ensures { Writes out.old w (mode_line_text r names.now k (modes_of s.now at)) (is_entry names.now k) out.new result }
+fn mode_line(w: &mut Writer, s: &Source, k: usize, at: usize)
+    requires { at ≤ 33554432 }
+    ensures { Wrote w.old (mode_line_text s.now.relations s.now.names.row.now k (modes_of s.now.image.now at)) (is_entry s.now.names.row.now k) w.new }
 {
-    let a = lay_text::word(out, w, b"mode ");
-    let b = lay_text::name(out, a, names, table, e, k);
-    let c = mode_marks(out, b, s, at);
-    lay_text::word(out, c, b".\n")
+    w.word(b"mode ");
+    w.name(&s.names, k);
+    mode_marks(w, s.image, at);
+    w.word(b".\n");
 }
 
-// The mode lines of the r relations.
-fn mode_lines(
-    out: &mut [u8],
-    w: To,
-    s: &[u8],
-    names: &[u8],
-    table: &[usize],
-    e: Noted,
-    r: usize,
-) -> To
-    requires { (r ≤ 255) × Entered names.now table.now e.every e.count }
-    ensures { Writes out.old w (mode_lines_text r names.now 0 (list_of (modes_of s.now) (record_end s.now) r 0)) (relations_named r names.now 0 (list_of (modes_of s.now) (record_end s.now) r 0)) out.new result }
+// The mode lines of all relations.
+fn mode_lines(w: &mut Writer, s: &Source)
+    ensures { Wrote w.old (mode_lines_text s.now.relations s.now.names.row.now 0 (list_of (modes_of s.now.image.now) (record_end s.now.image.now) s.now.relations 0)) (relations_named s.now.relations s.now.names.row.now 0 (list_of (modes_of s.now.image.now) (record_end s.now.image.now) s.now.relations 0)) w.new }
 {
-    let mut to = w;
     let mut at = 0;
-    let mut k = 0;
-    while k < r {
-        to = mode_line(out, to, s, names, table, e, r, k, at);
-        at = at + place::word_at(s, at);
-        k += 1;
+    for k in 0..s.relations {
+        mode_line(w, s, k, at);
+        at = at + place::word_at(s.image, at);
     }
-    to
 }
 
 // ---- all lines
 
 // The goal line, with the goal at a place.
-fn goal_line(
-    out: &mut [u8],
-    w: To,
-    s: &[u8],
-    names: &[u8],
-    table: &[usize],
-    e: Noted,
-    r: usize,
-    at: usize,
-) -> To
-    requires { (r ≤ 255) × (at ≤ 134217728) × Entered names.now table.now e.every e.count }
-    ensures { Writes out.old w (goal_line_text r names.now (goal_of s.now at)) (goal_named r names.now (goal_of s.now at)) out.new result }
+fn goal_line(w: &mut Writer, s: &Source, at: usize)
+    requires { at ≤ 134217728 }
+    ensures { Wrote w.old (goal_line_text s.now.relations s.now.names.row.now (goal_of s.now.image.now at)) (goal_named s.now.relations s.now.names.row.now (goal_of s.now.image.now at)) w.new }
 {
-    let a = lay_text::word(out, w, b"<- ");
-    let b = write_goal::goal(out, a, s, names, table, e, r, at);
-    lay_text::word(out, b, b".\n")
+    w.word(b"<- ");
+    write_goal::goal(w, s, at);
+    w.word(b".\n");
 }
 
 // Where record k begins.
@@ -131,31 +93,20 @@ fn record_at(s: &[u8], k: usize) -> usize
     ensures { (result ≡ record_at s.now k) × (result ≤ 65535 * k) }
 {
     let mut at = 0;
-    let mut left = k;
-    while 0 < left {
+    for _ in 0..k {
         at = at + place::word_at(s, at);
-        left -= 1;
     }
     at
 }
 
-// The text of an image with r relations and c clauses.
-pub fn lines(
-    out: &mut [u8],
-    w: To,
-    s: &[u8],
-    names: &[u8],
-    table: &[usize],
-    e: Noted,
-    r: usize,
-    c: usize,
-) -> To
-    requires { (r ≤ 32) × (c ≤ 64) × Entered names.now table.now e.every e.count }
-    ensures { Writes out.old w (program_text names.now (program_of s.now r c)) (program_named names.now (program_of s.now r c)) out.new result }
+// The text of an image with c clauses.
+pub fn lines(w: &mut Writer, s: &Source, c: usize)
+    requires { (s.now.relations ≤ 32) × (c ≤ 64) }
+    ensures { Wrote w.old (program_text s.now.names.row.now (program_of s.now.image.now s.now.relations c)) (program_named s.now.names.row.now (program_of s.now.image.now s.now.relations c)) w.new }
 {
-    let a = mode_lines(out, w, s, names, table, e, r);
-    let from = record_at(s, r);
-    let b = write_clause::clauses(out, a, s, names, table, e, r, from, c);
-    let ask = record_at(s, r + c);
-    goal_line(out, b, s, names, table, e, r, ask + codes::GOAL_AT)
+    mode_lines(w, s);
+    let from = record_at(s.image, s.relations);
+    write_clause::clauses(w, s, from, c);
+    let ask = record_at(s.image, s.relations + c);
+    goal_line(w, s, ask + codes::GOAL_AT);
 }

@@ -9,16 +9,16 @@ pub returns-in_default : goal.returns-in_default
 returns-in_default c = step_away _ _ _ _ c.enter-e.ensures.enter_says _ c.in_default.is c.refusal-r.ensures
 
 pub proc_count-n-requires : goal.proc_count-n-requires
-proc_count-n-requires c = let i = inside_of _ _ _ c.enter-e.ensures.enter_says c.in-Accepted.is in omega (arith, i.head)
+proc_count-n-requires c = let i = inside_of _ _ _ c.enter-e.ensures.enter_says c.in-Ok.is in omega (arith, i.head)
 
 pub returns-then-n-p : goal.returns-then-n-p
-returns-then-n-p c = step-nobody _ _ _ _ c.enter-e.ensures.enter_says c.in-Accepted.is _ c.proc_count-n.ensures.0 c.if-n-p.true c.refusal.ensures
+returns-then-n-p c = step-nobody _ _ _ _ c.enter-e.ensures.enter_says c.in-Ok.is _ c.proc_count-n.ensures.0 c.if-n-p.true c.refusal.ensures
 
 pub ask-told-requires : goal.ask-told-requires
-ask-told-requires c = let i = inside_of _ _ _ c.enter-e.ensures.enter_says c.in-Accepted.is in let en = c.proc_count-n.ensures in (omega (arith, i.rows, en.0), en.1)
+ask-told-requires c = let i = inside_of _ _ _ c.enter-e.ensures.enter_says c.in-Ok.is in let en = c.proc_count-n.ensures in (omega (arith, i.rows, en.0), en.1)
 
 pub step_in-requires : goal.step_in-requires
-step_in-requires c = let i = inside_of _ _ _ c.enter-e.ensures.enter_says c.in-Accepted.is in let en = c.proc_count-n.ensures.0 in (i, omega (arith, en, c.if-n-p.false), told_of _ _ (sym en) c.ask-told.ensures, indexed_of _ _ c.enter-e.ensures.indexed_of c.in-Accepted.is)
+step_in-requires c = let i = inside_of _ _ _ c.enter-e.ensures.enter_says c.in-Ok.is in let en = c.proc_count-n.ensures.0 in (i, omega (arith, en, c.if-n-p.false), told_of _ _ (sym en) c.ask-told.ensures, indexed_of _ _ c.enter-e.ensures.indexed_of c.in-Ok.is)
 
 pub returns : goal.returns
-returns c = step-done _ _ _ _ c.enter-e.ensures.enter_says c.in-Accepted.is _ c.step_in.ensures
+returns c = step-done _ _ _ _ c.enter-e.ensures.enter_says c.in-Ok.is _ c.step_in.ensures

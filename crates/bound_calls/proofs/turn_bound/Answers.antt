@@ -6,7 +6,7 @@ pub returns-in_default : goal.returns-in_default
 returns-in_default c = turn_away _ _ _ _ c.enter-e.ensures.enter_says c.in_default.is c.refusal-r.ensures
 
 pub turn_in-requires : goal.turn_in-requires
-turn_in-requires c = (inside_of _ _ _ c.enter-e.ensures.enter_says c.in-Accepted.is, indexed_of _ _ c.enter-e.ensures.indexed_of c.in-Accepted.is)
+turn_in-requires c = (inside_of _ _ _ c.enter-e.ensures.enter_says c.in-Ok.is, indexed_of _ _ c.enter-e.ensures.indexed_of c.in-Ok.is)
 
 pub returns : goal.returns
-returns c = turn-done _ _ _ _ c.enter-e.ensures.enter_says c.in-Accepted.is c.turn_in.ensures
+returns c = turn-done _ _ _ _ c.enter-e.ensures.enter_says c.in-Ok.is c.turn_in.ensures

@@ -12,8 +12,8 @@ returns-in_default c = load-refused _ c.load-l.ensures.value c.in_default.is c.r
 
 pub word-requires : goal.word-requires
 word-requires c =
-    let h = rw c.in-Accepted.is at c.load-l.ensures.bounded in
+    let h = rw c.in-Ok.is at c.load-l.ensures.bounded in
     omega (arith, h)
 
 pub returns : goal.returns
-returns c = load-accepted _ c.load-l.ensures.value c.in-Accepted.is c.word.ensures
+returns c = load-accepted _ c.load-l.ensures.value c.in-Ok.is c.word.ensures

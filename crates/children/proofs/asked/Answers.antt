@@ -1,4 +1,3 @@
-use borrow.Author.Rules.{rules}
 use Rattle.children.proofs.Noting.{noted-start}
 use Rattle.children.proofs.Ways.{noted-end}
 use native.Mathlib.Omega.{arith}
@@ -7,7 +6,7 @@ use Rattle.rows.proofs.Tables.{procs-length}
 use Rattle.children.proofs.asked.Goals as goal
 
 pub loop-q-init : goal.loop-q-init
-loop-q-init c = (search rules, noted-start _ _ _ _ _ (sym (procs-length _ _)))
+loop-q-init c = noted-start _ _ _ _ _ (sym (procs-length _ _))
 
 pub returns : goal.returns
-returns c = c.told_by.ensures _ (noted-end _ _ _ _ (omega arith) c.loop-q.invariant.1)
+returns c = c.told_by.ensures _ (noted-end _ _ _ _ (omega arith) c.loop-q.invariant)

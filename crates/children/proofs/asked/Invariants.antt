@@ -1,10 +1,6 @@
-use Prim.Native.Nat.{◌≤◌}
 use Rattle.parlog.specs.Tables.{procs_of}
 use Rattle.children.specs.Notes.{Noted}
 use Rattle.children.proofs.asked.Given as goal
 
 abbrev pub invariant-loop-q : goal.invariant-loop-q
-invariant-loop-q l = (l.q ≤ l.n) × Noted (procs_of l.procs l.n) l.p l.q l.x
-
-abbrev pub decreases-loop-q : goal.decreases-loop-q
-decreases-loop-q l = l.q
+invariant-loop-q l = Noted (procs_of l.procs l.n) l.p l.q l.x

@@ -3,7 +3,7 @@ use Rattle.decide.proofs.push.Goals as goal
 
 pub returns-then-yes : goal.returns-then-yes
 unfolding push_of
-returns-then-yes c = rw c.if-yes.true
+returns-then-yes c = rw (c.from.ensures, c.if-yes.true)
 
 pub returns-else-yes : goal.returns-else-yes
 unfolding push_of

@@ -1,17 +1,17 @@
 use Rattle.declared_calls.proofs.Turns.{turn_end, turn-less, turn_on, turn-start, turn-stop}
 use Rattle.declared_calls.proofs.class_declared.Goals as goal
 
-pub loop-named-init : goal.loop-named-init
-loop-named-init c = turn-start c.requires.1
+pub loop-at-init : goal.loop-at-init
+loop-at-init c = turn-start c.requires.1
 
-pub returns-then-not-c : goal.returns-then-not-c
-returns-then-not-c c = turn_end c.requires.1 c.loop-named.invariant c.least-c.result.some c.least-c.result.at c.least-c.ensures.0 c.if-not-c.true
+pub returns-in_default : goal.returns-in_default
+returns-in_default c = turn_end c.requires.1 c.loop-at.invariant c.in_default.ensures.0
 
-pub returns-then-not-e : goal.returns-then-not-e
-returns-then-not-e c = turn-stop c.requires.1 c.loop-named.invariant c.least-c.result.some c.least-c.result.at c.least-c.ensures.0 c.if-not-c.false c.relation-e.result c.relation-e.ensures c.if-not-e.true
+pub returns-then-is_none : goal.returns-then-is_none
+returns-then-is_none c = turn-stop c.requires.1 c.loop-at.invariant c.in-Some.at c.in-Some.ensures.0 c.relation.result c.relation.ensures c.is_none.result c.is_none.ensures c.if-is_none.true
 
-pub loop-named-smaller : goal.loop-named-smaller
-loop-named-smaller c = turn-less c.requires.1 c.loop-named.invariant c.least-c.result.some c.least-c.result.at c.least-c.ensures.0 c.if-not-c.false c.relation-e.result c.relation-e.ensures
+pub loop-at-smaller : goal.loop-at-smaller
+loop-at-smaller c = turn-less c.requires.1 c.loop-at.invariant c.in-Some.at c.in-Some.ensures.0 c.relation.result c.relation.ensures
 
-pub loop-named-preserved : goal.loop-named-preserved
-loop-named-preserved c = turn_on c.requires.1 c.loop-named.invariant c.least-c.result.some c.least-c.result.at c.least-c.ensures.0 c.if-not-c.false c.relation-e.result c.relation-e.ensures c.if-not-e.false c.least-c.ensures.1
+pub loop-at-preserved : goal.loop-at-preserved
+loop-at-preserved c = turn_on c.requires.1 c.loop-at.invariant c.in-Some.at c.in-Some.ensures.0 c.relation.result c.relation.ensures c.is_none.result c.is_none.ensures c.if-is_none.false c.in-Some.ensures.1

@@ -8,9 +8,9 @@ returns-in_default c = record { enter_says = enter-refused _ _ _ c.load_indexed-
 
 pub returns-then-not-lent_ok : goal.returns-then-not-lent_ok
 unfolding small
-returns-then-not-lent_ok c = record { enter_says = enter-turned _ _ _ c.load_indexed-l.ensures.value c.in-Accepted.is c.lent_ok.ensures (c.if-not-lent_ok.true) c.refusal.ensures; indexed_of = tt }
+returns-then-not-lent_ok c = record { enter_says = enter-turned _ _ _ c.load_indexed-l.ensures.value c.in-Ok.is c.lent_ok.ensures (c.if-not-lent_ok.true) c.refusal.ensures; indexed_of = tt }
 
 pub returns : goal.returns
 unfolding small
 returns c = let l = c.load_indexed-l.ensures in
-    record { enter_says = enter-entered _ _ _ l.value c.in-Accepted.is c.lent_ok.ensures (c.if-not-lent_ok.false) l.bounded; indexed_of = indexed_of _ _ l.indexed_of c.in-Accepted.is }
+    record { enter_says = enter-entered _ _ _ l.value c.in-Ok.is c.lent_ok.ensures (c.if-not-lent_ok.false) l.bounded; indexed_of = indexed_of _ _ l.indexed_of c.in-Ok.is }

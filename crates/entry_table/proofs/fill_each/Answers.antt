@@ -10,4 +10,4 @@ loop-i-init c = (among-start _ _ c.args.table.now (omega arith) refl, length-set
 
 pub loop-i-preserved : goal.loop-i-preserved
 loop-i-preserved c = let p = c.loop-i in let h = p.invariant.0.entered.fits in let n = c.if-n-eq-PLACES.false in
-    (among-turn _ _ _ _ _ _ _ c.loop-i-test.true (omega arith) c.byte_in.ensures.0 refl c.one-n.ensures.0 p.invariant.0, length-set p.table p.n (p.i + 1) ∙ p.invariant.1)
+    (among-turn _ _ _ _ _ c.loop-i-test.true (omega arith) c.from-n.ensures p.invariant.0, length-set p.table p.n (p.i + 1) ∙ p.invariant.1)

@@ -1,12 +1,8 @@
 use Rattle.entry_table.proofs.Places.{Among}
 use Rattle.entry_table.specs.Entered.{table_size}
 use mathlib.Core.Path.{◌≡◌}
-use Prim.Native.Nat.{◌-◌}
 use lib.ListN.{length}
 use Rattle.entry_table.proofs.fill_each.Given as goal
 
 abbrev pub invariant-loop-i : goal.invariant-loop-i
 invariant-loop-i l = Among l.names l.table l.n l.i × (length l.table ≡ table_size)
-
-abbrev pub decreases-loop-i : goal.decreases-loop-i
-decreases-loop-i l = length l.names - l.i

@@ -4,8 +4,5 @@ use Prim.Native.Nat.{◌-◌, ◌≤◌}
 use lib.ListN.{get_or, length}
 use Rattle.entry_table.proofs.fill_on.Given as goal
 
-abbrev pub invariant-loop-at : goal.invariant-loop-at
-invariant-loop-at l = Entered l.names l.table l.every l.count × (get_or l.table (l.count - 1) 0 ≡ l.at) × (l.at ≤ length l.names) × (length l.table ≡ table_size)
-
-abbrev pub decreases-loop-at : goal.decreases-loop-at
-decreases-loop-at l = length l.names - l.at
+abbrev pub invariant-loop-count : goal.invariant-loop-count
+invariant-loop-count l = Entered l.names l.table l.every l.count × (get_or l.table (l.count - 1) 0 ≡ l.at) × (l.at ≤ length l.names) × (length l.table ≡ table_size)

@@ -1,9 +1,6 @@
 use Rattle.entry_table.proofs.Places.{Thinned}
-use Prim.Native.Nat.{◌≤◌, ◌-◌}
+use Prim.Native.Nat.{◌≤◌}
 use Rattle.entry_table.proofs.thin.Given as goal
 
 abbrev pub invariant-loop-k : goal.invariant-loop-k
 invariant-loop-k l = Thinned l.initial.table l.table l.k × (l.k ≤ 2561)
-
-abbrev pub decreases-loop-k : goal.decreases-loop-k
-decreases-loop-k l = 2561 - l.k

@@ -1,10 +1,11 @@
-use Rattle.load.proofs.Told.{first_stops, first-there}
+use Rattle.load.proofs.Told.{first_stops}
+use Rattle.parlog.proofs.Bools.{or-false}
+use borrow.Author.Tests.{eqb-false, ltb-false}
 use lib.ListN.{length}
+use lib.Dec.{eqb, ltb}
 use Rattle.load.proofs.first_refusal.Goals as goal
 
-pub returns-in-Refuses : goal.returns-in-Refuses
-returns-in-Refuses c = let s = c.args.s.now in
-    let w = first-there (length s) c.or.ensures c.if-or.false in
-    let v = c.in-Refuses.is in
-    let z = rw v at c.test_record-t.ensures.1 in
-    ((λ n. first_stops s w.0 w.1 c.test_record-t.ensures.0 v), z.1)
+pub returns : goal.returns
+returns c = let s = c.args.s.now in
+    let o = or-false (eqb (length s) 0) (ltb 32768 (length s)) (rw c.is_empty.ensures at c.if-is_empty-s.false) in
+    rw c.err.ensures.value (first_stops s (eqb-false (length s) 0 o.0) (ltb-false 32768 (length s) o.1) _ _ c.test_record.ensures.0 c.test_record.ensures.1)

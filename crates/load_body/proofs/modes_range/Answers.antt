@@ -1,23 +1,12 @@
-use Rattle.parlog.specs.Image.{byte_at}
+use Rattle.std.proofs.Common.{◌+◌, ◌-◌, ◌≡◌, ◌∙◌, arith, refl, rules, tests}
+use Rattle.std.proofs.lemmas.Iterator.{YieldsList-from_range}
+use Rattle.std.proofs.lemmas.Iterator.Search.{all_from_yields_List}
 use Rattle.parlog.specs.Body.{mode_range}
-use Rattle.parlog.proofs.Along.{each_none, each_more, each-stop}
-use Rattle.parlog.specs.Image.{mode_end}
-use mathlib.Core.Path.{◌≡◌}
-use native.Mathlib.Omega.{arith}
-use borrow.Author.Tests.{le-leb, lt-leb}
+use Rattle.load_body.proofs.Goals.{modes-all}
 use Rattle.load_body.proofs.modes_range.Goals as goal
 
-pub returns-then-m-gt-MOST_MODE : goal.returns-then-m-gt-MOST_MODE
-returns-then-m-gt-MOST_MODE c = let p = c.loop-left in
-    let s = c.args.s.now in
-    rw (each-stop (mode_range s) mode_end p.left p.at c.loop-left-test.true (lt-leb (byte_at s p.at) 1 (omega arith))) at p.invariant.0
-
-pub loop-left-preserved : goal.loop-left-preserved
-loop-left-preserved c = let p = c.loop-left in
-    let s = c.args.s.now in
-    (rw (each_more (mode_range s) mode_end p.left p.at c.loop-left-test.true (le-leb (byte_at s p.at) 1 (omega arith))) at p.invariant.0, omega arith)
-
 pub returns : goal.returns
-returns c = let s = c.args.s.now in
-    let e : c.loop-left.left ≡ 0 = omega arith in
-    rw (each_none (mode_range s) mode_end c.loop-left.at e) at c.loop-left.invariant.0
+returns c =
+    let a = c.args in
+    let e : a.from + a.n - a.from ≡ a.n = omega arith in
+    all_from_yields_List (mode_range a.s.now) _ _ _ c.all.ensures.ran (YieldsList-from_range a.from (a.from + a.n) a.n refl e) (λ x b q k. search (rules, tests)) ∙ modes-all a.s.now a.n a.from

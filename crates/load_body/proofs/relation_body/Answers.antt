@@ -3,4 +3,4 @@ use Rattle.load_body.proofs.relation_body.Goals as goal
 
 pub returns : goal.returns
 unfolding relation_body
-returns c = rw (c.and.ensures, c.and-fields.ensures, c.modes_range-modes.ensures, c.word_at-w.ensures.0, c.byte_at-a.ensures.0)
+returns c = rw (c.modes_range-modes.ensures, c.word_at-w.ensures.0, c.byte_at-a.ensures.0)

@@ -1,10 +1,7 @@
 use Rattle.load_body.specs.Reading.{stages_row}
-use Prim.Native.Nat.{◌≤◌, ◌+◌, ◌*◌}
+use Prim.Native.Nat.{◌≤◌, ◌+◌, ◌-◌, ◌*◌}
 use mathlib.Core.Path.{◌≡◌}
 use Rattle.load_body.proofs.stages_range.Given as goal
 
-abbrev pub invariant-loop-left : goal.invariant-loop-left
-invariant-loop-left l = (stages_row l.s l.left l.at l.sum ≡ stages_row l.s l.n l.from 0) × (l.at + 81 * l.left ≤ l.from + 81 * l.n) × (l.sum ≤ 8)
-
-abbrev pub decreases-loop-left : goal.decreases-loop-left
-decreases-loop-left l = l.left
+abbrev pub invariant-loop : goal.invariant-loop
+invariant-loop l = (stages_row l.s (l.n - l.counter) l.at l.sum ≡ stages_row l.s l.n l.from 0) × (l.at ≤ l.from + 81 * l.counter) × (l.sum ≤ 8)

@@ -8,7 +8,7 @@ returns-then-kind-eq-RELATION_KIND c = rw (eq-eqb _ _ c.if-kind-eq-RELATION_KIND
 
 pub returns-then-kind-eq-CLAUSE_KIND : goal.returns-then-kind-eq-CLAUSE_KIND
 unfolding names_right
-returns-then-kind-eq-CLAUSE_KIND c = rw (ne_eqb _ _ c.if-kind-eq-RELATION_KIND.false, eq-eqb _ _ c.if-kind-eq-CLAUSE_KIND.true, c.and.ensures, c.clause_placed-placed.ensures, c.clause_inside-inside.ensures)
+returns-then-kind-eq-CLAUSE_KIND c = rw (ne_eqb _ _ c.if-kind-eq-RELATION_KIND.false, eq-eqb _ _ c.if-kind-eq-CLAUSE_KIND.true, c.clause_placed.ensures, c.clause_inside.ensures)
 
 pub returns : goal.returns
 unfolding names_right

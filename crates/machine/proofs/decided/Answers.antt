@@ -5,4 +5,4 @@ pub returns-in_default : goal.returns-in_default
 returns-in_default c = decided-refused _ _ _ _ _ c.enter-e.ensures.enter_says c.in_default.is c.refusal-r.ensures
 
 pub returns : goal.returns
-returns c = decided-asked _ _ _ _ _ c.enter-e.ensures.enter_says c.in-Accepted.is c.asked.ensures
+returns c = decided-asked _ _ _ _ _ c.enter-e.ensures.enter_says c.in-Ok.is c.asked.ensures

@@ -3,7 +3,7 @@ use native.Mathlib.Omega.{arith}
 use Rattle.machine.proofs.look.Goals as goal
 
 pub returns-then-goal-variable : goal.returns-then-goal-variable
-returns-then-goal-variable c = look_none _ _ _ c.goal_vars-goal.ensures.0 c.if-goal-variable.true c.refusal.ensures
+returns-then-goal-variable c = look_none _ _ _ c.goal_vars-goal.ensures.0 c.if-goal-variable.true c.refusal-unseen.ensures
 
 pub value_of-seen-requires : goal.value_of-seen-requires
 value_of-seen-requires c = (omega (arith, c.var_count-n.ensures.0, c.requires.3), var-top _ _ _ c.if-goal-variable.false (omega (arith, c.goal_vars-goal.ensures.0, c.var_count-n.ensures.0, c.requires.4)))

@@ -1,6 +1,10 @@
-use Rattle.machine.proofs.Giving.{supply-given}
+use Rattle.machine.proofs.Giving.{supply-given, supply-refused}
 use native.Mathlib.Omega.{arith}
+use Rattle.std.proofs.lemmas.Result.{err_from_is_err_and}
 use Rattle.machine.proofs.supply.Goals as goal
 
+pub returns-in_err-v : goal.returns-in_err-v
+returns-in_err-v c = let p = err_from_is_err_and c.from_residual.result c.from_residual.ensures.1 in rw (p.1, p.2) (supply-refused _ _ _ _ _ c.decided.ensures c.in_err-v.was)
+
 pub returns : goal.returns
-returns c = supply-given _ _ _ _ _ c.decided-a.ensures c.in-Given.is c.var_count-n.ensures.0 c.bind.ensures (λ b. omega (arith, c.type_inv.head b)) (λ b. omega (arith, c.type_inv.procs b)) (λ b. omega (arith, c.type_inv.vars b))
+returns c = supply-given _ _ _ _ _ c.decided.ensures c.in_ok-v.was c.var_count-n.ensures.0 c.bind.ensures (λ b. omega (arith, c.type_inv.head b)) (λ b. omega (arith, c.type_inv.procs b)) (λ b. omega (arith, c.type_inv.vars b))

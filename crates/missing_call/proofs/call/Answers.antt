@@ -7,10 +7,10 @@ pub returns-then-not-missing : goal.returns-then-not-missing
 returns-then-not-missing c = call_none c.args.q c.requires.2 c.missing.result c.missing.ensures (ap not c.if-not-missing.true)
 
 pub returns-then-not-before : goal.returns-then-not-before
-returns-then-not-before c = call-other c.args.q c.requires.2 c.missing.result c.missing.ensures (ap not c.if-not-missing.false) c.before-then-w.result c.if-w.true c.before-then-w.ensures (ap not c.if-not-before.true)
+returns-then-not-before c = call-other c.args.q c.requires.2 c.missing.result c.missing.ensures (ap not c.if-not-missing.false) c.in-Some.least c.before-in-Some.result c.in-Some.is c.before-in-Some.ensures (ap not c.if-not-before.true)
 
 pub returns-else-not-before : goal.returns-else-not-before
-returns-else-not-before c = call-lesser c.args.q c.requires.2 c.missing.result c.missing.ensures (ap not c.if-not-missing.false) c.before-then-w.result c.requires.0 c.if-w.true c.before-then-w.ensures (ap not c.if-not-before.false)
+returns-else-not-before c = call-lesser c.args.q c.requires.2 c.missing.result c.missing.ensures (ap not c.if-not-missing.false) c.in-Some.least c.before-in-Some.result c.in-Some.is c.before-in-Some.ensures c.requires.0 (ap not c.if-not-before.false)
 
-pub returns-else-w : goal.returns-else-w
-returns-else-w c = call-first c.args.q c.requires.2 c.missing.result c.missing.ensures (ap not c.if-not-missing.false) c.requires.0 c.if-w.false
+pub returns-in_default : goal.returns-in_default
+returns-in_default c = call-first c.args.q c.requires.2 c.missing.result c.missing.ensures (ap not c.if-not-missing.false) c.requires.0 c.in_default.is

@@ -1,32 +1,20 @@
+use native.Mathlib.Nat.{sub-add-eq}
 use Rattle.text_program.specs.Numbered.{joined}
 use Rattle.read_goal.proofs.Spanned.{goal-row}
 use lib.ListN.{drop, length}
 use Prim.Native.Nat.{◌-◌}
-use mathlib.Core.Path.{refl}
 use native.Mathlib.Omega.{arith}
 use Rattle.text_program.specs.Source.{read_literal, row}
-use Rattle.read_goal.proofs.Turn.{row-fuel, row_last, row_more, row-none}
+use Rattle.read_goal.proofs.Turn.{row_last, row_more, row-none}
 use Rattle.missing_call.specs.Called.{said_calls}
-use Rattle.missing_call.proofs.Walked.{looks_on, walked-done, walked-last, walked_on, walked_start}
+use Rattle.missing_call.proofs.Walked.{walked-done, walked-last, walked_on}
 use Rattle.missing_call.proofs.goal.Goals as goal
 
-pub overflow_sub-left : goal.overflow_sub-left
-overflow_sub-left c = c.requires.inside
-
-pub loop-left-init : goal.loop-left-init
-loop-left-init c = walked_start (joined said_calls) c.args.s.now c.args.places.now c.args.a c.args.w c.requires (row-fuel (row read_literal 44) 38 c.args.s.now c.args.w.end (length c.args.s.now - c.args.w.end) refl)
-
-pub stage-v-requires : goal.stage-v-requires
-stage-v-requires c = looks_on c.requires c.loop-left.invariant.inside c.loop-left.invariant.within
-
 pub returns-then-byte_at-ne-AMPERSAND : goal.returns-then-byte_at-ne-AMPERSAND
-returns-then-byte_at-ne-AMPERSAND c = rw (goal-row (drop c.args.w.end c.args.s.now)) (walked-last (joined said_calls) c.args.s.now c.args.places.now c.args.a c.args.w _ (row_last (row read_literal 44) 38 c.args.s.now c.loop-left.left c.loop-left.v.end c.stage-v.result.end _ c.stage-v.ensures.end c.byte_at.ensures.0 c.loop-left-test.true c.if-byte_at-ne-AMPERSAND.true) c.stage-v.ensures c.loop-left.invariant)
+returns-then-byte_at-ne-AMPERSAND c = rw (goal-row (drop c.args.w.end c.args.s.now)) (walked-last (joined said_calls) c.args.s.now c.args.places.now c.args.a c.args.w _ (row_last (row read_literal 44) 38 c.args.s.now (length c.args.s.now - c.loop.counter) c.loop.v.end c.stage-v.result.end _ c.stage-v.ensures.end c.byte_at.ensures.0 (omega arith) c.if-byte_at-ne-AMPERSAND.true) c.stage-v.ensures c.loop.invariant)
 
-pub after_mark-requires : goal.after_mark-requires
-after_mark-requires c = c.stage-v.ensures.inside
-
-pub loop-left-preserved : goal.loop-left-preserved
-loop-left-preserved c = rw c.moved-v.ensures (walked_on (joined said_calls) c.args.s.now c.args.places.now c.args.a c.args.w (row read_literal 44 (drop c.loop-left.v.end c.args.s.now)).value c.after_mark.result (row_more (row read_literal 44) 38 c.args.s.now c.loop-left.left c.loop-left.v.end c.stage-v.result.end _ c.stage-v.ensures.end c.byte_at.ensures.0 c.after_mark.result c.loop-left-test.true c.if-byte_at-ne-AMPERSAND.false c.after_mark.ensures.0) c.stage-v.ensures c.after_mark.ensures.1 c.loop-left.invariant)
+pub loop-preserved : goal.loop-preserved
+loop-preserved c = rw (c.moved-v.ensures, sub-add-eq) (walked_on (joined said_calls) c.args.s.now c.args.places.now c.args.a c.args.w (row read_literal 44 (drop c.loop.v.end c.args.s.now)).value c.after_mark.result (row_more (row read_literal 44) 38 c.args.s.now (length c.args.s.now - c.loop.counter) c.loop.v.end c.stage-v.result.end _ c.stage-v.ensures.end c.byte_at.ensures.0 c.after_mark.result (omega arith) c.if-byte_at-ne-AMPERSAND.false c.after_mark.ensures.0) c.stage-v.ensures c.after_mark.ensures.1 c.loop.invariant)
 
 pub returns : goal.returns
-returns c = rw (goal-row (drop c.args.w.end c.args.s.now)) (walked-done (joined said_calls) c.args.s.now c.args.places.now c.args.a c.args.w (row-none (row read_literal 44) 38 c.args.s.now c.loop-left.left c.loop-left.v.end (omega arith)) c.loop-left.invariant)
+returns c = rw (goal-row (drop c.args.w.end c.args.s.now)) (walked-done (joined said_calls) c.args.s.now c.args.places.now c.args.a c.args.w (row-none (row read_literal 44) 38 c.args.s.now (length c.args.s.now - c.loop.counter) c.loop.v.end (omega arith)) c.loop.invariant)

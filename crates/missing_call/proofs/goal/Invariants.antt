@@ -1,12 +1,10 @@
+use Prim.Native.Nat.{◌-◌}
 use Rattle.text_program.specs.Numbered.{joined}
-use lib.ListN.{drop}
+use lib.ListN.{drop, length}
 use Rattle.text_program.specs.Source.{read_literal, row, row_for}
 use Rattle.missing_call.specs.Called.{said_calls}
 use Rattle.missing_call.proofs.Walked.{Walked}
 use Rattle.missing_call.proofs.goal.Given as goal
 
-abbrev pub invariant-loop-left : goal.invariant-loop-left
-invariant-loop-left l = Walked (joined said_calls) l.s l.places l.a l.initial.v (row (row read_literal 44) 38 (drop l.initial.v.end l.s)) l.v (row_for l.left (row read_literal 44) 38 (drop l.v.end l.s))
-
-abbrev pub decreases-loop-left : goal.decreases-loop-left
-decreases-loop-left l = l.left
+abbrev pub invariant-loop : goal.invariant-loop
+invariant-loop l = Walked (joined said_calls) l.s l.places l.a l.initial.v (row (row read_literal 44) 38 (drop l.initial.v.end l.s)) l.v (row_for (length l.s - l.counter) (row read_literal 44) 38 (drop l.v.end l.s))

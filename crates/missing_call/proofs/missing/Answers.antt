@@ -1,16 +1,20 @@
 use Rattle.missing_call.proofs.One.{missing-above, missing-class, missing-free, missing-known}
-use mathlib.Core.Path.{ap}
+use Rattle.text_names.proofs.Looked.{found-known}
+use Rattle.read_names.specs.Tables.{names_at}
+use Rattle.text_names.specs.Bytes.{front}
+use lib.ListN.{drop, take}
+use mathlib.Core.Path.{◌∙◌, ap}
 use mathlib.Core.Bool.{not}
 use Rattle.missing_call.proofs.missing.Goals as goal
 
 pub returns-then-not-in_class : goal.returns-then-not-in_class
 returns-then-not-in_class c = missing-class c.args.s.now c.args.places.now c.args.a c.args.q c.args.chain c.requires.1 c.in_class.result c.in_class.ensures (ap not c.if-not-in_class.true)
 
-pub returns-then-k-a : goal.returns-then-k-a
-returns-then-k-a c = missing-known c.args.s.now c.args.places.now c.args.a c.args.q c.args.chain c.requires.1 c.in_class.result c.in_class.ensures c.requires.2 c.find-k.result c.find-k.ensures.0 c.if-k-a.true
+pub returns-then-is_some : goal.returns-then-is_some
+returns-then-is_some c = missing-known c.args.s.now c.args.places.now c.args.a c.args.q c.args.chain c.requires.1 c.in_class.result c.in_class.ensures c.is_some.result (c.is_some.ensures ∙ found-known (names_at c.args.s.now (take c.args.a.count c.args.places.now)) (front (drop c.args.q c.args.s.now)) c.find.result c.find.ensures) c.if-is_some.true
 
-pub returns-then-a : goal.returns-then-a
-returns-then-a c = missing-above c.args.s.now c.args.places.now c.args.a c.args.q c.args.chain c.requires.1 c.in_class.result c.in_class.ensures c.requires.2 c.find-k.result c.find-k.ensures.0 (ap not c.if-not-in_class.false) c.if-k-a.false c.before-then-a.result c.if-a.true c.before-then-a.ensures
+pub returns-in-Some : goal.returns-in-Some
+returns-in-Some c = missing-above c.args.s.now c.args.places.now c.args.a c.args.q c.args.chain c.requires.1 c.in_class.result c.in_class.ensures c.is_some.result (c.is_some.ensures ∙ found-known (names_at c.args.s.now (take c.args.a.count c.args.places.now)) (front (drop c.args.q c.args.s.now)) c.find.result c.find.ensures) (ap not c.if-not-in_class.false) c.if-is_some.false c.in-Some.bound c.before-in-Some.result c.in-Some.is c.before-in-Some.ensures
 
-pub returns : goal.returns
-returns c = missing-free c.args.s.now c.args.places.now c.args.a c.args.q c.args.chain c.requires.1 c.in_class.result c.in_class.ensures c.requires.2 c.find-k.result c.find-k.ensures.0 (ap not c.if-not-in_class.false) c.if-k-a.false c.if-a.false
+pub returns-in-None : goal.returns-in-None
+returns-in-None c = missing-free c.args.s.now c.args.places.now c.args.a c.args.q c.args.chain c.requires.1 c.in_class.result c.in_class.ensures c.is_some.result (c.is_some.ensures ∙ found-known (names_at c.args.s.now (take c.args.a.count c.args.places.now)) (front (drop c.args.q c.args.s.now)) c.find.result c.find.ensures) (ap not c.if-not-in_class.false) c.if-is_some.false c.in-None.is

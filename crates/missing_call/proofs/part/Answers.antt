@@ -1,12 +1,19 @@
-use Rattle.read_clause.proofs.Parted.{part_body, part-goal}
-use Rattle.missing_call.proofs.Ways.{part_none}
+use Rattle.missing_call.proofs.Walked.{looks_on}
+use Rattle.missing_call.proofs.Ways.{part_none, part_some}
+use Rattle.text_program.specs.Source.{read_body, read_goal}
 use Rattle.missing_call.proofs.part.Goals as goal
 
-pub returns-then-how-eq-NO_GOAL : goal.returns-then-how-eq-NO_GOAL
-returns-then-how-eq-NO_GOAL c = part_none c.requires c.args.how c.if-how-eq-NO_GOAL.true
+pub returns-in-Absent : goal.returns-in-Absent
+returns-in-Absent c = rw c.in-Absent.is (part_none c.requires.0)
 
-pub returns-then-how-eq-A_GOAL : goal.returns-then-how-eq-A_GOAL
-returns-then-how-eq-A_GOAL c = rw (part-goal c.args.s.now c.args.how c.args.w.end c.if-how-eq-A_GOAL.true) c.goal.ensures
+pub goal-requires : goal.goal-requires
+goal-requires c = rw c.moved.ensures (looks_on c.requires.0 (rw c.in-Goal.is at c.requires.1) c.requires.0.within)
 
-pub returns : goal.returns
-returns c = rw (part_body c.args.s.now c.args.how c.args.w.end c.if-how-eq-NO_GOAL.false c.if-how-eq-A_GOAL.false) c.body.ensures
+pub returns-in-Goal : goal.returns-in-Goal
+returns-in-Goal c = rw c.in-Goal.is (part_some c.args.s.now c.args.places.now c.args.a c.args.w read_goal c.in-Goal.at c.moved.ensures c.goal.ensures)
+
+pub body-requires : goal.body-requires
+body-requires c = rw c.moved-in-Body.ensures (looks_on c.requires.0 (rw c.in-Body.is at c.requires.1) c.requires.0.within)
+
+pub returns-in-Body : goal.returns-in-Body
+returns-in-Body c = rw c.in-Body.is (part_some c.args.s.now c.args.places.now c.args.a c.args.w read_body c.in-Body.at c.moved-in-Body.ensures c.body.ensures)

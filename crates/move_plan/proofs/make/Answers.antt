@@ -5,4 +5,4 @@ use Rattle.move_plan.proofs.make.Goals as goal
 
 pub returns : goal.returns
 unfolding applied_of delta_of
-returns c = (rw (none-taken c.no_changes-changes.result c.no_changes-changes.ensures), search rules, c.no_changes-changes.ensures)
+returns c = (rw (none-taken c.no_changes.result c.no_changes.ensures), search rules, c.no_changes.ensures)

@@ -1,5 +1,5 @@
 use lib.ListN.{length, drop}
-use Prim.Native.Nat.{◌<◌, ◌≤◌, ◌-◌}
+use Prim.Native.Nat.{◌<◌, ◌≤◌}
 use mathlib.Core.Path.{◌≡◌}
 use Rattle.text_names.specs.Bytes.{back, front}
 use Rattle.name_index.specs.Index.{chain_from, chain_of}
@@ -7,6 +7,3 @@ use Rattle.name_index.proofs.name_at.Given as goal
 
 abbrev pub invariant-loop-i : goal.invariant-loop-i
 invariant-loop-i l = (l.i ≤ length l.s) × (l.h < 512) × (back (drop l.i l.s) ≡ back (drop l.at l.s)) × (chain_from l.h (front (drop l.i l.s)) ≡ chain_of (front (drop l.at l.s)))
-
-abbrev pub decreases-loop-i : goal.decreases-loop-i
-decreases-loop-i l = length l.s - l.i

@@ -1,4 +1,6 @@
-use mathlib.Core.Path.{◌∙◌, sym}
+use Rattle.std.proofs.lemmas.Result.{err_from_is_err_and}
+use mathlib.Core.Path.{refl, sym}
+use lib.Seq.{length-take-le}
 use Rattle.parse.proofs.Called.{tells}
 use Rattle.parse.proofs.Stops.{all-declared, all-taken, ask-refused, stop-clauses}
 use Rattle.parse.proofs.clauses.Goals as goal
@@ -7,13 +9,16 @@ pub declared-behind-requires : goal.declared-behind-requires
 declared-behind-requires c = (c.clause_lines-r.ensures.inside, all-declared c.requires.2)
 
 pub returns-then-r-ne0 : goal.returns-then-r-ne0
-returns-then-r-ne0 c = rw (c.stopped.ensures) (tells (stop-clauses c.requires.0 c.clause_lines-r.ensures c.args.image.now c.args.names.now _ _ c.if-r-ne0.true c.declared-behind.ensures c.and.ensures))
+returns-then-r-ne0 c = rw (c.stopped.ensures) (tells (stop-clauses c.requires.0 c.clause_lines-r.ensures c.args.image.now c.args.names.now _ _ c.if-r-ne0.true c.declared-behind.ensures refl))
 
-pub returns-then-number-ne0 : goal.returns-then-number-ne0
-returns-then-number-ne0 c = rw (c.unread.ensures, c.offset_of.ensures) (tells (ask-refused c.requires.0 c.clause_lines-r.ensures c.if-r-ne0.false c.behind_arrow-q.result c.behind_arrow-q.ensures.0 c.ask-a.ensures _ c.and-2.ensures c.args.image.now c.args.names.now _ c.ask_number-number.ensures c.if-number-ne0.true))
+pub returns-in_err-test_ask : goal.returns-in_err-test_ask
+returns-in_err-test_ask c = let p = err_from_is_err_and c.from_residual.result c.from_residual.ensures.1 in rw (p.1, p.2) (tells (ask-refused c.requires.0 c.clause_lines-r.ensures c.if-r-ne0.false c.behind_arrow-q.result c.behind_arrow-q.ensures.0 c.ask-a.ensures _ refl c.args.image.now c.args.names.now _ (sym c.in_err-test_ask.ensures)))
 
-pub write_by-requires : goal.write_by-requires
-write_by-requires c = let z = all-taken c.requires.0 c.clause_lines-r.ensures c.if-r-ne0.false c.behind_arrow-q.result c.behind_arrow-q.ensures.0 c.ask-a.ensures _ c.and-2.ensures c.args.image.now c.args.names.now (sym c.ask_number-number.ensures ∙ c.if-number-ne0.false) c.requires.3 in (c.requires.0.from_in, z.in_row, z.in_table)
+pub slice_bounds-write-end : goal.slice_bounds-write-end
+slice_bounds-write-end c = let z = all-taken c.requires.0 c.clause_lines-r.ensures c.if-r-ne0.false c.behind_arrow-q.result c.behind_arrow-q.ensures.0 c.ask-a.ensures _ refl c.args.image.now c.args.names.now (sym c.in_ok-test_ask.ensures) c.requires.3 in z.in_row
+
+pub slice_bounds-write-end-2 : goal.slice_bounds-write-end-2
+slice_bounds-write-end-2 c = let z = all-taken c.requires.0 c.clause_lines-r.ensures c.if-r-ne0.false c.behind_arrow-q.result c.behind_arrow-q.ensures.0 c.ask-a.ensures _ refl c.args.image.now c.args.names.now (sym c.in_ok-test_ask.ensures) c.requires.3 in sym (length-take-le _ _ z.in_row)
 
 pub returns : goal.returns
-returns c = let z = all-taken c.requires.0 c.clause_lines-r.ensures c.if-r-ne0.false c.behind_arrow-q.result c.behind_arrow-q.ensures.0 c.ask-a.ensures _ c.and-2.ensures c.args.image.now c.args.names.now (sym c.ask_number-number.ensures ∙ c.if-number-ne0.false) c.requires.3 in rw (← z.tells) c.write_by.ensures
+returns c = let z = all-taken c.requires.0 c.clause_lines-r.ensures c.if-r-ne0.false c.behind_arrow-q.result c.behind_arrow-q.ensures.0 c.ask-a.ensures _ refl c.args.image.now c.args.names.now (sym c.in_ok-test_ask.ensures) c.requires.3 in rw (← z.tells) c.write.ensures

@@ -1,13 +1,13 @@
-use Rattle.parlog.proofs.Along.{along-none, along-more}
+use Rattle.parlog.proofs.Along.{along-none, along-snoc}
 use Rattle.parlog.specs.Image.{literal_end}
-use mathlib.Core.Path.{◌≡◌}
+use mathlib.Core.Path.{refl}
 use native.Mathlib.Omega.{arith}
+use Rattle.std.proofs.Math.Numerals.{add-one}
 use Rattle.place.proofs.literals_end.Goals as goal
 
-pub loop-left-preserved : goal.loop-left-preserved
-loop-left-preserved c = let p = c.loop-left in
-    (rw (c.byte_at.ensures.0, ← along-more (literal_end c.args.s.now) p.left p.at c.loop-left-test.true) p.invariant.0, omega arith)
+pub loop-init : goal.loop-init
+loop-init c = (rw (along-none (literal_end c.args.s.now) c.args.from refl), omega arith)
 
-pub returns : goal.returns
-returns c = let e : c.loop-left.left ≡ 0 = omega arith in
-    (rw (← along-none (literal_end c.args.s.now) c.loop-left.at e) c.loop-left.invariant.0, omega arith)
+pub loop-preserved : goal.loop-preserved
+loop-preserved c = let p = c.loop in
+    (rw (c.byte_at.ensures.0, add-one p.counter, along-snoc, ← p.invariant.0), omega arith)

@@ -1,10 +1,10 @@
 use native.Mathlib.Omega.{arith}
-use mathlib.Core.Path.{refl}
+use Rattle.std.proofs.Common.{rules}
 use Rattle.print.proofs.Called.{lacks-room, prints, tells}
 use Rattle.print.proofs.accepted.Goals as goal
 
-pub returns-then-text-m : goal.returns-then-text-m
-returns-then-text-m c = rw c.unwritten-then-text-m.ensures (tells (lacks-room c.args.text.now _ _ refl refl c.lines-m.ensures c.if-not-m.false c.if-text-m.true))
+pub returns-then-text-at : goal.returns-then-text-at
+returns-then-text-at c = rw (c.unwritten-then-text-at.ensures, ← c.new.ensures) (tells (lacks-room c.args.text.now _ _ c.new-measured.ensures.start (rw c.new-measured.ensures.row.1 (omega arith)) c.lines.ensures c.if-not-named.false c.if-text-at.true))
 
 pub returns : goal.returns
-returns c = tells (prints c.args.text.now _ _ refl refl c.lines-m.ensures c.if-not-m.false (let h = c.if-text-m.false in let g = c.well_formed in omega arith) (let g = c.well_formed in omega arith) c.lines-e.ensures)
+returns c = rw (← c.new.ensures) (tells (prints c.args.text.now _ _ c.new-measured.ensures.start (rw c.new-measured.ensures.row.1 (omega arith)) c.lines.ensures c.if-not-named.false c.if-text-at.false (omega arith) c.new-writer.ensures.start c.new-writer.ensures.row.1 c.lines-2.ensures (search rules)))

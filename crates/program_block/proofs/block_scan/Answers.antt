@@ -8,7 +8,7 @@ use Rattle.program_block.proofs.block_scan.Goals as goal
 
 pub loop-k-init : goal.loop-k-init
 loop-k-init c = let a = c.args in
-    let e = c.from_of-k.ensures.0 in
+    let e = c.from_of-from.ensures.0 in
     let pr = program_of a.s.now a.rels a.clauses in
     (omega arith, omega arith, omega arith, omega arith, own-start pr _ _ e, count-start pr _ _ e, sized-start pr _ _ e a.b, clause-start pr _ _ e a.b _)
 

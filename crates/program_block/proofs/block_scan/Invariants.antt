@@ -1,5 +1,5 @@
 use mathlib.Core.Path.{◌≡◌}
-use Prim.Native.Nat.{◌-◌, ◌≤◌}
+use Prim.Native.Nat.{◌≤◌}
 use lib.ListN.{get_or, length}
 use Rattle.parlog.specs.Program.{in_block, opens, program_of}
 use Rattle.parlog.specs.Scan.{tally, those}
@@ -12,6 +12,3 @@ invariant-loop-k l = (l.k ≤ l.clauses) × (l.count ≤ l.k) × (l.size ≤ l.k
     × (l.count ≡ tally (opens (program_of l.s l.rels l.clauses) l.q) l.k)
     × (l.size ≡ length (those (in_block (program_of l.s l.rels l.clauses) l.q l.b) l.k))
     × (l.clause ≡ get_or (those (in_block (program_of l.s l.rels l.clauses) l.q l.b) l.k) l.j 255)
-
-abbrev pub decreases-loop-k : goal.decreases-loop-k
-decreases-loop-k l = l.to - l.k

@@ -1,8 +1,13 @@
-use Rattle.read_names.proofs.Lined.{not-mode, mode-word}
+use Rattle.lay_text.proofs.Laws.{name-order}
+use Rattle.read_names.proofs.Lined.{mode-word}
+use mathlib.Core.Path.{◌∙◌}
 use Rattle.read_names.proofs.is_mode.Goals as goal
 
-pub returns-then-less-ne-LETTERS : goal.returns-then-less-ne-LETTERS
-returns-then-less-ne-LETTERS c = not-mode c.args.s.now c.args.at c.name_end-end.result c.requires c.name_end-end.ensures.1 c.name_end-end.ensures.0 _ c.less.ensures c.if-less-ne-LETTERS.true
+pub slice_bounds-eq-count : goal.slice_bounds-eq-count
+slice_bounds-eq-count c = name-order _ _ _ c.requires c.name_end-end.ensures.1 c.name_end-end.ensures.0
+
+pub slice_bounds-eq-start : goal.slice_bounds-eq-start
+slice_bounds-eq-start c = name-order _ _ _ c.requires c.name_end-end.ensures.1 c.name_end-end.ensures.0
 
 pub returns : goal.returns
-returns c = rw (c.and.ensures, c.and-rest.ensures, c.and-last.ensures) (mode-word c.args.s.now c.args.at c.name_end-end.result c.requires c.name_end-end.ensures.1 c.name_end-end.ensures.0 _ _ _ _ _ c.less.ensures c.if-less-ne-LETTERS.false c.byte_at-4.ensures.0 c.byte_at-3.ensures.0 c.byte_at.ensures.0 c.byte_at-2.ensures.0)
+returns c = c.eq.ensures ∙ mode-word c.args.s.now c.args.at c.name_end-end.result c.requires c.name_end-end.ensures.1 c.name_end-end.ensures.0

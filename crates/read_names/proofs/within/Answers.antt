@@ -1,8 +1,6 @@
-use mathlib.Core.Path.{sym, ◌∙◌}
-use lib.ListN.{drop_of_length-le}
-use lib.Seq.{drop-length}
+use Rattle.read_names.proofs.Tabled.{drop_within}
 use native.Mathlib.Omega.{arith}
 use Rattle.read_names.proofs.within.Goals as goal
 
-pub returns-else-q-s : goal.returns-else-q-s
-returns-else-q-s c = (drop-length c.args.s.now ∙ sym (drop_of_length-le c.args.s.now {i = c.args.q} (omega arith)), omega arith)
+pub returns : goal.returns
+returns c = rw c.min.ensures (drop_within c.args.s.now c.args.q, omega arith)

@@ -3,4 +3,4 @@ use Rattle.records.proofs.cut.Goals as goal
 
 pub returns : goal.returns
 unfolding cut
-returns c = rw (c.or.ensures, c.or-passes.ensures, c.word_at-w.ensures.0)
+returns c = rw c.word_at-w.ensures.0

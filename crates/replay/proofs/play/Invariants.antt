@@ -1,4 +1,3 @@
-use Prim.Native.Nat.{◌-◌}
 use Rattle.parlog.specs.Limits.{small}
 use Rattle.parlog.specs.Tables.{lent}
 use Rattle.replay.specs.Replay.{PlayGoing}
@@ -6,6 +5,3 @@ use Rattle.replay.proofs.play.Given as goal
 
 abbrev pub invariant-loop-k : goal.invariant-loop-k
 invariant-loop-k l = PlayGoing small l.image l.rels l.clauses (lent l.initial.head l.initial.procs l.initial.vars) (lent l.head l.procs l.vars) l.trace l.n l.k
-
-abbrev pub decreases-loop-k : goal.decreases-loop-k
-decreases-loop-k l = l.n - l.k

@@ -1,5 +1,5 @@
 use borrow.Author.Rules.{rules}
-use Rattle.replay.proofs.Laws.{plays-not, step-agreed, step-nobody, step-not, step-plays, step-told}
+use Rattle.replay.proofs.Laws.{plays-not, step-away, step-nobody, step-not, step-plays, step-told}
 use Rattle.parlog.proofs.Limits.{small-usable}
 use Rattle.step.proofs.Deciding.{told_of}
 use Rattle.step.proofs.Stepping.{stepped-moved}
@@ -16,18 +16,19 @@ ask-told-requires c = let en = c.proc_count-n.ensures in (omega (arith, c.requir
 pub planned-d-requires : goal.planned-d-requires
 planned-d-requires c = let en = c.proc_count-n.ensures.0 in (c.requires.0, omega (arith, en, c.if-n-p.false), told_of _ _ (sym en) c.ask-told.ensures, c.requires.1)
 
-pub agreed-requires : goal.agreed-requires
-agreed-requires c = step-told _ _ _ _ _ c.requires.0 _ 0 c.planned-d.ensures small-usable
+pub returns-in_default : goal.returns-in_default
+returns-in_default c = plays-not _ _ _ _ _ c.requires.0 (λ b. search rules) (λ b. search rules) (λ b. search rules) (step-away _ _ _ _ _ c.requires.0 _ _ c.planned-d.ensures c.in_default.is)
 
-pub returns-then-not-agreed : goal.returns-then-not-agreed
-returns-then-not-agreed c = plays-not _ _ _ _ _ c.requires.0 (λ b. search rules) (λ b. search rules) (λ b. search rules) (step-not _ _ _ _ _ c.requires.0 _ _ c.planned-d.ensures c.agreed.ensures (c.if-not-agreed.true))
+pub rule_number-requires : goal.rule_number-requires
+rule_number-requires c = step-told _ _ _ _ _ c.requires.0 _ 0 c.planned-d.ensures c.in-Ok.is small-usable
+
+pub returns-then-rule_number-rule : goal.returns-then-rule_number-rule
+returns-then-rule_number-rule c = plays-not _ _ _ _ _ c.requires.0 (λ b. search rules) (λ b. search rules) (λ b. search rules) (step-not _ _ _ _ _ c.requires.0 _ _ c.planned-d.ensures c.in-Ok.is c.rule_number.ensures.0 c.if-rule_number-rule.true)
 
 pub carry_out-requires : goal.carry_out-requires
-carry_out-requires c = c.planned-d.ensures.carries (step-agreed _ _ _ _ _ c.requires.0 _ _ c.planned-d.ensures c.agreed.ensures (c.if-not-agreed.false)).0
+carry_out-requires c = c.planned-d.ensures.carries c.in-Ok.is
 
 pub returns : goal.returns
 returns c =
     let i = c.requires.0 in
-    let agrees = c.if-not-agreed.false in
-    let z = step-agreed _ _ _ _ _ i _ _ c.planned-d.ensures c.agreed.ensures agrees in
-    step-plays _ _ _ _ _ i _ _ c.planned-d.ensures c.agreed.ensures agrees (stepped-moved _ _ _ _ _ i _ c.planned-d.ensures z.0 c.carry_out.ensures)
+    step-plays _ _ _ _ _ i _ _ c.planned-d.ensures c.in-Ok.is c.rule_number.ensures.0 c.if-rule_number-rule.false (stepped-moved _ _ _ _ _ i _ c.planned-d.ensures c.in-Ok.is c.carry_out.ensures)

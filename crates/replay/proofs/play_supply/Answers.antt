@@ -13,7 +13,7 @@ pub var_count-n-requires : goal.var_count-n-requires
 var_count-n-requires c = omega (arith, c.requires.0.head)
 
 pub bind-requires : goal.bind-requires
-bind-requires c = let w = writes-of _ _ _ _ _ (supply-decided _ _ _ _ _ c.requires.0 _ _ c.asked-a.ensures) c.in-Given.is in (omega (arith, w.cells, c.var_count-n.ensures.0), omega (arith, w.row, c.var_count-n.ensures.0), constant-small _ w.constant)
+bind-requires c = let w = writes-of _ _ _ _ _ (supply-decided _ _ _ _ _ c.requires.0 _ _ c.asked-a.ensures) c.in-Ok.is in (omega (arith, w.cells, c.var_count-n.ensures.0), omega (arith, w.row, c.var_count-n.ensures.0), constant-small _ w.constant)
 
 pub returns : goal.returns
-returns c = supply-plays _ _ _ _ _ c.requires.0 _ _ c.asked-a.ensures c.in-Given.is c.var_count-n.ensures.0 c.bind.ensures (λ b. omega (arith, c.type_inv.head b)) (λ b. omega (arith, c.type_inv.procs b)) (λ b. omega (arith, c.type_inv.vars b))
+returns c = supply-plays _ _ _ _ _ c.requires.0 _ _ c.asked-a.ensures c.in-Ok.is c.var_count-n.ensures.0 c.bind.ensures (λ b. omega (arith, c.type_inv.head b)) (λ b. omega (arith, c.type_inv.procs b)) (λ b. omega (arith, c.type_inv.vars b))

@@ -6,7 +6,7 @@ pub returns-in_default : goal.returns-in_default
 returns-in_default c = replay-refused _ _ _ _ c.enter-e.ensures.enter_says c.in_default.is c.refusal-r.ensures
 
 pub replay_in-requires : goal.replay_in-requires
-replay_in-requires c = (inside_of _ _ _ c.enter-e.ensures.enter_says c.in-Accepted.is, indexed_of _ _ c.enter-e.ensures.indexed_of c.in-Accepted.is)
+replay_in-requires c = (inside_of _ _ _ c.enter-e.ensures.enter_says c.in-Ok.is, indexed_of _ _ c.enter-e.ensures.indexed_of c.in-Ok.is)
 
 pub returns : goal.returns
 returns c = c.replay_in.ensures

@@ -3,10 +3,10 @@ use Rattle.resume.proofs.Resuming.{read-inside, tested-whole}
 use Rattle.resume.proofs.tested.Goals as goal
 
 pub image_length-requires : goal.image_length-requires
-image_length-requires c = let k = read-inside c.args.row.now c.read-seen.ensures c.in-Whole.is in omega arith
+image_length-requires c = let k = read-inside c.args.row.now c.read.ensures c.in_ok-a.was in omega arith
 
 pub fits-requires : goal.fits-requires
-fits-requires c = (c.requires.0, c.requires.1, read-inside c.args.row.now c.read-seen.ensures c.in-Whole.is, c.requires.2)
+fits-requires c = (c.requires.0, c.requires.1, read-inside c.args.row.now c.read.ensures c.in_ok-a.was, c.requires.2)
 
 pub returns : goal.returns
-returns c = tested-whole _ _ _ _ _ c.read-seen.ensures c.in-Whole.is c.image_length.ensures.0 c.if-image_length-image.false c.fits.ensures (c.if-not-fits.false)
+returns c = tested-whole _ _ _ _ _ c.read.ensures c.in_ok-a.was c.image_length.ensures.0 c.if-image_length-image.false c.fits.ensures (c.if-not-fits.false)

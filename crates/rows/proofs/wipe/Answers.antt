@@ -1,11 +1,20 @@
-use Rattle.rows.proofs.Laws.{wiped-done, wiped-one}
-use borrow.Author.Rules.{rules}
+use Prim.Native.Nat.{◌+◌, ◌-◌}
+use mathlib.Core.Path.{◌≡◌}
+use mathlib.Core.List.{append_assoc}
+use lib.ListN.{drop, length, length-drop, length-take}
+use lib.Seq.{drop-drop}
+use borrow.Rule.Slice.PartMut.{mid_of}
 use native.Mathlib.Omega.{arith}
-use mathlib.Core.Path.{◌∙◌}
+use Rattle.parlog.specs.Tables.{zeros}
+use Rattle.rows.specs.Rows.{wiped}
 use Rattle.rows.proofs.wipe.Goals as goal
 
-pub loop-k-preserved : goal.loop-k-preserved
-loop-k-preserved c = (search rules, search rules, rw c.loop-k.invariant.2 (wiped-one c.args.table.now c.args.from c.args.n c.loop-k.k (search rules) c.loop-k-test.true))
-
 pub returns : goal.returns
-returns c = c.loop-k.invariant.2 ∙ wiped-done c.args.table.now c.args.from c.args.n c.loop-k.k c.loop-k.invariant.0 (omega arith)
+unfolding wiped zeros
+returns c =
+    let a = c.args in
+    let t = a.table.now in
+    let k = a.from + a.n - a.from in
+    let e : k ≡ a.n = omega arith in
+    let m : length (mid_of a.from k t) ≡ a.n = omega (arith, length-take k (drop a.from t), length-drop a.from t) in
+    rw (c.fill.ensures.after (λ y h. h), m, e, drop-drop a.n a.from, append_assoc)

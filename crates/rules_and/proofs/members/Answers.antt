@@ -4,7 +4,7 @@ use Rattle.rules_and.proofs.Children.{fill-next, fill_start}
 use Rattle.rules_and.proofs.members.Goals as goal
 
 pub loop-j-init : goal.loop-j-init
-loop-j-init c = (omega arith, refl, fill_start _ _)
+loop-j-init c = (refl, fill_start _ _)
 
 pub loop-j-preserved : goal.loop-j-preserved
-loop-j-preserved c = (omega arith, omega arith, fill-next _ _ _ _ c.loop-j.invariant.2 c.member-y.ensures c.append.ensures)
+loop-j-preserved c = (omega arith, fill-next _ _ _ _ c.loop-j.invariant.1 c.member-y.ensures c.append.ensures)

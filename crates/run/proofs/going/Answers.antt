@@ -13,13 +13,13 @@ pub returns-in_default : goal.returns-in_default
 returns-in_default c = going-none _ _ _ _ _ _ c.requires.0 _ _ c.loop-k.invariant c.look-w.ensures c.in_default.is
 
 pub returns-then-k-limit : goal.returns-then-k-limit
-returns-then-k-limit c = going-spent _ _ _ _ _ _ c.requires.0 _ _ c.loop-k.invariant c.look-w.ensures c.in-At.is c.if-k-limit.true
+returns-then-k-limit c = going-spent _ _ _ _ _ _ c.requires.0 _ _ c.loop-k.invariant c.look-w.ensures c.in-Some.is c.if-k-limit.true
 
 pub stepped-a-requires : goal.stepped-a-requires
-stepped-a-requires c = (c.loop-k.invariant.inside, look-below _ c.look-w.ensures c.in-At.is, (λ w. c.look-w.ensures.told _ c.in-At.is), c.requires.2)
+stepped-a-requires c = (c.loop-k.invariant.inside, look-below _ c.look-w.ensures c.in-Some.is, (λ w. c.look-w.ensures.told _ c.in-Some.is), c.requires.2)
 
 pub returns-in_default-a : goal.returns-in_default-a
-returns-in_default-a c = going-room _ _ _ _ _ _ c.requires.0 _ _ c.loop-k.invariant c.look-w.ensures c.in-At.is c.if-k-limit.false c.stepped-a.ensures c.in_default-a.is
+returns-in_default-a c = going-room _ _ _ _ _ _ c.requires.0 _ _ c.loop-k.invariant c.look-w.ensures c.in-Some.is c.if-k-limit.false c.stepped-a.ensures c.in_default-a.is
 
 pub loop-k-preserved : goal.loop-k-preserved
-loop-k-preserved c = going_on _ _ _ _ _ _ c.requires.0 _ _ c.loop-k.invariant c.look-w.ensures c.in-At.is c.if-k-limit.false c.stepped-a.ensures c.in-Moved.is
+loop-k-preserved c = going_on _ _ _ _ _ _ c.requires.0 _ _ c.loop-k.invariant c.look-w.ensures c.in-Some.is c.if-k-limit.false c.stepped-a.ensures c.in-Ok.is

@@ -1,4 +1,3 @@
-use Prim.Native.Nat.{◌+◌, ◌-◌}
 use Rattle.parlog.specs.Limits.{small}
 use Rattle.parlog.specs.Tables.{lent}
 use Rattle.run.specs.Running.{Going}
@@ -6,6 +5,3 @@ use Rattle.run.proofs.going.Given as goal
 
 abbrev pub invariant-loop-k : goal.invariant-loop-k
 invariant-loop-k l = Going small l.image l.rels l.clauses (lent l.initial.head l.initial.procs l.initial.vars) (lent l.head l.procs l.vars) l.limit l.k
-
-abbrev pub decreases-loop-k : goal.decreases-loop-k
-decreases-loop-k l = l.limit + 1 - l.k

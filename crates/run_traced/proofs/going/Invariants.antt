@@ -1,11 +1,7 @@
 use Rattle.run_traced.specs.Traced.{GoingTraced}
 use Rattle.parlog.specs.Tables.{lent}
 use Rattle.parlog.specs.Limits.{small}
-use Prim.Native.Nat.{◌+◌, ◌-◌}
 use Rattle.run_traced.proofs.going.Given as goal
 
 abbrev pub invariant-loop-k : goal.invariant-loop-k
 invariant-loop-k l = GoingTraced small l.image l.rels l.clauses (lent l.initial.head l.initial.procs l.initial.vars) (lent l.head l.procs l.vars) l.initial.trace l.trace l.limit l.k l.stamp l.next
-
-abbrev pub decreases-loop-k : goal.decreases-loop-k
-decreases-loop-k l = l.limit + 1 - l.k

@@ -4,6 +4,3 @@ use Rattle.runner.proofs.lines.Given as goal
 
 abbrev pub invariant-loop-v : goal.invariant-loop-v
 invariant-loop-v l = Listing l.initial.out (vars_in l.vars l.n) l.goal l.out l.p l.v
-
-abbrev pub decreases-loop-v : goal.decreases-loop-v
-decreases-loop-v l = l.v

@@ -31,4 +31,4 @@ ran-requires c = (omega (arith, c.lines-p.ensures.near), omega (arith, c.lines-p
 
 pub returns : goal.returns
 unfolding small
-returns c = told-run _ _ c.requires.0 (plays _ small-usable _ _ _ _ _ c.requires.0 c.goal_vars-goal.ensures.0 c.goal_vars-goal.ensures.1 c.requires.3 c.requires.4 c.requires.5 c.start-begun.ensures c.run-ran.ensures) c.in-Ended.is c.goal_vars-goal.ensures.0 c.var_count-n.ensures.0 c.lines-p.ensures c.ran.ensures
+returns c = told-run _ _ c.requires.0 (plays _ small-usable _ _ _ _ _ c.requires.0 c.goal_vars-goal.ensures.0 c.goal_vars-goal.ensures.1 c.requires.3 c.requires.4 c.requires.5 c.start-begun.ensures c.run-ran.ensures) c.in-Ok.is c.goal_vars-goal.ensures.0 c.var_count-n.ensures.0 c.lines-p.ensures c.ran.ensures

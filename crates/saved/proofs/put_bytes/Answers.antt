@@ -1,11 +1,10 @@
 use borrow.Author.Rules.{rules}
+use native.Mathlib.Omega.{arith}
 use Rattle.saved.proofs.Written.{bytes-none, bytes-step}
 use Rattle.saved.proofs.put_bytes.Goals as goal
 
-pub loop-k-init : goal.loop-k-init
-loop-k-init c = (search rules, search rules, search rules, bytes-none c.args.out.now c.args.row.now c.args.at c.args.from)
+pub loop-byte-init : goal.loop-byte-init
+loop-byte-init c = (search rules, bytes-none c.args.out.now c.args.row.now c.args.at c.args.from)
 
-pub loop-k-preserved : goal.loop-k-preserved
-loop-k-preserved c = let i = c.loop-k.invariant in
-    let b = bytes-step c.args.out.now c.args.row.now c.args.at c.args.from c.loop-k.k i.1 i.2 i.3 c.put-next.ensures in
-    (search rules, b.0, b.1, b.2)
+pub loop-byte-preserved : goal.loop-byte-preserved
+loop-byte-preserved c = bytes-step c.args.out.now c.args.row.now c.args.at c.args.from c.loop-byte.byte-index _ (omega arith) c.loop-byte.invariant.0 c.loop-byte.invariant.1 c.put-next.ensures

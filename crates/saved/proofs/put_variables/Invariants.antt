@@ -1,13 +1,9 @@
-use Prim.Native.Nat.{◌*◌, ◌+◌, ◌≤◌, ◌-◌}
+use Prim.Native.Nat.{◌*◌, ◌+◌}
 use mathlib.Core.Path.{◌≡◌}
-use lib.ListN.{length}
 use Rattle.lay.specs.Lay.{Lays}
 use Rattle.parlog.specs.Tables.{rows_bytes}
 use Rattle.saved.specs.Form.{numbers, variable_record}
 use Rattle.saved.proofs.put_variables.Given as goal
 
 abbrev pub invariant-loop-i : goal.invariant-loop-i
-invariant-loop-i l = (l.i ≤ l.n) × (l.next ≡ l.at + l.i * 8) × (length l.out ≡ length l.initial.out) × Lays l.initial.out l.out l.at (rows_bytes (variable_record l.vars) (numbers l.i)) l.next
-
-abbrev pub decreases-loop-i : goal.decreases-loop-i
-decreases-loop-i l = l.n - l.i
+invariant-loop-i l = (l.next ≡ l.at + l.i * 8) × Lays l.initial.out l.out l.at (rows_bytes (variable_record l.vars) (numbers l.i)) l.next

@@ -1,4 +1,3 @@
-use Prim.Native.Nat.{◌*◌, ◌≤◌, ◌-◌}
 use mathlib.Core.Path.{◌≡◌}
 use lib.ListN.{length}
 use Rattle.lay.specs.Lay.{laid}
@@ -8,7 +7,4 @@ use Rattle.saved.specs.Form.{numbers}
 use Rattle.saved.proofs.take_processes.Given as goal
 
 abbrev pub invariant-loop-i : goal.invariant-loop-i
-invariant-loop-i l = (l.i ≤ l.n) × (length l.procs ≡ length l.initial.procs) × (l.n * 24 ≤ length l.procs) × (length l.procs ≤ 4194304) × (l.procs ≡ laid (zeros (length l.initial.procs)) 0 (rows_bytes (process_in l.s) (numbers l.i)))
-
-abbrev pub decreases-loop-i : goal.decreases-loop-i
-decreases-loop-i l = l.n - l.i
+invariant-loop-i l = l.procs ≡ laid (zeros (length l.initial.procs)) 0 (rows_bytes (process_in l.s) (numbers l.i))

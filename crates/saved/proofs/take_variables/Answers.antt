@@ -6,13 +6,13 @@ use Rattle.saved.proofs.Written.{variable-in-length, rows-laid, table-begin, tab
 use Rattle.saved.proofs.take_variables.Goals as goal
 
 pub loop-i-init : goal.loop-i-init
-loop-i-init c = (search rules, search rules, search rules, search rules, table-begin (variable_in c.args.s.now c.args.a) c.args.vars.now _ _ (search rules) (search rules) c.wipe.ensures)
+loop-i-init c = table-begin (variable_in c.args.s.now c.args.a) c.args.vars.now _ _ (search rules) (search rules) c.wipe.ensures
 
 pub loop-i-preserved : goal.loop-i-preserved
-loop-i-preserved c = let i = c.loop-i.invariant in
-    (search rules, search rules, search rules, search rules, rows-laid (variable_in c.args.s.now c.args.a) 4 (variable-in-length c.args.s.now c.args.a) _ c.loop-i.i i.4 c.put_bytes.ensures.row)
+loop-i-preserved c =
+    rows-laid (variable_in c.args.s.now c.args.a) 4 (variable-in-length c.args.s.now c.args.a) _ c.loop-i.i c.loop-i.invariant c.put_bytes.ensures.row
 
 pub returns : goal.returns
 unfolding cells_in
-returns c = let i = c.loop-i.invariant in
-    table_done (variable_in c.args.s.now c.args.a) 4 (variable-in-length c.args.s.now c.args.a) _ (length c.args.vars.now) c.loop-i.i c.args.n (search rules) i.4 i.0 c.loop-i-test.false (omega arith)
+returns c =
+    table_done (variable_in c.args.s.now c.args.a) 4 (variable-in-length c.args.s.now c.args.a) _ (length c.args.vars.now) c.loop-i.i c.args.n (search rules) c.loop-i.invariant (search rules) (search rules) (omega arith)

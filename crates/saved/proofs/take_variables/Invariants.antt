@@ -1,4 +1,3 @@
-use Prim.Native.Nat.{◌*◌, ◌≤◌, ◌-◌}
 use mathlib.Core.Path.{◌≡◌}
 use lib.ListN.{length}
 use Rattle.lay.specs.Lay.{laid}
@@ -8,7 +7,4 @@ use Rattle.saved.specs.Form.{numbers}
 use Rattle.saved.proofs.take_variables.Given as goal
 
 abbrev pub invariant-loop-i : goal.invariant-loop-i
-invariant-loop-i l = (l.i ≤ l.n) × (length l.vars ≡ length l.initial.vars) × (l.n * 4 ≤ length l.vars) × (length l.vars ≤ 4194304) × (l.vars ≡ laid (zeros (length l.initial.vars)) 0 (rows_bytes (variable_in l.s l.a) (numbers l.i)))
-
-abbrev pub decreases-loop-i : goal.decreases-loop-i
-decreases-loop-i l = l.n - l.i
+invariant-loop-i l = l.vars ≡ laid (zeros (length l.initial.vars)) 0 (rows_bytes (variable_in l.s l.a) (numbers l.i))

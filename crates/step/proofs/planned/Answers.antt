@@ -10,7 +10,7 @@ pub rule_of-plan-requires : goal.rule_of-plan-requires
 rule_of-plan-requires c = let q = rule-asks _ _ _ _ _ c.requires.0 small-usable small-few _ c.requires.1 c.proc_count-n.ensures.0 c.proc_count-n.ensures.1 c.var_count-m.ensures.0 c.requires.2 in (q.0, q.1, q.2, q.3, q.4, q.5, q.6, q.7, q.8, c.requires.3)
 
 pub returns-then-not-plan : goal.returns-then-not-plan
-returns-then-not-plan c = planned-still _ _ _ _ _ c.requires.0 _ c.requires.1 c.proc_count-n.ensures.0 c.var_count-m.ensures.0 _ c.rule_of-plan.ensures.0 (not-true _ c.if-not-plan.true)
+returns-then-not-plan c = planned-still _ _ _ _ _ c.requires.0 _ c.requires.1 c.proc_count-n.ensures.0 c.var_count-m.ensures.0 _ c.rule_of-plan.ensures.0 (not-true _ c.if-not-plan.true) c.refusal.ensures
 
 pub fits-requires : goal.fits-requires
 unfolding small
@@ -18,7 +18,7 @@ fits-requires c = let w = fits-asks _ _ _ _ _ c.requires.0 c.proc_count-n.ensure
 
 pub returns-then-not-fits : goal.returns-then-not-fits
 unfolding small
-returns-then-not-fits c = planned-full _ _ _ _ _ c.requires.0 _ c.requires.1 c.proc_count-n.ensures.0 c.var_count-m.ensures.0 _ c.rule_of-plan.ensures.0 (not-false _ c.if-not-plan.false) c.fits.ensures (c.if-not-fits.true)
+returns-then-not-fits c = planned-full _ _ _ _ _ c.requires.0 _ c.requires.1 c.proc_count-n.ensures.0 c.var_count-m.ensures.0 _ c.rule_of-plan.ensures.0 (not-false _ c.if-not-plan.false) c.fits.ensures (c.if-not-fits.true) c.refusal-then-not-fits.ensures
 
 pub returns : goal.returns
 unfolding small

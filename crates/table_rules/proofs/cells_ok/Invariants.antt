@@ -1,11 +1,8 @@
-use Prim.Native.Nat.{◌≤◌}
+use mathlib.Core.Bool.{true}
 use mathlib.Core.Path.{◌≡◌}
 use Rattle.parlog.specs.Scan.{every}
 use Rattle.table_rules.specs.Parts.{cell_ok}
 use Rattle.table_rules.proofs.cells_ok.Given as goal
 
 abbrev pub invariant-loop-q : goal.invariant-loop-q
-invariant-loop-q l = (l.q ≤ l.n) × (every (cell_ok l.vars l.n) l.n ≡ every (cell_ok l.vars l.n) l.q)
-
-abbrev pub decreases-loop-q : goal.decreases-loop-q
-decreases-loop-q l = l.q
+invariant-loop-q l = every (cell_ok l.vars l.n) l.q ≡ true

@@ -13,4 +13,4 @@ pub overflow_sub-x : goal.overflow_sub-x
 overflow_sub-x c = ends-behind _ c.args.at 8 _ _ _ c.requires.1 (omega arith) c.start-w.ensures c.parts-x.ensures
 
 pub returns : goal.returns
-returns c = clause-taken c.args.s.now (modes_from c.args.s.now c.args.lines.from) c.args.from c.clause-c.result c.relation_at-head.result c.clause-c.ensures c.relation_at-head.ensures c.args.at c.args.n c.args.opens c.told.result refl c.requires.1 c.start-w.ensures c.parts-x.ensures c.clause_front.ensures c.told.ensures
+returns c = clause-taken c.args.s.now (modes_from c.args.s.now c.args.lines.from) c.args.from c.clause-c.result c.relation_at-head.result c.clause-c.ensures c.relation_at-head.ensures c.args.at c.args.n c.args.opens c.told.result refl c.requires.1 (rw (c.unwrap_or.ensures, c.is_some.ensures) at c.start-w.ensures) c.parts-x.ensures c.clause_front.ensures c.told.ensures

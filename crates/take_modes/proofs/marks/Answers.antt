@@ -1,3 +1,4 @@
+use native.Mathlib.Nat.{sub-add-eq, sub-zero}
 use native.Mathlib.Omega.{arith}
 use Rattle.text_program.specs.Source.{read_mode, row}
 use Rattle.read_goal.proofs.Turn.{row-fuel, row_last, row_more, row-none}
@@ -9,18 +10,18 @@ use Rattle.lay_literal.proofs.Laid.{all_true, lay_done, lay-last, lay-on, lay-st
 use Prim.Native.Nat.{◌-◌, ℕ}
 use lib.ListN.{drop, length}
 use mathlib.Core.List.{[], ◌∷◌}
-use mathlib.Core.Path.{ap, refl}
+use mathlib.Core.Path.{ap, refl, ◌≡◌}
 use mathlib.Core.Bool.{true}
 use Rattle.take_modes.proofs.marks.Goals as goal
 
-pub loop-left-init : goal.loop-left-init
-loop-left-init c = (whole-as (ap lows (singles (row read_mode 44 (drop c.args.at c.args.s.now)).value)) (all_true (row read_mode 44 (drop c.args.at c.args.s.now)).value) (lay-start (λ (m : ℕ). m ∷ []) (λ (m : ℕ). true) _ _ (row-fuel read_mode 44 c.args.s.now c.args.at (length c.args.s.now - c.args.at) refl) (omega arith) (omega arith)), span-start _ c.requires (omega arith) (row-fuel read_mode 44 c.args.s.now c.args.at (length c.args.s.now - c.args.at) refl) refl)
+pub loop-n-init : goal.loop-n-init
+loop-n-init c = rw sub-zero (whole-as (ap lows (singles (row read_mode 44 (drop c.args.at c.args.s.now)).value)) (all_true (row read_mode 44 (drop c.args.at c.args.s.now)).value) (lay-start (λ (m : ℕ). m ∷ []) (λ (m : ℕ). true) _ _ (row-fuel read_mode 44 c.args.s.now c.args.at (length c.args.s.now - c.args.at) refl) (omega arith) (omega arith)), span-start _ c.requires (omega arith) (row-fuel read_mode 44 c.args.s.now c.args.at (length c.args.s.now - c.args.at) refl) refl)
 
 pub returns-then-byte_at-ne-COMMA : goal.returns-then-byte_at-ne-COMMA
-returns-then-byte_at-ne-COMMA c = (span_last _ _ (row_last read_mode 44 c.args.s.now c.loop-left.left c.loop-left.q c.after_mark-q.result _ c.after_mark-q.ensures.0 c.byte_at.ensures.0 c.loop-left-test.true c.if-byte_at-ne-COMMA.true) refl c.after_mark-q.ensures.1 c.loop-left.invariant.1, (lay-last (λ (m : ℕ). m ∷ []) (λ (m : ℕ). true) _ _ _ (row_last read_mode 44 c.args.s.now c.loop-left.left c.loop-left.q c.after_mark-q.result _ c.after_mark-q.ensures.0 c.byte_at.ensures.0 c.loop-left-test.true c.if-byte_at-ne-COMMA.true) c.loop-left.invariant.0 (mode-item c.args.s.now c.loop-left.q c.mode.result c.mode.ensures c.number-to.ensures)).row)
+returns-then-byte_at-ne-COMMA c = let left = length c.args.s.now - c.args.at - c.loop-n.n in (span_last _ _ (row_last read_mode 44 c.args.s.now left c.loop-n.q c.after_mark-q.result _ c.after_mark-q.ensures.0 c.byte_at.ensures.0 (omega arith) c.if-byte_at-ne-COMMA.true) refl c.after_mark-q.ensures.1 c.loop-n.invariant.1, (lay-last (λ (m : ℕ). m ∷ []) (λ (m : ℕ). true) _ _ _ (row_last read_mode 44 c.args.s.now left c.loop-n.q c.after_mark-q.result _ c.after_mark-q.ensures.0 c.byte_at.ensures.0 (omega arith) c.if-byte_at-ne-COMMA.true) c.loop-n.invariant.0 (mode-item c.args.s.now c.loop-n.q c.mode.result c.mode.ensures c.number-to.ensures)).row)
 
-pub loop-left-preserved : goal.loop-left-preserved
-loop-left-preserved c = (lay-on (λ (m : ℕ). m ∷ []) (λ (m : ℕ). true) _ _ _ (row_more read_mode 44 c.args.s.now c.loop-left.left c.loop-left.q c.after_mark-q.result _ c.after_mark-q.ensures.0 c.byte_at.ensures.0 c.after_mark-q-in-loop-left.result c.loop-left-test.true c.if-byte_at-ne-COMMA.false c.after_mark-q-in-loop-left.ensures.0) c.loop-left.invariant.0 (mode-item c.args.s.now c.loop-left.q c.mode.result c.mode.ensures c.number-to.ensures), span-on _ _ (row_more read_mode 44 c.args.s.now c.loop-left.left c.loop-left.q c.after_mark-q.result _ c.after_mark-q.ensures.0 c.byte_at.ensures.0 c.after_mark-q-in-loop-left.result c.loop-left-test.true c.if-byte_at-ne-COMMA.false c.after_mark-q-in-loop-left.ensures.0) refl c.loop-left-test.true c.after_mark-q-in-loop-left.ensures.1 c.loop-left.invariant.1)
+pub loop-n-preserved : goal.loop-n-preserved
+loop-n-preserved c = let left = length c.args.s.now - c.args.at - c.loop-n.n in rw sub-add-eq (lay-on (λ (m : ℕ). m ∷ []) (λ (m : ℕ). true) _ _ _ (row_more read_mode 44 c.args.s.now left c.loop-n.q c.after_mark-q.result _ c.after_mark-q.ensures.0 c.byte_at.ensures.0 c.after_mark-q-in-loop-n.result (omega arith) c.if-byte_at-ne-COMMA.false c.after_mark-q-in-loop-n.ensures.0) c.loop-n.invariant.0 (mode-item c.args.s.now c.loop-n.q c.mode.result c.mode.ensures c.number-to.ensures), span-on _ _ (row_more read_mode 44 c.args.s.now left c.loop-n.q c.after_mark-q.result _ c.after_mark-q.ensures.0 c.byte_at.ensures.0 c.after_mark-q-in-loop-n.result (omega arith) c.if-byte_at-ne-COMMA.false c.after_mark-q-in-loop-n.ensures.0) refl (omega arith) c.after_mark-q-in-loop-n.ensures.1 c.loop-n.invariant.1)
 
 pub returns : goal.returns
-returns c = (span-done _ (row-none read_mode 44 c.args.s.now c.loop-left.left c.loop-left.q (omega arith)) refl c.loop-left.invariant.1, (lay_done (λ (m : ℕ). m ∷ []) (λ (m : ℕ). true) _ _ (row-none read_mode 44 c.args.s.now c.loop-left.left c.loop-left.q (omega arith)) c.loop-left.invariant.0).row)
+returns c = let left = length c.args.s.now - c.args.at - c.loop-n.n in let n : c.loop-n.n ≡ length c.args.s.now - c.args.at = omega arith in rw (← n) (span-done _ (row-none read_mode 44 c.args.s.now left c.loop-n.q (omega arith)) refl c.loop-n.invariant.1, (lay_done (λ (m : ℕ). m ∷ []) (λ (m : ℕ). true) _ _ (row-none read_mode 44 c.args.s.now left c.loop-n.q (omega arith)) c.loop-n.invariant.0).row)

@@ -1,4 +1,7 @@
+use Rattle.take_modes.proofs.Walked.{fresh-is}
+use Rattle.text_names.specs.Bytes.{front}
+use lib.ListN.{drop}
 use Rattle.take_modes.proofs.test_line.Goals as goal
 
 pub returns : goal.returns
-returns c = rw (← c.find-k.ensures.0) c.verdict.ensures
+returns c = rw (fresh-is c.args.s.now c.args.rels.now c.args.g.relations (front (drop c.args.line.name c.args.s.now)) _ _ c.requires.2.inside c.find.ensures c.is_none-fresh.ensures) c.verdict.ensures

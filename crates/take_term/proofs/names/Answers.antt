@@ -1,20 +1,24 @@
+use mathlib.Core.Path.{◌≡◌}
+use native.Mathlib.Nat.{sub-add-eq, sub-zero}
+use Prim.Native.Nat.{◌-◌}
+use lib.ListN.{length}
 use native.Mathlib.Omega.{arith}
 use Rattle.take_term.proofs.Ways.{names-done, names-last, names-on, names-start}
 use Rattle.take_term.proofs.Laws.{takes-ready}
 use mathlib.Core.List.{[]}
 use Rattle.take_term.proofs.names.Goals as goal
 
-pub loop-left-init : goal.loop-left-init
-loop-left-init c = (names-start c.args.s.now c.requires (omega arith) (omega arith), let h = c.requires.inside in omega arith)
+pub loop-n-init : goal.loop-n-init
+loop-n-init c = rw sub-zero (names-start c.args.s.now c.requires (omega arith) (omega arith))
 
 pub term-r-requires : goal.term-r-requires
-term-r-requires c = takes-ready (c.loop-left.invariant.0 []).taken
+term-r-requires c = takes-ready (c.loop-n.invariant []).taken
 
 pub returns-then-byte_at-ne-COMMA : goal.returns-then-byte_at-ne-COMMA
-returns-then-byte_at-ne-COMMA c = names-last c.args.s.now c.loop-left.left c.loop-left.invariant.0 c.byte_at.result c.loop-left-test.true c.term-r.ensures c.byte_at.ensures.0 c.if-byte_at-ne-COMMA.true c.move_to.ensures
+returns-then-byte_at-ne-COMMA c = let left = length c.args.s.now - c.args.w.end - c.loop-n.n in names-last c.args.s.now left c.loop-n.invariant c.byte_at.result (omega arith) c.term-r.ensures c.byte_at.ensures.0 c.if-byte_at-ne-COMMA.true c.move_to.ensures
 
-pub loop-left-preserved : goal.loop-left-preserved
-loop-left-preserved c = (names-on c.args.s.now c.loop-left.left c.loop-left.invariant.0 c.byte_at.result c.loop-left-test.true c.term-r.ensures c.byte_at.ensures.0 c.after_mark-behind.result _ c.if-byte_at-ne-COMMA.false c.after_mark-behind.ensures.0 c.after_mark-behind.ensures.1 c.move_to-r.ensures, let h = c.loop-left.invariant.1 in let g = c.loop-left-test.true in omega arith)
+pub loop-n-preserved : goal.loop-n-preserved
+loop-n-preserved c = let left = length c.args.s.now - c.args.w.end - c.loop-n.n in rw sub-add-eq (names-on c.args.s.now left c.loop-n.invariant c.byte_at.result (omega arith) c.term-r.ensures c.byte_at.ensures.0 c.after_mark-behind.result _ c.if-byte_at-ne-COMMA.false c.after_mark-behind.ensures.0 c.after_mark-behind.ensures.1 c.move_to-r.ensures)
 
 pub returns : goal.returns
-returns c = names-done c.args.s.now c.loop-left.left c.loop-left.invariant.0 (omega arith) c.move_to-2.ensures
+returns c = let left = length c.args.s.now - c.args.w.end - c.loop-n.n in let n : c.loop-n.n ≡ length c.args.s.now - c.args.w.end = omega arith in names-done c.args.s.now left c.loop-n.invariant (omega arith) (rw (← n) at c.move_to-2.ensures)

@@ -1,12 +1,9 @@
 use Rattle.text_program.specs.Source.{read_term, row, row_for}
 use Rattle.take_term.specs.Takes.{rows}
 use Rattle.take_term.proofs.Ways.{NamesLeft}
-use Prim.Native.Nat.{◌+◌, ◌≤◌}
-use lib.ListN.{drop, length}
+use Prim.Native.Nat.{◌-◌}
+use lib.ListN.{drop}
 use Rattle.take_term.proofs.names.Given as goal
 
-abbrev pub invariant-loop-left : goal.invariant-loop-left
-invariant-loop-left l = NamesLeft l.s (rows l.initial.out l.initial.consts l.initial.links l.initial.vars) l.initial.r (row read_term 44 (drop l.initial.r.end l.s)) (rows l.out l.consts l.links l.vars) l.r l.n (row_for l.left read_term 44 (drop l.r.end l.s)) × (l.n + l.left ≤ length l.s)
-
-abbrev pub decreases-loop-left : goal.decreases-loop-left
-decreases-loop-left l = l.left
+abbrev pub invariant-loop-n : goal.invariant-loop-n
+invariant-loop-n l = NamesLeft l.s (rows l.initial.out l.initial.consts l.initial.links l.initial.vars) l.initial.r (row read_term 44 (drop l.initial.r.end l.s)) (rows l.out l.consts l.links l.vars) l.r l.n (row_for (l.most - l.n) read_term 44 (drop l.r.end l.s))

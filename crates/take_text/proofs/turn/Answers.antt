@@ -1,5 +1,6 @@
+use Rattle.parlog.specs.declared.Progress.{Progress}
+use Rattle.std.specs.Prelude.{Result, ℕ}
 use mathlib.Core.Path.{◌∙◌, ap, refl}
-use Rattle.parlog.specs.declared.Verdict.{Verdict}
 use Rattle.take_text.specs.Turned.{turned_by}
 use Rattle.take_text.proofs.turn.Goals as goal
 
@@ -7,4 +8,4 @@ pub clause-c-requires : goal.clause-c-requires
 clause-c-requires c = (c.requires.0, c.requires.1, c.requires.2, c.requires.3)
 
 pub returns : goal.returns
-returns c = record { taken = c.clause-c.result; takes = c.clause-c.ensures; next = c.turned.ensures ∙ ap (λ (d : Verdict). turned_by d c.args.w c.clause-c.result) c.test-v.ensures.0; kept = rw (c.test-v.ensures.0) at c.test-v.ensures.1; semicolon = refl }
+returns c = record { taken = c.clause-c.result; takes = c.clause-c.ensures; next = c.turned.ensures ∙ ap (λ (d : Result Progress ℕ). turned_by d c.args.w c.clause-c.result) c.test-v.ensures.0; kept = rw (c.test-v.ensures.0) at c.test-v.ensures.1; semicolon = refl }

@@ -1,7 +1,7 @@
 use Rattle.text_names.proofs.Walk.{skip_stop, skip-go, skip-none}
 use native.Mathlib.Omega.{arith}
-use mathlib.Core.Path.{sym, ◌∙◌}
-use mathlib.Core.Path.{ap}
+use mathlib.Core.Path.{◌≡◌, sym, ◌∙◌, ap}
+use lib.ListN.{length}
 use mathlib.Core.Bool.{not}
 use Rattle.text_names.proofs.skip_blanks.Goals as goal
 
@@ -12,4 +12,4 @@ pub loop-i-preserved : goal.loop-i-preserved
 loop-i-preserved c = let p = c.loop-i in (omega arith, sym (skip-go _ _ c.is_blank.result c.loop-i-test.true (cc) (ap not c.if-not-is_blank.false)) ∙ p.invariant.1)
 
 pub returns : goal.returns
-returns c = let p = c.loop-i in (skip-none _ p.i (omega arith) ∙ p.invariant.1, omega arith)
+returns c = let p = c.loop-i in let e : p.i ≡ length c.args.s.now = omega arith in (rw (← e) (skip-none _ p.i (omega arith) ∙ p.invariant.1), omega arith)

@@ -1,7 +1,7 @@
 use Rattle.traced.proofs.supply_unnoted.Goals as goal
 
-pub returns-in-Given : goal.returns-in-Given
-returns-in-Given c = rw (c.in-Given.is, c.refusal.ensures)
+pub returns-in-Ok : goal.returns-in-Ok
+returns-in-Ok c = rw (c.in-Ok.is, c.refusal.ensures)
 
-pub returns-in-Ungiven : goal.returns-in-Ungiven
-returns-in-Ungiven c = rw c.in-Ungiven.is
+pub returns-in-Err : goal.returns-in-Err
+returns-in-Err c = rw c.in-Err.is

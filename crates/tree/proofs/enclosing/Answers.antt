@@ -3,17 +3,17 @@ use native.Mathlib.Omega.{arith}
 use Rattle.tree.proofs.Family.{above-end, above-met, above_on, above_root, enclosing-starts}
 use Rattle.tree.proofs.enclosing.Goals as goal
 
-pub loop-left-init : goal.loop-left-init
-loop-left-init c = enclosing-starts _ _ _
+pub loop-init : goal.loop-init
+loop-init c = enclosing-starts _ _ _
 
 pub returns-then-a-eq0 : goal.returns-then-a-eq0
-returns-then-a-eq0 c = sym (c.loop-left.invariant ∙ above_root _ _ _ c.loop-left-test.true c.if-a-eq0.true)
+returns-then-a-eq0 c = sym (c.loop.invariant ∙ above_root _ _ _ _ c.loop-test.true c.if-a-eq0.true)
 
 pub returns-then-tag_at-eq-TRY_CLAUSE : goal.returns-then-tag_at-eq-TRY_CLAUSE
-returns-then-tag_at-eq-TRY_CLAUSE c = sym (c.loop-left.invariant ∙ above-met _ _ _ c.loop-left-test.true c.if-a-eq0.false c.parent-over.ensures c.tag_at.ensures c.if-tag_at-eq-TRY_CLAUSE.true)
+returns-then-tag_at-eq-TRY_CLAUSE c = sym (c.loop.invariant ∙ above-met _ _ _ _ c.loop-test.true c.if-a-eq0.false c.parent-over.ensures c.tag_at.ensures c.if-tag_at-eq-TRY_CLAUSE.true)
 
-pub loop-left-preserved : goal.loop-left-preserved
-loop-left-preserved c = c.loop-left.invariant ∙ above_on _ _ _ c.loop-left-test.true c.if-a-eq0.false c.parent-over.ensures c.tag_at.ensures c.if-tag_at-eq-TRY_CLAUSE.false
+pub loop-preserved : goal.loop-preserved
+loop-preserved c = c.loop.invariant ∙ above_on _ _ _ _ c.loop-test.true c.if-a-eq0.false c.parent-over.ensures c.tag_at.ensures c.if-tag_at-eq-TRY_CLAUSE.false
 
 pub returns : goal.returns
-returns c = sym (c.loop-left.invariant ∙ above-end _ _ _ (omega arith))
+returns c = sym (c.loop.invariant ∙ above-end _ _ _ _ (omega arith))

@@ -1,10 +1,7 @@
-use Prim.Native.Nat.{◌-◌, ◌<◌, ◌≤◌}
+use Prim.Native.Nat.{◌<◌}
 use Rattle.parlog.specs.Tables.{procs_of}
 use Rattle.tree.specs.Family.{Childless}
 use Rattle.tree.proofs.first_child.Given as goal
 
 abbrev pub invariant-loop-q : goal.invariant-loop-q
-invariant-loop-q l = (l.q ≤ l.n) × (l.p < l.q) × Childless (procs_of l.procs l.n) l.p l.q
-
-abbrev pub decreases-loop-q : goal.decreases-loop-q
-decreases-loop-q l = l.n - l.q
+invariant-loop-q l = (l.p < l.q) × Childless (procs_of l.procs l.n) l.p l.q

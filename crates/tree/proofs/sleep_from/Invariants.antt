@@ -1,4 +1,4 @@
-use Prim.Native.Nat.{◌-◌, ◌<◌, ◌≤◌}
+use Prim.Native.Nat.{◌<◌, ◌≤◌}
 use mathlib.Core.Path.{◌≡◌}
 use lib.ListN.{length}
 use Rattle.parlog.specs.Scan.{build}
@@ -10,6 +10,3 @@ use Rattle.tree.proofs.sleep_from.Given as goal
 
 abbrev pub invariant-loop-q : goal.invariant-loop-q
 invariant-loop-q l = (l.q ≤ l.n) × (l.p < l.q) × Table l.initial.procs l.procs (build (passed (procs_of l.initial.procs l.n) l.p l.q) l.n) × (length l.marks ≡ most_rows) × Marks (procs_of l.initial.procs l.n) l.p l.q l.marks
-
-abbrev pub decreases-loop-q : goal.decreases-loop-q
-decreases-loop-q l = l.n - l.q

@@ -1,11 +1,7 @@
 use mathlib.Core.Path.{◌≡◌}
-use Prim.Native.Nat.{◌-◌, ◌≤◌}
-use lib.ListN.{drop, length, take}
+use lib.ListN.{drop}
 use Rattle.unify.specs.Pending.{latest}
 use Rattle.unify.proofs.found_in.Given as goal
 
-abbrev pub invariant-loop-k : goal.invariant-loop-k
-invariant-loop-k l = (l.k ≤ l.n) × (l.n ≤ 4) × (length l.binds ≡ 4) × (latest (drop l.k (take l.n l.binds)) l.b l.v ≡ latest (take l.n l.binds) l.initial.b l.v)
-
-abbrev pub decreases-loop-k : goal.decreases-loop-k
-decreases-loop-k l = l.n - l.k
+abbrev pub invariant-loop-c : goal.invariant-loop-c
+invariant-loop-c l = latest (drop l.c-index l.c-items) l.b l.v ≡ latest l.c-items l.initial.b l.v

@@ -1,14 +1,13 @@
-use mathlib.Core.Path.{◌∙◌}
-use borrow.Author.Rules.{rules}
-use native.Mathlib.Omega.{arith}
-use Rattle.unify.proofs.Laws.{some-done, some-hit, some-miss}
+use Rattle.std.proofs.Common.{◌∙◌, rules, take, tests}
+use Rattle.std.proofs.lemmas.Iterator.{YieldsList-from_slice}
+use Rattle.std.proofs.lemmas.Iterator.Search.{any_from_yields_List}
+use Rattle.parlog.specs.Tables.{binding_of, vars_in}
+use Rattle.parlog.specs.Unify.{is_bound}
+use Rattle.unify.proofs.Laws.{some-is}
 use Rattle.unify.proofs.some_bound.Goals as goal
 
-pub returns-then-is_bound : goal.returns-then-is_bound
-returns-then-is_bound c = some-hit _ _ _ _ (omega arith) c.loop-k-test.true c.is_bound.ensures c.if-is_bound.true ∙ c.loop-k.invariant.3
-
-pub loop-k-preserved : goal.loop-k-preserved
-loop-k-preserved c = (search rules, search rules, search rules, some-miss _ _ _ _ (omega arith) c.loop-k-test.true c.is_bound.ensures c.if-is_bound.false ∙ c.loop-k.invariant.3)
-
 pub returns : goal.returns
-returns c = some-done _ _ _ _ (omega arith) c.loop-k-test.false ∙ c.loop-k.invariant.3
+returns c =
+    let a = c.args in
+    let vs = vars_in a.vars.now a.n in
+    any_from_yields_List (λ v. is_bound (binding_of vs v)) _ _ _ c.any.ensures.ran (YieldsList-from_slice (take a.count a.notes) cc) (λ x b q k. search (rules, tests)) ∙ some-is vs (take a.count a.notes)

@@ -9,9 +9,9 @@ returns-in_default c = values-refused _ _ _ _ c.enter-e.ensures.enter_says c.in_
 pub gather-requires : goal.gather-requires
 gather-requires c =
     let says = c.enter-e.ensures in
-    let i = inside_of _ _ _ says.enter_says c.in-Accepted.is in
-    (i.relations, i.clauses, omega (arith, i.head), i.cells, i.goal, inside-ruled _ _ _ _ _ i, indexed_of _ _ says.indexed_of c.in-Accepted.is)
+    let i = inside_of _ _ _ says.enter_says c.in-Ok.is in
+    (i.relations, i.clauses, omega (arith, i.head), i.cells, i.goal, inside-ruled _ _ _ _ _ i, indexed_of _ _ says.indexed_of c.in-Ok.is)
 
 pub returns : goal.returns
 returns c =
-    values-gathered _ _ _ _ c.enter-e.ensures.enter_says c.in-Accepted.is c.gather.ensures
+    values-gathered _ _ _ _ c.enter-e.ensures.enter_says c.in-Ok.is c.gather.ensures

@@ -1,12 +1,7 @@
 use mathlib.Core.Path.{◌≡◌}
-use Prim.Native.Nat.{◌≤◌, ◌-◌}
-use lib.ListN.{length}
 use Rattle.parlog.specs.Tables.{vars_in, written}
 use Rattle.values.specs.Values.{values_bytes}
 use Rattle.values.proofs.write.Given as goal
 
 abbrev pub invariant-loop-v : goal.invariant-loop-v
-invariant-loop-v l = (l.v ≤ l.goal) × (length l.values ≡ length l.initial.values) × (l.values ≡ written (values_bytes (vars_in l.vars l.n) l.v) l.initial.values)
-
-abbrev pub decreases-loop-v : goal.decreases-loop-v
-decreases-loop-v l = l.goal - l.v
+invariant-loop-v l = l.values ≡ written (values_bytes (vars_in l.vars l.n) l.v) l.initial.values

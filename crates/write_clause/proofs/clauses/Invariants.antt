@@ -8,7 +8,4 @@ use Rattle.parlog.specs.Image.{record_end}
 use Rattle.write_clause.proofs.clauses.Given as goal
 
 abbrev pub invariant-loop-left : goal.invariant-loop-left
-invariant-loop-left l = ClausesLeft l.r l.names l.s l.left l.at l.initial.out l.initial.to (clauses_text l.r l.names (list_of (clause_of l.s) (record_end l.s) l.n l.from)) (all_of (clause_named l.r l.names) (list_of (clause_of l.s) (record_end l.s) l.n l.from)) l.out l.to × (l.left ≤ l.n) × (l.at + 65535 * l.left ≤ l.from + 65535 * l.n)
-
-abbrev pub decreases-loop-left : goal.decreases-loop-left
-decreases-loop-left l = l.left
+invariant-loop-left l = ClausesLeft l.s.relations l.s.names.row.now l.s.image.now l.left l.at l.initial.w (clauses_text l.s.relations l.s.names.row.now (list_of (clause_of l.s.image.now) (record_end l.s.image.now) l.n l.from)) (all_of (clause_named l.s.relations l.s.names.row.now) (list_of (clause_of l.s.image.now) (record_end l.s.image.now) l.n l.from)) l.w × (l.left ≤ l.n) × (l.at + 65535 * l.left ≤ l.from + 65535 * l.n)

@@ -1,4 +1,4 @@
-use Prim.Native.Nat.{◌*◌, ◌+◌, ◌-◌, ◌≤◌}
+use Prim.Native.Nat.{◌*◌, ◌+◌, ◌≤◌}
 use mathlib.Core.Path.{◌≡◌}
 use Rattle.text_program.specs.Printing.{row_text, term_named, term_text}
 use Rattle.text_program.specs.Parsing.{all_of}
@@ -8,7 +8,4 @@ use Rattle.write_goal.proofs.Rowed.{RowAt}
 use Rattle.write_goal.proofs.terms.Given as goal
 
 abbrev pub invariant-loop-k : goal.invariant-loop-k
-invariant-loop-k l = RowAt (term_text l.r l.names) (term_named l.r l.names) l.mark (term_at l.s) term_end l.n l.k l.at l.initial.out l.initial.to (row_text (term_text l.r l.names) l.mark (terms_at l.s l.n l.from)) (all_of (term_named l.r l.names) (terms_at l.s l.n l.from)) l.out l.to × (l.at ≡ l.from + 2 * l.k) × (l.k ≤ l.n)
-
-abbrev pub decreases-loop-k : goal.decreases-loop-k
-decreases-loop-k l = l.n - l.k
+invariant-loop-k l = RowAt (term_text l.s.relations l.s.names.row.now) (term_named l.s.relations l.s.names.row.now) l.mark (term_at l.s.image.now) term_end l.n l.k l.at l.initial.w (row_text (term_text l.s.relations l.s.names.row.now) l.mark (terms_at l.s.image.now l.n l.from)) (all_of (term_named l.s.relations l.s.names.row.now) (terms_at l.s.image.now l.n l.from)) l.w × (l.at ≡ l.from + 2 * l.k) × (l.k ≤ l.n)

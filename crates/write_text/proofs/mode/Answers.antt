@@ -5,5 +5,5 @@ use Rattle.write_text.proofs.mode.Goals as goal
 pub returns-then-m-eq0 : goal.returns-then-m-eq0
 returns-then-m-eq0 c = rw (any-mode c.args.m, eq-eqb c.args.m 0 c.if-m-eq0.true) c.put.ensures
 
-pub returns : goal.returns
-returns c = rw (any-mode c.args.m, ne_eqb c.args.m 0 c.if-m-eq0.false) c.put-2.ensures
+pub returns-else-m-eq0 : goal.returns-else-m-eq0
+returns-else-m-eq0 c = rw (any-mode c.args.m, ne_eqb c.args.m 0 c.if-m-eq0.false) c.put-else-m-eq0.ensures

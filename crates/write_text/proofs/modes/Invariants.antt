@@ -1,5 +1,4 @@
-use Prim.Native.Nat.{◌+◌, ◌-◌, ◌≤◌}
-use mathlib.Core.Path.{◌≡◌}
+use Prim.Native.Nat.{◌+◌}
 use mathlib.Core.List.{[], ◌∷◌}
 use Rattle.text_program.specs.Printing.{mode_text, row_text}
 use Rattle.text_program.specs.Parsing.{all_of}
@@ -10,7 +9,4 @@ use Rattle.write_goal.proofs.Rowed.{RowAt}
 use Rattle.write_text.proofs.modes.Given as goal
 
 abbrev pub invariant-loop-k : goal.invariant-loop-k
-invariant-loop-k l = RowAt mode_text any_mode (44 ∷ []) (byte_at l.s) mode_end l.n l.k l.at l.initial.out l.initial.to (row_text mode_text (44 ∷ []) (list_of (byte_at l.s) mode_end l.n l.from)) (all_of any_mode (list_of (byte_at l.s) mode_end l.n l.from)) l.out l.to × (l.at ≡ l.from + l.k) × (l.k ≤ l.n)
-
-abbrev pub decreases-loop-k : goal.decreases-loop-k
-decreases-loop-k l = l.n - l.k
+invariant-loop-k l = RowAt mode_text any_mode (44 ∷ []) (byte_at l.s) mode_end l.n l.k (l.from + l.k) l.initial.w (row_text mode_text (44 ∷ []) (list_of (byte_at l.s) mode_end l.n l.from)) (all_of any_mode (list_of (byte_at l.s) mode_end l.n l.from)) l.w
