@@ -31,8 +31,7 @@ pub fn tell(out: &mut [u8], list: [Change; codes::MOST_ARITY], count: usize)
 {
     let mut at = lay::put2(out, 0, count);
     for c in &list[..count] {
-        let v = basics::wide_u32(c.var);
-        at = lay::put2(out, at, v);
+        at = lay::put2(out, at, c.var as usize);
     }
 }
 

@@ -11,6 +11,7 @@ ghost use Rattle.children.specs.Telling.{heard_of, Tells};
 use parlog::codes;
 
 // ---- what was said, in bits: one reports nothing, one success, one failure, and the latest reports
+// Kept: bits, no enum. To hear a child is one store, and one note has what all of them said.
 
 pub const SILENT: u8 = 1;
 
@@ -154,7 +155,7 @@ fn heard(procs: &[u8], n: usize, x: Note) -> News
     ensures { heard_of result ≡ news_in (procs_of procs.now n) x }
 {
     if x.said / LATEST % 2 == 1 {
-        return heard_from(procs, n, basics::wide_u16(x.latest));
+        return heard_from(procs, n, usize::from(x.latest));
     }
     News::Silent
 }
@@ -186,7 +187,7 @@ fn is_child(procs: &[u8], n: usize, p: usize, i: usize) -> bool
     if i == 0 {
         return false;
     }
-    basics::wide_u16(rows::parent_at(procs, n, i)) == p
+    usize::from(rows::parent_at(procs, n, i)) == p
 }
 
 // Row q is heard if it is a child of p.

@@ -7,19 +7,16 @@ use lib.ListN.{drop, get_or, length}
 use borrow.Author.Tests.{ltb-true}
 use native.Mathlib.Omega.{arith}
 use Rattle.decide.proofs.Laws.{row_back, row_first}
-use Rattle.decide.specs.Decision.{changes_of, decided_by, decided_of, Decides, deed_of, notes_of, Shifted, to_bind, to_note}
+use Rattle.decide.specs.Decision.{decided_by, decided_of, Decides, deed_of, notes_of, Shifted, to_bind, to_note}
 use Rattle.decide.specs.declared.Decision.{Decision}
 use Rattle.decide.specs.declared.Deed.TheVariants.{Binds, Fails, Suspends}
-use Rattle.parlog.proofs.Bindings.{DecidedIn}
 use Rattle.parlog.proofs.Sane.{all-of-at}
 use Rattle.parlog.specs.Delta.{four_of}
 use Rattle.parlog.specs.Sane.{term_in, terms_in}
-use Rattle.parlog.specs.TableRules.{all_below}
 use Rattle.parlog.specs.Unify.{binds, Decided, fails, suspends}
 use Rattle.parlog.specs.declared.Term.{Term}
 use Rattle.parlog.specs.declared.Term.TheVariants.{Const, Var}
-use Rattle.unify.proofs.Bounds.{in-writable}
-use Rattle.unify.specs.Pending.{top, Writable}
+use Rattle.unify.specs.Pending.{top}
 
 -- ---- the decision by the deed
 
@@ -39,24 +36,6 @@ module _ {d : Decided} {r : Decision} (is : Decides d r) where
       go fails n f q s = cc
       go (suspends v ns) n f q s = let l : length (v ∷ ns) ≤ 4 = rw n at s in rw (f, n, row_back (v ∷ ns) l, row_first v ns)
       go (binds cs) n f q s = cc
-
--- ---- bounds, where the table rules hold
-
--- what keeps the table rules can be written
-pub decided-writable : (n k : ℕ) {d : Decided} {r : Decision} → n ≤ 16777216 → DecidedIn n k d → Decides d r → Writable n (to_bind r)
-decided-writable n k {d} g ok is = rw is.same (go d ok)
-  where
-    go : (d : Decided) → DecidedIn n k d → Writable n (changes_of d)
-    go fails o = record { rows = λ j h. absurd (omega arith); numbers = λ j h. absurd (omega arith) }
-    go (suspends v ns) o = record { rows = λ j h. absurd (omega arith); numbers = λ j h. absurd (omega arith) }
-    go (binds cs) o = in-writable n g cs o
-
--- and what is noted is among the first n
-pub decided-noted : (n k : ℕ) (d : Decided) → DecidedIn n k d → all_below n (notes_of d) ≡ true
-unfolding all_below
-decided-noted n k fails o = refl
-decided-noted n k (suspends v ns) o = o.0
-decided-noted n k (binds cs) o = refl
 
 -- ---- what the calls require
 

@@ -69,25 +69,15 @@ fn shift(t: Term, base: u16) -> Term
 }
 
 // v is the value of an input argument.
-fn is_input(
-    vars: &[u8],
-    n: usize,
-    modes: [u8; 4],
-    args: [Term; 4],
-    base: u16,
-    arity: usize,
-    v: u32,
-) -> bool
-    requires { (n * cell_size ≤ length vars.now) × (n ≤ 65535) × (arity ≤ 4) × (length args ≡ 4) × Shifted args base arity n }
-    ensures { result ≡ input_value (vars_in vars.now n) (take arity modes) (take arity args) base v }
+fn is_input(vars: &[u8], n: usize, args: [Term; 4], h: Held, v: u32) -> bool
+    requires { (n * cell_size ≤ length vars.now) × (n ≤ 65535) × (h.arity ≤ 4) × (length args ≡ 4) × Shifted args h.base h.arity n }
+    ensures { result ≡ input_value (vars_in vars.now n) (take h.arity h.modes) (take h.arity args) h.base v }
 {
-    for i in 0..arity {
-        let m = modes[i];
-        let t = shift(args[i], base);
+    for i in 0..h.arity {
+        let t = shift(args[i], h.base);
         let x = unify::value_of(vars, n, t);
         let yes = is_var(x, v);
-        let hit = basics::and(m == 0, yes);
-        if hit {
+        if (h.modes[i] == 0) & yes {
             return true;
         }
     }
@@ -99,10 +89,7 @@ fn is_held(vars: &[u8], n: usize, args: [Term; 4], h: Held, v: u32) -> bool
     requires { (n * cell_size ≤ length vars.now) × (n ≤ 65535) × (h.arity ≤ 4) × (length args ≡ 4) × Shifted args h.base h.arity n }
     ensures { result ≡ held_by (vars_in vars.now n) args h v }
 {
-    let modes = h.modes;
-    let low = (v as usize) < h.bar;
-    let input = is_input(vars, n, modes, args, h.base, h.arity, v);
-    basics::or(low, input)
+    ((v as usize) < h.bar) | is_input(vars, n, args, h, v)
 }
 
 // One variable more, where it is to be noted.
@@ -139,9 +126,9 @@ fn unnoted(deed: Deed, count: usize, binds: [Change; 4]) -> Decision
     ensures { result ≡ record { deed = deed; count = count; binds = binds; noted = 0; notes = 0 ∷ 0 ∷ 0 ∷ 0 ∷ [] } }
 {
     Decision {
-        deed: deed,
-        count: count,
-        binds: binds,
+        deed,
+        count,
+        binds,
         noted: 0,
         notes: [0, 0, 0, 0],
     }
@@ -172,9 +159,9 @@ fn decide(
         return Decision {
             deed: Deed::Suspends,
             count: 0,
-            binds: binds,
-            noted: noted,
-            notes: notes,
+            binds,
+            noted,
+            notes,
         };
     }
     unnoted(Deed::Binds, u.count, binds)
@@ -196,7 +183,7 @@ fn out_after(m: u8, out: u32) -> u32
     requires { out ≤ 65540 }
     ensures { (result ≡ out_after m out) × (result ≤ out + 1) }
 {
-    if m == 0 { out } else { out + 1 }
+    out + u32::from(m != 0)
 }
 
 // Argument k of the call with that of the head.
@@ -261,9 +248,9 @@ pub fn match_of(
     let pairs = pairs_of(modes, args, base, head, first, own as u32);
     let h = Held {
         bar: 0,
-        arity: arity,
-        modes: modes,
-        base: base,
+        arity,
+        modes,
+        base,
     };
     decide(vars, n, pairs, arity, args, h)
 }
@@ -277,10 +264,10 @@ pub fn equate_of(vars: &[u8], n: usize, t: Term, u: Term, base: u16, bar: usize)
     let y = shift(u, base);
     let p = Pair { left: x, right: y };
     let h = Held {
-        bar: bar,
+        bar,
         arity: 0,
         modes: [0, 0, 0, 0],
-        base: base,
+        base,
     };
     decide(vars, n, [p, p, p, p], 1, [t, t, t, t], h)
 }

@@ -81,11 +81,12 @@ fn class_declared(
     requires { (from ≤ length s.now) × Declares s.now places.now links.now named }
     ensures { result ≡ class_declared s.now named.from named.class from left }
 {
+    let Named { class, count, .. } = named;
     let mut bound = None;
     loop {
         let a = Asked {
-            class: named.class,
-            count: named.count,
+            class,
+            count,
             bound,
         };
         let Some(at) = missing_call::least(s, places, links, a, from, left) else {

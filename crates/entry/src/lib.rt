@@ -35,6 +35,7 @@ pub fn enter(
     ensures indexed_of { IndexedOf result image.now ix.new }
 {
     let l = load::load_indexed(image, ix);
+    // Kept in each call: docs/DECISIONS.md asks that each takes the load's answer apart by `let .. else`.
     let Ok((rels, clauses)) = l else {
         return l;
     };

@@ -1,6 +1,6 @@
 -- The laws of the head: its four numbers, and its bytes from them.
 use mathlib.Core.Path.{◌∙◌, ◌≡◌, ap, refl, sym}
-use mathlib.Core.List.{[], append-nil, List}
+use mathlib.Core.List.{[], ◌∷◌, append-nil, List}
 use Prim.Native.Nat.{◌%◌, ◌*◌, ◌+◌, ◌/◌, ◌<◌, ◌≤◌, ℕ}
 use lib.ListN.{drop, drop_of_length-le, get_or, length, set}
 use lib.Seq.{paste, paste-suc, take_all}
@@ -10,7 +10,9 @@ use native.Mathlib.Numerals.{add-one}
 use Rattle.parlog.proofs.Rows.{build-is, halves, high_half, low_half}
 use Rattle.parlog.specs.Scan.{build}
 use Rattle.parlog.specs.Tables.{head_bytes, head_size, marker_last, marker_steps, proc_count, var_count}
+use Rattle.rows.proofs.Laws.{high_in, low_in}
 use Rattle.rows.specs.Rows.{Bytes}
+use Rattle.std.specs.Int.{to_le_bytes, w16, w32}
 
 -- the four bytes of a number of turns give it
 pub steps_back : (m : ℕ) → m % 256 + m / 256 % 256 * 256 + (m / 65536 % 256 + m / 16777216 * 256) * 65536 ≡ m
@@ -71,6 +73,18 @@ head_is h len are =
       word-2 (b 6) (b 7) (b 8) (b 9) (are 6) (are 7) (are 8) (are 9),
       word-3 (b 6) (b 7) (b 8) (b 9) (are 6) (are 7) (are 8) (are 9),
     )
+
+-- the bytes of the four numbers are their head
+pub head_of : {p v k s : List ℕ} (n m last steps : ℕ) → n ≤ 65535 → m ≤ 65535 → last ≤ 65535 → steps < 4294967296
+    → p ≡ to_le_bytes w16 n → v ≡ to_le_bytes w16 m → k ≡ to_le_bytes w16 last → s ≡ to_le_bytes w32 steps
+    → get_or p 0 0 ∷ get_or p 1 0 ∷ get_or v 0 0 ∷ get_or v 1 0 ∷ get_or k 0 0 ∷ get_or k 1 0 ∷ get_or s 0 0 ∷ get_or s 1 0 ∷ get_or s 2 0 ∷ get_or s 3 0 ∷ [] ≡ head_bytes n m last steps
+unfolding head_bytes
+head_of {s = s} n m last steps hn hm hl hs ep ev ek es =
+    let a : get_or s 0 0 ≡ steps % 256 = rw es in
+    let b : get_or s 1 0 ≡ steps / 256 % 256 = rw es in
+    let c : get_or s 2 0 ≡ steps / 65536 % 256 = rw es in
+    let d : get_or s 3 0 ≡ steps / 16777216 = rw es (omega arith) in
+    rw (low_in _ ep, high_in _ hn ep, low_in _ ev, high_in _ hm ev, low_in _ ek, high_in _ hl ek, a, b, c, d)
 
 -- one byte more of a copy from the start
 pub paste-one : (l r : List ℕ) (k : ℕ) → k < length l → k < length r → set (paste l 0 r k) k (get_or r k 0) ≡ paste l 0 r (k + 1)

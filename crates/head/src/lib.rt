@@ -1,15 +1,13 @@
 // The head of a run's tables: the counts of processes and variables, then the turn marker.
 #![tactic(auto)]
 
-ghost use Rattle.std.specs.Prelude.{◌≡◌, ◌+◌, ◌*◌, ◌/◌, ◌%◌, ◌≤◌, length};
+ghost use Rattle.std.specs.Prelude.{◌≡◌, ◌+◌, ◌≤◌, length};
 ghost use Rattle.parlog.specs.Tables.{head_bytes, head_size, marker_last, marker_steps, proc_count, var_count};
 
 use parlog::codes;
 
-// Where the high half of the steps stands.
-const STEPS_HIGH: usize = codes::HEAD_STEPS + 2;
-
 // The counts of used rows.
+// Kept: three functions of one line, each with its field's name; one with the place as a parameter is no plainer.
 pub fn proc_count(head: &[u8]) -> usize
     requires { head_size ≤ length head.now }
     ensures { (result ≡ proc_count head.now) × (result ≤ 65535) }
@@ -36,29 +34,21 @@ pub fn marker_steps(head: &[u8]) -> u32
     requires { head_size ≤ length head.now }
     ensures { result ≡ marker_steps head.now }
 {
-    let a = rows::get_u16(head, codes::HEAD_STEPS);
-    let b = rows::get_u16(head, STEPS_HIGH);
-    (a as u32) + (b as u32) * 65536
+    let at = codes::HEAD_STEPS;
+    u32::from_le_bytes([head[at], head[at + 1], head[at + 2], head[at + 3]])
 }
 
 fn encode(n: usize, m: usize, last: usize, steps: u32) -> [u8; codes::HEAD_SIZE]
     requires { (n ≤ 65535) × (m ≤ 65535) × (last ≤ 65535) }
     ensures { result ≡ head_bytes n m last steps }
 {
-    let procs = n as u16;
-    let vars = m as u16;
-    let marker = last as u16;
+    let procs = (n as u16).to_le_bytes();
+    let vars = (m as u16).to_le_bytes();
+    let marker = (last as u16).to_le_bytes();
+    let steps = steps.to_le_bytes();
     [
-        basics::low(procs),
-        basics::high(procs),
-        basics::low(vars),
-        basics::high(vars),
-        basics::low(marker),
-        basics::high(marker),
-        (steps % 256) as u8,
-        (steps / 256 % 256) as u8,
-        (steps / 65536 % 256) as u8,
-        (steps / 16777216) as u8,
+        procs[0], procs[1], vars[0], vars[1], marker[0], marker[1], steps[0], steps[1], steps[2],
+        steps[3],
     ]
 }
 

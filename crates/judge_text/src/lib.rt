@@ -38,6 +38,9 @@ pub fn block_with(g: Progress, r: usize, opens: bool) -> usize
     requires { g.block ≤ 8 }
     ensures { result ≡ block_with g r (mark_by opens) }
 {
-    let joins = basics::and(load_names::follows(g, r), !opens);
-    if joins { g.block + 1 } else { 1 }
+    if load_names::follows(g, r) & !opens {
+        g.block + 1
+    } else {
+        1
+    }
 }

@@ -1,17 +1,11 @@
 // Bytes written one behind the other into a lent row, as far as there is room: the writers never fail and tell the place behind what they wrote.
 #![tactic(auto)]
 
-ghost use Rattle.std.specs.Prelude.{◌≡◌, [], ◌∷◌, ◌%◌, ◌≤◌};
+ghost use Rattle.std.specs.Prelude.{[], ◌∷◌, ◌≤◌};
 ghost use Rattle.lay.specs.Lay.{four, Lays, two};
 
-// The lowest byte of a number.
-fn low(number: usize) -> u8
-    ensures { result ≡ number % 256 }
-{
-    (number % 256) as u8
-}
-
 // One byte.
+// Kept beside `lay_text::put`: a place here has a bound, so that one is added; the place of a text has none and stops at the greatest number.
 pub fn put(out: &mut [u8], at: usize, byte: u8) -> usize
     requires { at ≤ 4294967296 }
     ensures { Lays out.old out.new at (byte ∷ []) result }
@@ -23,12 +17,13 @@ pub fn put(out: &mut [u8], at: usize, byte: u8) -> usize
 }
 
 // The two low bytes of a number, the lowest first.
+// Kept: `to_le_bytes` is of a `u16`, to which a number of any size would have to be cut first, which is no plainer.
 pub fn put2(out: &mut [u8], at: usize, number: usize) -> usize
     requires { at ≤ 4294967295 }
     ensures { Lays out.old out.new at (two number) result }
 {
-    let next = put(out, at, low(number));
-    put(out, next, low(number / 256))
+    let next = put(out, at, (number % 256) as u8);
+    put(out, next, (number / 256 % 256) as u8)
 }
 
 // The four low bytes of a number, the lowest first.

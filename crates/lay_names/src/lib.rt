@@ -1,20 +1,13 @@
 // Names of a text as entries of a names row: each name and a byte 10.
 #![tactic(auto)]
 
-ghost use Rattle.std.specs.Prelude.{true, [], ◌++◌, ◌∷◌, ◌≡◌, ◌≤◌, drop, length};
+ghost use Rattle.std.specs.Prelude.{true, [], ◌++◌, ◌∷◌, ◌≤◌, drop, length};
 ghost use Rattle.lay_text.specs.Laying.{Writes};
 ghost use Rattle.read_names.specs.Tables.{mode_names, modes_from, names_at};
 ghost use Rattle.text_names.specs.Bytes.{front};
 ghost use Rattle.text_names.specs.Entries.{entries};
 
 use lay_text::To;
-
-// A place in a text, or its end.
-fn inside(s: &[u8], q: usize) -> usize
-    ensures { (drop result s.now ≡ drop q s.now) × (result ≤ length s.now) }
-{
-    q.min(s.len())
-}
 
 // The name at a place.
 fn name(out: &mut [u8], w: To, s: &[u8], from: usize) -> To
@@ -59,7 +52,7 @@ pub fn table_names(out: &mut [u8], w: To, s: &[u8], table: &[usize]) -> To
 {
     let mut to = w;
     for q in table {
-        to = entry(out, to, s, inside(s, *q));
+        to = entry(out, to, s, read_names::within(s, *q));
     }
     to
 }

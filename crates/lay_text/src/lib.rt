@@ -37,7 +37,7 @@ fn copy(out: &mut [u8], at: usize, part: &[u8])
 
 // ---- a row and a place
 
-// Still used by lay_names, lay_literal and parse, which hold a row and its place apart.
+// Kept beside `Writer` for lay_names, lay_literal and parse: those that call them keep a row's place among other numbers, as `take_term::Reading` does, so that a writer, which holds the row, is no plainer there.
 
 // One byte of text.
 pub fn put(out: &mut [u8], w: To, byte: u8) -> To
@@ -107,6 +107,6 @@ impl<'a> Writer<'a> {
         copy(self.out, self.to.at, &names.row[from..end]);
         let there = entry_table::is_name(names.row, from, end);
         self.to.at = self.to.at.saturating_add(end - from);
-        self.to.named = basics::and(self.to.named, there);
+        self.to.named &= there;
     }
 }

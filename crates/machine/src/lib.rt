@@ -53,6 +53,7 @@ pub fn value(image: &[u8], head: &[u8], procs: &[u8], vars: &[u8], variable: u32
 {
     let mut ix = [0u16; program_index::SIZE];
     let e = entry::enter(image, head, procs, vars, &mut ix);
+    // Kept in each call: docs/DECISIONS.md asks that each takes the load's answer apart by `let .. else`.
     let Ok((rels, clauses)) = e else {
         let r = load::refusal(e);
         return Err(r);
@@ -75,6 +76,7 @@ fn startable(
     ensures indexed_of { IndexedOf result image.now ix.new }
 {
     let l = load::load_indexed(image, ix);
+    // Kept in each call: docs/DECISIONS.md asks that each takes the load's answer apart by `let .. else`.
     let Ok((rels, clauses)) = l else {
         return l;
     };
@@ -158,6 +160,7 @@ pub fn start(image: &[u8], head: &mut [u8], procs: &mut [u8], vars: &mut [u8]) -
 {
     let mut ix = [0u16; program_index::SIZE];
     let a = startable(image, head, procs, vars, &mut ix);
+    // Kept in each call: docs/DECISIONS.md asks that each takes the load's answer apart by `let .. else`.
     let Ok((rels, clauses)) = a else {
         let r = load::refusal(a);
         return Err(r);
@@ -172,10 +175,7 @@ pub fn start(image: &[u8], head: &mut [u8], procs: &mut [u8], vars: &mut [u8]) -
 fn is_const(t: Term) -> bool
     ensures { result ≡ is_const t }
 {
-    match t {
-        Term::Const(_) => true,
-        Term::Var(_) => false,
-    }
+    matches!(t, Term::Const(_))
 }
 
 // The number of a term.
@@ -183,8 +183,7 @@ fn number_of(t: Term) -> usize
     ensures { result ≡ number_code (Some t) }
 {
     match t {
-        Term::Const(c) => c as usize,
-        Term::Var(v) => v as usize,
+        Term::Const(k) | Term::Var(k) => k as usize,
     }
 }
 
@@ -239,6 +238,7 @@ pub fn decided(
 {
     let mut ix = [0u16; program_index::SIZE];
     let e = entry::enter(image, head, procs, vars, &mut ix);
+    // Kept in each call: docs/DECISIONS.md asks that each takes the load's answer apart by `let .. else`.
     let Ok((rels, clauses)) = e else {
         let r = load::refusal(e);
         return Err(r);

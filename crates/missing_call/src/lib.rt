@@ -37,6 +37,7 @@ pub struct Seen {
 // ---- one name
 
 // The name at p comes before the one at q.
+// Kept, like `text_names::same_name`: one pass over both names; `<` over two slices needs their ends first, which is a second pass.
 fn before(s: &[u8], p: usize, q: usize) -> bool
     requires { (p ≤ length s.now) × (q ≤ length s.now) }
     ensures { result ≡ before (front (drop p s.now)) (front (drop q s.now)) }
@@ -220,6 +221,7 @@ fn clauses(s: &[u8], places: &[usize], links: &[u16], a: Asked, w: Seen, left: u
 }
 
 // Up to `left` clauses from a place on and the goal behind them: the least name of a call that is looked for.
+// Kept: the next least name is found by a walk of its own, since memory is fixed: a set of all names would need a heap.
 pub fn least(
     s: &[u8],
     places: &[usize],

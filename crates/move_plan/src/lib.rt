@@ -198,6 +198,7 @@ pub fn goal_spot(kind: u8, k: u8, base: u16) -> Spot
     }
 }
 
+// Kept, no `Default`: four of seven fields are given.
 #[tactic(auto, unfolding(parlog::specs::Tables::new_process))]
 pub fn new_process(tag: u8, mode: u8, parent: usize, z: Spot) -> Process
     requires { parent ≤ 65535 }
@@ -216,6 +217,7 @@ pub fn new_process(tag: u8, mode: u8, parent: usize, z: Spot) -> Process
 
 // ---- plans
 
+// Kept, no `Default`: a `Change` has none, since no term is the first.
 pub fn no_changes() -> Changes
     ensures { result.count ≡ 0 }
 {

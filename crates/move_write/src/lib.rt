@@ -11,8 +11,8 @@ ghost use Rattle.vars.specs.Cells.{Cells};
 ghost use Rattle.move_plan.specs.Plans.{delta_of, new_most, state_in, Within};
 ghost use Rattle.move_write.specs.Writing.{cut_below, napped, procs_after, slept_at, vars_after};
 
-use move_plan::Plan;
-use parlog::{Change, codes};
+use move_plan::{Changes, Plan};
+use parlog::codes;
 
 // Where `cut` says so, all below p fall asleep.
 fn cut_below(procs: &mut [u8], n: usize, p: usize, cut: bool)
@@ -57,13 +57,13 @@ fn append_all(procs: &mut [u8], n: usize, rows: [u8; move_plan::NEW_SIZE], k: us
     }
 }
 
-// The first k of these changes are bound, in order.
-fn bind_all(vars: &mut [u8], m: usize, list: [Change; codes::MOST_ARITY], k: usize)
-    requires { (m * cell_size ≤ length vars.old) × (k ≤ 4) × Within m k list }
-    ensures { Cells m vars.old vars.new (changed (vars_in vars.old m) (take k list)) }
+// These changes are bound, in order.
+fn bind_all(vars: &mut [u8], m: usize, changes: Changes)
+    requires { (m * cell_size ≤ length vars.old) × (changes.count ≤ 4) × Within m changes.count changes.list }
+    ensures { Cells m vars.old vars.new (changed (vars_in vars.old m) (take changes.count changes.list)) }
 {
-    for c in &list[..k] {
-        let v = basics::wide_u32(c.var);
+    for c in &changes.list[..changes.count] {
+        let v = c.var as usize;
         vars::bind(vars, m, v, c.to);
     }
 }
@@ -84,9 +84,8 @@ fn write_vars(vars: &mut [u8], m: usize, plan: Plan)
     requires { ((m + plan.fresh) * cell_size ≤ length vars.old) × (plan.changes.count ≤ 4) × Within (m + plan.fresh) plan.changes.count plan.changes.list }
     ensures { Cells m vars.old vars.new (vars_after (vars_in vars.old m) (delta_of plan)) }
 {
-    let list = plan.changes.list;
     vars::grow(vars, m, plan.fresh);
-    bind_all(vars, m + plan.fresh, list, plan.changes.count);
+    bind_all(vars, m + plan.fresh, plan.changes);
 }
 
 // Carries a plan out.

@@ -95,7 +95,3 @@ module _ (pr : Program) (s : State) (p : ℕ) (x : Process) {a : Applied} (e : x
 -- what is asked of row p is asked of the process there
 pub able-there : (pr : Program) (vs : List (Option Term)) (y x : Process) → x ≡ y → Able pr vs y → Able pr vs x
 able-there pr vs y x e h = rw e h
-
--- and the mode of the process is that of the row
-pub mode-there : (y x : Process) → x ≡ y → {k : ℕ} → x.mode ≡ k → y.mode ≡ k
-mode-there y x e h = rw (← e) h

@@ -1,4 +1,5 @@
 // The rule that applies to a process, by its tag and mode: it reads the tables and answers a plan.
+// Kept, switches by number: tags and modes are raw numbers (docs/ARCHITECTURE.md, of the record `Process`), and each arm hands on other arguments, so that a method of an enum would be the same match.
 #![tactic(auto)]
 
 ghost use Rattle.parlog.specs.declared.Term.{Term};

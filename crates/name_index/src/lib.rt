@@ -8,6 +8,7 @@ ghost use Rattle.text_names.specs.Bytes.{front};
 ghost use Rattle.text_names.specs.Names.{FoundAt};
 
 // How many chains there are.
+// Kept: chains in lent rows, since a map would need a heap, and the project has none.
 pub const CHAINS: usize = 512;
 
 // By what a sum is multiplied for each byte.
@@ -68,14 +69,14 @@ pub fn find(
     requires { (q ≤ length s.now) × (chain ≡ chain_of (front (drop q s.now))) × Indexed s.now places.now links.now n }
     ensures { FoundAt (names_at s.now (take n places.now)) (front (drop q s.now)) result }
 {
-    let mut k = basics::wide_u16(links[chain]);
+    let mut k = usize::from(links[chain]);
     while 0 < k {
         let i = k - 1;
         let p = read_names::within(s, places[i]);
         if text_names::same_name(s, p, q) {
             return Some(i);
         }
-        k = basics::wide_u16(links[CHAINS + i]);
+        k = usize::from(links[CHAINS + i]);
     }
     None
 }

@@ -4,7 +4,6 @@
 ghost use Rattle.std.specs.Prelude.{◌++◌, ◌≡◌, ◌<◌, ◌≤◌, length, Err};
 ghost use Rattle.mode_table.specs.Moded.{Moded};
 ghost use Rattle.name_index.specs.Index.{Indexed};
-ghost use Rattle.parlog.specs.Load.{refusal};
 ghost use Rattle.parse.specs.Says.{fitted, ParseSays, Tells};
 ghost use Rattle.parse.specs.Ways.{ask_tested, Behind, stop_as};
 ghost use Rattle.read_names.specs.Tables.{mode_names, modes_from, names_at};
@@ -33,13 +32,6 @@ const CONSTANT_LINKS: usize = name_index::CHAINS + CONSTANTS;
 
 // The chains of relations.
 const RELATION_LINKS: usize = name_index::CHAINS + codes::MOST_RELATIONS;
-
-// A refusal with its number and its place.
-fn unread(number: u8, offset: usize) -> Answer<(usize, usize)>
-    ensures { result ≡ Err (refusal number offset) }
-{
-    Err(Refusal { number, offset })
-}
 
 // How long a row is.
 fn room_of(row: &[u8]) -> usize
@@ -71,7 +63,10 @@ fn write(
     let b = lay_names::table_names(&mut unseen, a, s, consts);
     let short = (i < size) | (j < b.at);
     if short {
-        return unread(codes::ROOM, 0);
+        return Err(Refusal {
+            number: codes::ROOM,
+            offset: 0,
+        });
     }
     let e = lay_text::word(image, start, bytes);
     let f = lay_names::mode_names(names, start, s, m);
@@ -111,9 +106,12 @@ fn stopped(declared: bool, number: u8, at: usize) -> Answer<(usize, usize)>
     ensures { result ≡ Err (stop_as declared number at) }
 {
     if declared {
-        return unread(number, at);
+        return Err(Refusal { number, offset: at });
     }
-    unread(UNDECLARED, 0)
+    Err(Refusal {
+        number: UNDECLARED,
+        offset: 0,
+    })
 }
 
 // ---- the text
@@ -208,6 +206,9 @@ pub fn parse(image: &mut [u8], names: &mut [u8], text: &[u8]) -> Answer<(usize, 
 {
     match spell::spelling(text) {
         Ok(()) => spelled(image, names, text),
-        Err(i) => unread(TEXT, i),
+        Err(offset) => Err(Refusal {
+            number: TEXT,
+            offset,
+        }),
     }
 }

@@ -1,6 +1,6 @@
 -- The blocks of a relation, a turn of their loop at a time.
 use mathlib.Core.Path.{◌∙◌, ◌≡◌, ap, refl, sym}
-use mathlib.Core.Bool.{◌&&◌, Bool, cond, false, not, true}
+use mathlib.Core.Bool.{◌&&◌, Bool, cond, false, true}
 use mathlib.Core.List.{[], List}
 use Prim.Native.Nat.{◌+◌, ◌<◌, ◌≤◌, suc, zero, ℕ}
 use lib.Dec.{eqb, leb}
@@ -130,8 +130,3 @@ module _ (s : List ℕ) (r c q k : ℕ) (h : k ≤ c) (behind : Behind (program_
 -- further on than where it ends
 pub behind_more : (pr : Program) (q c n k : ℕ) → n ≤ k → Behind pr q c n → Behind pr q c k
 behind_more pr q c n k h f j a l = f j (omega arith) l
-
--- the test
-pub opens-is : (rel mark q : ℕ) (mine : Bool) {joins new : Bool} → joins ≡ (mine && eqb mark 0) → new ≡ (eqb rel q && not joins) → new ≡ opens_by rel mine mark q
-unfolding opens_by
-opens-is rel mark q mine ej en = en ∙ ap (λ (z : Bool). eqb rel q && not z) ej

@@ -9,10 +9,11 @@ ghost use Rattle.program_index.specs.Indexed.{Behind, Early, Indexed};
 use parlog::codes;
 
 // Whether a clause opens a block of relation q: it is of q, and it comes after another relation's clause or has another mark than 0.
+#[tactic(auto, unfolding(crate::specs::Parts::opens_by))]
 pub fn opens(rel: usize, own: bool, mark: usize, q: usize) -> bool
     ensures { result ≡ opens_by rel own mark q }
 {
-    basics::and(rel == q, !basics::and(own, mark == 0))
+    (rel == q) & !(own & (mark == 0))
 }
 
 // A clause before which none is of relation q.
@@ -64,7 +65,7 @@ fn block_scan(
     requires { (rels ≤ 32) × (clauses ≤ 64) × Indexed s.now rels clauses ix.now }
     ensures { (result.count ≡ block_count (program_of s.now rels clauses) q) × (result.size ≡ length (block_of (program_of s.now rels clauses) q b)) × (result.clause ≡ get_or (block_of (program_of s.now rels clauses) q b) j 255) × (result.count ≤ 64) × (result.size ≤ 64) × (result.clause ≤ 255) }
 {
-    let next = basics::wide(b) + 1;
+    let next = usize::from(b) + 1;
     let to = to_of(s, rels, clauses, ix, q);
     let mut own = false;
     let mut count = 0;
@@ -77,7 +78,7 @@ fn block_scan(
         let mark = place::byte_at(s, at + codes::CLAUSE_MARK);
         let new = opens(rel, own, mark, q);
         count = program_clause::more(new, count);
-        let there = basics::and(rel == q, count == next);
+        let there = (rel == q) & (count == next);
         clause = program_clause::found(there, size, j, k, clause);
         size = program_clause::more(there, size);
         own = rel == q;

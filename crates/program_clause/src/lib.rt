@@ -85,7 +85,7 @@ pub fn more(test: bool, n: usize) -> usize
     requires { n ≤ 255 }
     ensures { (result ≡ cond test (n + 1) n) × (result ≤ n + 1) }
 {
-    if test { n + 1 } else { n }
+    n + usize::from(test)
 }
 
 // Number k where it passes the test and is the j-th that does; else what was found before.
@@ -93,11 +93,7 @@ pub fn found(test: bool, count: usize, j: usize, k: usize, old: usize) -> usize
     requires { (k ≤ 255) × (old ≤ 255) }
     ensures { (result ≡ cond (test && eqb count j) k old) × (result ≤ 255) }
 {
-    if basics::and(test, count == j) {
-        k
-    } else {
-        old
-    }
+    if test & (count == j) { k } else { old }
 }
 
 // The outputs in a row of modes: how many, and the number of one.
@@ -125,6 +121,7 @@ pub fn outs_of(s: &[u8], n: usize, at: usize, j: usize) -> Outs
 // ---- the fields of clause k
 
 // The relation; that of equality past the end.
+// Kept apart from `clause_vars`: one function for both would take the field and the default beside these five, and call no less.
 pub fn clause_relation(
     s: &[u8],
     rels: usize,

@@ -2,13 +2,13 @@
 use mathlib.Core.Path.{◌∙◌, ◌≡◌, ap, refl, sym}
 use mathlib.Core.Bool.{◌&&◌, Bool, cond, false, not, true}
 use mathlib.Core.List.{[], ◌++◌, ◌∷◌, List}
-use Prim.Native.Nat.{◌*◌, ◌+◌, ◌<◌, ◌≤◌, suc, zero, ℕ}
-use lib.Dec.{eqb, ltb}
+use Prim.Native.Nat.{◌*◌, ◌+◌, ◌<◌, ◌≤◌, min, suc, zero, ℕ}
+use lib.Dec.{eqb, leb}
 use lib.ListN.{get_or, length}
-use borrow.Author.Tests.{eqb-false, eqb-true, ltb-false, ltb-true, ne_eqb}
+use borrow.Author.Tests.{eqb-false, eqb-true, leb-false, leb-true, ne_eqb}
 use native.Mathlib.Omega.{arith}
 use native.Mathlib.Nat.{le_of_suc-le-suc, not-suc-le-zero}
-use Rattle.parlog.proofs.Bools.{never}
+use Rattle.parlog.proofs.Bools.{never, split}
 use Rattle.parlog.specs.Image.{byte_at, is_input, mode_end, record_end, term_at}
 use Rattle.parlog.specs.Program.{equation, Literal, modes_of, no_literal, out_count, outputs}
 use Rattle.parlog.specs.Scan.{list_of, those}
@@ -117,9 +117,10 @@ few-terms s (suc n) (suc m) mat tat v h =
     ap (λ (l : List Literal). cond (is_input (byte_at s mat)) l (equation (term_at s tat) v ∷ outs_of s n (mat + 1) m (tat + 2) (suc v))) (few-terms s n m (mat + 1) (tat + 2) v (omega arith))
     ∙ ap (λ (l : List Literal). cond (is_input (byte_at s mat)) (outs_of s m (mat + 1) m (tat + 2) v) (equation (term_at s tat) v ∷ l)) (few-terms s n m (mat + 1) (tat + 2) (suc v) (omega arith))
 
-few : (s : List ℕ) (n m mat tat v : ℕ) (b : Bool) → ltb m n ≡ b → outs_of s n mat m tat v ≡ outs_of s (cond b m n) mat (cond b m n) tat v
-few s n m mat tat v true e = let h = ltb-true m n e in few-terms s n m mat tat v (omega arith)
-few s n m mat tat v false e = few-modes s n m mat tat v (ltb-false m n e)
+few : (s : List ℕ) (n m k mat tat v : ℕ) → k ≡ min m n → outs_of s n mat m tat v ≡ outs_of s k mat k tat v
+few s n m k mat tat v e = split (leb n m)
+    (λ b. let h = leb-true n m b in let z : k ≡ n = omega arith in rw z (few-modes s n m mat tat v h))
+    (λ b. let h : m ≤ n = omega (arith, leb-false n m b) in let z : k ≡ m = omega arith in rw z (few-terms s n m mat tat v h))
 
 -- ---- one for each output argument, where the head has a term for each argument
 
@@ -153,13 +154,13 @@ module _ (body : Bool) (i : ℕ) (s : List ℕ) (r from : ℕ) {t : Bool} (et : 
   before-none e = sym (ap length (front-off body i (sym et ∙ e)))
 
   module _ (e : t ≡ true) {q m few-of : ℕ} (eq : q ≡ byte_at s (from + 4)) (em : m ≡ byte_at s (from + 5)) (n mat : ℕ)
-      (es : list_of (byte_at s) mode_end n mat ≡ get_or (list_of (modes_of s) (record_end s) r 0) q []) (ef : few-of ≡ cond (ltb m n) m n) where
+      (es : list_of (byte_at s) mode_end n mat ≡ get_or (list_of (modes_of s) (record_end s) r 0) q []) (ef : few-of ≡ min m n) where
     all : outs_of s n mat m (from + 8) (byte_at s (from + 7)) ≡ clause_outs s r from
     unfolding outs_of clause_outs
     all = rw (es, eq, em)
 
     these : front body i s r from ≡ outs_of s few-of mat few-of (from + 8) (byte_at s (from + 7))
-    these = front-on body i (sym et ∙ e) ∙ sym all ∙ rw ef (few s n m mat (from + 8) (byte_at s (from + 7)) (ltb m n) refl)
+    these = front-on body i (sym et ∙ e) ∙ sym all ∙ few s n m few-of mat (from + 8) (byte_at s (from + 7)) ef
 
     pub before-count : {count : ℕ} → count ≡ length (those (is_out s mat) few-of) → count ≡ length (front body i s r from)
     before-count ec = ec ∙ sym (ap length these ∙ outs-length s few-of mat (from + 8) (byte_at s (from + 7)))

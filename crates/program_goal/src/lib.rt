@@ -2,7 +2,7 @@
 #![tactic(auto)]
 
 ghost use Rattle.program_index.specs.Indexed.{Indexed};
-ghost use Rattle.std.specs.Prelude.{◌≡◌, cond, [], ◌+◌, ◌*◌, ◌≤◌, ◌<◌, eqb, ltb, length, get_or};
+ghost use Rattle.std.specs.Prelude.{◌≡◌, cond, [], ◌+◌, ◌*◌, ◌≤◌, ◌<◌, eqb, length, get_or};
 ghost use Rattle.parlog.specs.Codes.{kind_of, tag_code};
 ghost use Rattle.parlog.specs.Image.{body_at, byte_at, guard_at, record_at, term_at};
 ghost use Rattle.parlog.specs.Program.{no_literal, equation, literal_of, program_of, goal_by, stage_at, literal_at, tag_of_literal, tag_of_stage, tag_of_goal, body_tag, clause_at, committed_body, is_split, split_by};
@@ -22,6 +22,8 @@ pub struct Lit {
 // ---- literals in the image
 
 // What stands past the end.
+// Kept, no `Default`: its relation is that of equality, which is not 0.
+#[tactic(auto, unfolding(crate::specs::Parts::shown))]
 fn none() -> Lit
     ensures { (result ≡ shown no_literal) × (result.rel ≤ 255) }
 {
@@ -69,6 +71,7 @@ fn literal_in(s: &[u8], n: usize, at: usize, i: usize, j: usize) -> Lit
 }
 
 // One output equation.
+#[tactic(auto, unfolding(crate::specs::Parts::shown))]
 fn equation(t: Term, v: usize) -> Lit
     requires { v ≤ 4096 }
     ensures { (result ≡ shown (equation t v)) × (result.rel ≤ 255) }
@@ -83,6 +86,7 @@ fn equation(t: Term, v: usize) -> Lit
 // ---- where a goal stands
 
 // The stages of a goal: how many, and where; for a committed body also its clause, whose output equations come first.
+// Kept, a flag beside the clause: `literal_at` reads the clause where j is the number of an equation, which says that there is one, and would open an Option there again.
 #[derive(Clone, Copy)]
 pub struct Home {
     pub stages: usize,
@@ -92,6 +96,7 @@ pub struct Home {
 }
 
 // The place of the guard of clause k, whose record stands at a place, or of its body.
+// Kept, by number, like `goal_home`: the kind is a raw number of a row, and each byte has a meaning (docs/ARCHITECTURE.md, of `kind_of`).
 fn part_place(
     s: &[u8],
     rels: usize,
@@ -126,7 +131,7 @@ fn splits(
 {
     let vars = program_index::vars_at(s, rels, clauses, ix, k);
     let own = place::byte_at(s, clause + codes::CLAUSE_VARS);
-    basics::and(own < vars, 1 < stages)
+    (own < vars) & (1 < stages)
 }
 
 // The goal that kind and k name is the equations of a split clause.
@@ -142,7 +147,7 @@ pub fn split_by(
     ensures { result ≡ split_by (kind_of kind) (program_of s.now rels clauses) k }
 {
     let number = k as usize;
-    if basics::or(kind != codes::THE_BODY, clauses <= number) {
+    if (kind != codes::THE_BODY) | (clauses <= number) {
         return false;
     }
     let clause = program_index::record_at(s, rels, clauses, ix, rels + number);
@@ -193,19 +198,13 @@ fn goal_home(
     let at = part_place(s, rels, clauses, ix, number, clause, kind);
     let stages = place::byte_at(s, at);
     let body = kind == codes::THE_BODY;
-    let apart = basics::and(body, splits(s, rels, clauses, ix, number, clause, stages));
+    let apart = body & splits(s, rels, clauses, ix, number, clause, stages);
     Home {
         stages: stages_left(apart, stages),
         at: at + 1,
         body,
         clause,
     }
-}
-
-fn least(a: usize, b: usize) -> usize
-    ensures { (result ≡ cond (ltb a b) a b) × (result ≤ a) }
-{
-    if a < b { a } else { b }
 }
 
 // The output equations that come before stage i: how many, and the number of the argument of equation j.
@@ -222,7 +221,7 @@ fn outs_before(
     ensures { (result.count ≡ length (front h.body i s.now rels h.clause)) × ((j < result.count) → equation (term_at s.now (h.clause + 8 + 2 * result.number)) (byte_at s.now (h.clause + 7) + j) ≡ get_or (front h.body i s.now rels h.clause) j no_literal) × (result.count ≤ 255) × (result.number ≤ 255) }
 {
     let clause = h.clause;
-    if !basics::and(h.body, i == 0) {
+    if !(h.body & (i == 0)) {
         return Outs {
             count: 0,
             number: 0,
@@ -231,10 +230,7 @@ fn outs_before(
     let q = place::byte_at(s, clause + codes::CLAUSE_RELATION);
     let m = place::byte_at(s, clause + codes::CLAUSE_ARITY);
     let ms = program_clause::modes_of(s, rels, clauses, ix, q);
-    let n = ms.n;
-    let at = ms.at;
-    let few = least(m, n);
-    program_clause::outs_of(s, few, at, j)
+    program_clause::outs_of(s, m.min(ms.n), ms.at, j)
 }
 
 // ---- reads of a goal where it stands
@@ -321,7 +317,7 @@ fn called_at(
     }
     let st = place::stages_end(s, i, at);
     let size = count + place::byte_at(s, st);
-    if basics::or(j < count, size <= j) {
+    if (j < count) | (size <= j) {
         return Call {
             size,
             rel: codes::EQUALITY,

@@ -27,13 +27,14 @@ pub const BEHIND: usize = 289;
 pub const SIZE: usize = 321;
 
 // ---- its reads
+// Kept, one for each part: a line that is called has no shorter form, and each promises another thing of the program.
 
 // Where record k begins.
 pub fn record_at(s: &[u8], rels: usize, clauses: usize, ix: &[u16; SIZE], k: usize) -> usize
     requires { (rels ≤ 32) × (clauses ≤ 64) × (k ≤ rels + clauses) × Indexed s.now rels clauses ix.now }
     ensures { (result ≡ record_at s.now k) × (result ≤ 65535) }
 {
-    basics::wide_u16(ix[k])
+    usize::from(ix[k])
 }
 
 // The new variables of clause k.
@@ -41,7 +42,7 @@ pub fn vars_at(s: &[u8], rels: usize, clauses: usize, ix: &[u16; SIZE], k: usize
     requires { (rels ≤ 32) × (clauses ≤ 64) × (k < clauses) × Indexed s.now rels clauses ix.now }
     ensures { (result ≡ vars_of (program_of s.now rels clauses) k) × (result ≤ 510) }
 {
-    basics::wide_u16(ix[VARS + k])
+    usize::from(ix[VARS + k])
 }
 
 // Where the body of clause k begins.
@@ -49,7 +50,7 @@ pub fn body_at(s: &[u8], rels: usize, clauses: usize, ix: &[u16; SIZE], k: usize
     requires { (rels ≤ 32) × (clauses ≤ 64) × (k < clauses) × Indexed s.now rels clauses ix.now }
     ensures { (result ≡ body_at s.now (record_at s.now (rels + k))) × (result ≤ 65535) }
 {
-    basics::wide_u16(ix[BODIES + k])
+    usize::from(ix[BODIES + k])
 }
 
 // The blocks of relation q.
@@ -57,7 +58,7 @@ pub fn blocks_of(s: &[u8], rels: usize, clauses: usize, ix: &[u16; SIZE], q: usi
     requires { (rels ≤ 32) × (clauses ≤ 64) × (q < rels) × Indexed s.now rels clauses ix.now }
     ensures { (result ≡ block_count (program_of s.now rels clauses) q) × (result ≤ 64) }
 {
-    basics::wide_u16(ix[BLOCKS + q])
+    usize::from(ix[BLOCKS + q])
 }
 
 // No clause before this one is of relation q.
@@ -65,7 +66,7 @@ pub fn first_of(s: &[u8], rels: usize, clauses: usize, ix: &[u16; SIZE], q: usiz
     requires { (rels ≤ 32) × (clauses ≤ 64) × (q < rels) × Indexed s.now rels clauses ix.now }
     ensures { Early (program_of s.now rels clauses) q result × (result ≤ clauses) }
 {
-    basics::wide_u16(ix[FIRST + q])
+    usize::from(ix[FIRST + q])
 }
 
 // No clause from this one on is of relation q.
@@ -73,5 +74,5 @@ pub fn behind_of(s: &[u8], rels: usize, clauses: usize, ix: &[u16; SIZE], q: usi
     requires { (rels ≤ 32) × (clauses ≤ 64) × (q < rels) × Indexed s.now rels clauses ix.now }
     ensures { Behind (program_of s.now rels clauses) q clauses result × (result ≤ clauses) }
 {
-    basics::wide_u16(ix[BEHIND + q])
+    usize::from(ix[BEHIND + q])
 }

@@ -109,13 +109,13 @@ fn literal(s: &[u8], at: usize) -> Span
     }
     let t = terms(s, behind);
     Span {
-        end: t.end,
-        count: t.count,
         right: t.count <= codes::MOST_ARITY,
+        ..t
     }
 }
 
 // Literals with a comma between them.
+// Kept beside `names` and `stages`, since one loop for the three is no plainer: `names` carries nothing from item to item, this one whether all are right, and `stages` the room for literals too.
 fn literals(s: &[u8], at: usize) -> Span
     requires { at ≤ length s.now }
     ensures { Spans s.now (row read_literal 44 (drop at s.now)).rest (length (row read_literal 44 (drop at s.now)).value) (all_of literal_right (row read_literal 44 (drop at s.now)).value) result }
@@ -151,9 +151,8 @@ fn stage(s: &[u8], at: usize) -> Span
 {
     let inner = literals(s, at);
     Span {
-        end: inner.end,
-        count: inner.count,
         right: (1 <= inner.count) & inner.right,
+        ..inner
     }
 }
 
@@ -195,9 +194,8 @@ pub fn goal(s: &[u8], at: usize) -> Span
 {
     let inner = stages(s, at);
     Span {
-        end: inner.end,
-        count: inner.count,
         right: (inner.count <= codes::MOST_STAGES) & inner.right,
+        ..inner
     }
 }
 

@@ -153,6 +153,7 @@ pub fn mode_lines(s: &[u8], at: usize) -> Span
 }
 
 // The relation of the name at q, by the mode lines from a place on.
+// Kept: a walk over the lines, for more names than a table has room for; a map would need a heap, and the project has none.
 pub fn relation(s: &[u8], from: usize, q: usize) -> Entry
     requires { (from ≤ length s.now) × (q ≤ length s.now) }
     ensures { Finds (modes_from s.now from) (front (drop q s.now)) result }

@@ -22,6 +22,7 @@ pub fn save(image: &[u8], head: &[u8], procs: &[u8], vars: &[u8], row: &mut [u8]
 {
     let mut ix = [0u16; program_index::SIZE];
     let e = entry::enter(image, head, procs, vars, &mut ix);
+    // Kept in each call: docs/DECISIONS.md asks that each takes the load's answer apart by `let .. else`.
     let Ok((rels, clauses)) = e else {
         let r = load::refusal(e);
         return Err(r);
@@ -84,8 +85,8 @@ fn fits(
 {
     let full = table_rules::full_size(head, procs, vars, entry::PROCS, entry::VARS);
     let agree = saved::counts_agree(row, a, b);
-    let few = basics::and(a <= entry::PROCS, b <= entry::VARS);
-    let so_far = basics::and(full, basics::and(agree, few));
+    let few = (a <= entry::PROCS) & (b <= entry::VARS);
+    let so_far = full & (agree & few);
     if !so_far {
         return false;
     }
@@ -128,6 +129,7 @@ fn decided(
 {
     let mut ix = [0u16; program_index::SIZE];
     let l = load::load_indexed(image, &mut ix);
+    // Kept in each call: docs/DECISIONS.md asks that each takes the load's answer apart by `let .. else`.
     let Ok((rels, clauses)) = l else {
         let r = load::refusal(l);
         return Err(r);

@@ -1,6 +1,6 @@
 -- The tests on numbers are the definitions' tests on what the numbers stand for.
 use mathlib.Core.Path.{◌∙◌, ◌≡◌, ap, ap₂, refl, sym}
-use mathlib.Core.Bool.{◌&&◌, ◌||◌, Bool, cond, false, or_comm, true}
+use mathlib.Core.Bool.{◌&&◌, ◌||◌, Bool, cond, false, not, or_comm, true}
 use mathlib.Core.List.{[], ◌∷◌, List}
 use Prim.Native.Nat.{◌<◌, suc, zero, ℕ}
 use lib.Dec.{eqb, leb, ltb}
@@ -93,6 +93,13 @@ makes-code (suc (suc (suc (suc (suc (suc (suc zero))))))) t = goal-code t
 makes-code (suc (suc (suc (suc (suc (suc (suc (suc n)))))))) t =
     rw (off n 0 (omega arith), off n 1 (omega arith), off n 2 (omega arith), off n 3 (omega arith), off n 4 (omega arith), off n 5 (omega arith), off n 7 (omega arith))
 
+pub makes-none : (up t : ℕ) → (up ≡ 0 → ⊥) → (up ≡ 1 → ⊥) → (up ≡ 2 → ⊥) → (up ≡ 3 → ⊥) → (up ≡ 4 → ⊥) → (up ≡ 5 → ⊥) → (up ≡ 7 → ⊥) → false ≡ makes_tag (tag_of up) (tag_of t)
+makes-none up t a b c d e f g = rw (← makes-code up t, ne_eqb up 0 a, ne_eqb up 1 b, ne_eqb up 2 c, ne_eqb up 3 d, ne_eqb up 4 e, ne_eqb up 5 f, ne_eqb up 7 g)
+
+pub or-implies : (a b : Bool) → (not a || b) ≡ implies a b
+or-implies true b = refl
+or-implies false b = refl
+
 -- ---- notes
 
 pub and_one : (b : Bool) → (b && true) ≡ b
@@ -136,3 +143,6 @@ cell-code v (suc zero) k = refl
 cell-code v (suc (suc zero)) k = refl
 cell-code v (suc (suc (suc n))) k =
     rw (le-ltb (suc (suc (suc n))) 3 (omega arith), ne_eqb (suc (suc (suc n))) 0 (λ e. omega arith), ne_eqb (suc (suc (suc n))) 1 (λ e. omega arith), ne_eqb (suc (suc (suc n))) 2 (λ e. omega arith))
+
+pub cell-none : (v sort k : ℕ) → (sort ≡ 0 → ⊥) → (sort ≡ 1 → ⊥) → (sort ≡ 2 → ⊥) → false ≡ ((ltb sort 3 && implies (eqb sort 0) (eqb k 0)) && binding_ok v (binding_by sort k))
+cell-none v sort k a b c = rw (← cell-code v sort k, ne_eqb sort 0 a, ne_eqb sort 1 b, ne_eqb sort 2 c)

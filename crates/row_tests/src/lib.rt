@@ -24,7 +24,7 @@ const MOST_CONSTANT: usize = codes::MOST_CONSTANT as usize;
 pub fn implies(a: bool, b: bool) -> bool
     ensures { result ≡ implies a b }
 {
-    if a { b } else { true }
+    !a | b
 }
 
 // ---- a process
@@ -33,10 +33,7 @@ pub fn implies(a: bool, b: bool) -> bool
 pub fn known(tag: u8, mode: u8, res: u8, kind: u8) -> bool
     ensures { result ≡ (ltb tag 9 && (ltb mode 6 && (ltb res 3 && ltb kind 4))) }
 {
-    basics::and(
-        tag < TAGS,
-        basics::and(mode < MODES, basics::and(res < RESULTS, kind < KINDS)),
-    )
+    (tag < TAGS) & ((mode < MODES) & ((res < RESULTS) & (kind < KINDS)))
 }
 
 // Who reports has something to tell, and so has the goal's process once it sleeps.
@@ -44,10 +41,7 @@ pub fn result_ok(i: usize, mode: u8, res: u8) -> bool
     ensures { result ≡ implies (is_mode reporting mode || (eqb i 0 && is_mode dormant mode)) (not (is_result none res)) }
 {
     implies(
-        basics::or(
-            mode == codes::REPORTING,
-            basics::and(i == 0, mode == codes::DORMANT),
-        ),
+        (mode == codes::REPORTING) | ((i == 0) & (mode == codes::DORMANT)),
         !(res == codes::NONE),
     )
 }
@@ -56,32 +50,18 @@ pub fn result_ok(i: usize, mode: u8, res: u8) -> bool
 pub fn makes(up: u8, t: u8) -> bool
     ensures { result ≡ makes_tag (tag_of up) (tag_of t) }
 {
-    let literal = basics::or(t == codes::OR_PAR, codes::GUARD_EVAL < t);
-    let goal = basics::or(t < codes::SEQ_SEARCH, codes::GUARD_EVAL < t);
-    let tried = basics::or(t == codes::INPUT_MATCH, t == codes::GUARD_EVAL);
-    let searched = basics::choose(
-        up == codes::OR_SEARCH,
-        t == codes::TRY_CLAUSE,
-        basics::choose(
-            up == codes::TRY_CLAUSE,
-            tried,
-            basics::and(up == codes::GUARD_EVAL, goal),
-        ),
-    );
-    let called = basics::choose(
-        up == codes::OR_PAR,
-        basics::or(t == codes::SEQ_SEARCH, goal),
-        basics::choose(up == codes::SEQ_SEARCH, t == codes::OR_SEARCH, searched),
-    );
-    basics::choose(
-        up == codes::AND_PAR,
-        basics::or(t == codes::AND_SEQ, literal),
-        basics::choose(
-            up == codes::AND_SEQ,
-            basics::or(literal, t == codes::AND_PAR),
-            called,
-        ),
-    )
+    let literal = (t == codes::OR_PAR) | (codes::GUARD_EVAL < t);
+    let goal = (t < codes::SEQ_SEARCH) | (codes::GUARD_EVAL < t);
+    match up {
+        codes::AND_PAR => (t == codes::AND_SEQ) | literal,
+        codes::AND_SEQ => literal | (t == codes::AND_PAR),
+        codes::OR_PAR => (t == codes::SEQ_SEARCH) | goal,
+        codes::SEQ_SEARCH => t == codes::OR_SEARCH,
+        codes::OR_SEARCH => t == codes::TRY_CLAUSE,
+        codes::TRY_CLAUSE => (t == codes::INPUT_MATCH) | (t == codes::GUARD_EVAL),
+        codes::GUARD_EVAL => goal,
+        _ => false,
+    }
 }
 
 // Note k, where it counts, is a variable.
@@ -101,10 +81,7 @@ pub fn notes_ok(n: usize, mode: u8, count: u8, notes: [u16; codes::MOST_NOTES as
     let d = note_ok(3, count, notes[3], n);
     implies(
         mode == codes::SUSPENDED,
-        basics::and(
-            count <= codes::MOST_NOTES,
-            basics::and(a, basics::and(b, basics::and(c, d))),
-        ),
+        (count <= codes::MOST_NOTES) & (a & (b & (c & d))),
     )
 }
 
@@ -114,12 +91,12 @@ pub fn notes_ok(n: usize, mode: u8, count: u8, notes: [u16; codes::MOST_NOTES as
 pub fn cell_ok(v: usize, sort: u8, number: usize) -> bool
     ensures { result ≡ ((ltb sort 3 && implies (eqb sort 0) (eqb number 0)) && binding_ok v (binding_by sort number)) }
 {
-    let bound = basics::choose(
-        sort == codes::CONSTANT,
-        number <= MOST_CONSTANT,
-        basics::and(sort == codes::VARIABLE, number < v),
-    );
-    basics::choose(sort == codes::UNBOUND, number == 0, bound)
+    match sort {
+        codes::UNBOUND => number == 0,
+        codes::CONSTANT => number <= MOST_CONSTANT,
+        codes::VARIABLE => number < v,
+        _ => false,
+    }
 }
 
 // ---- the tables
@@ -135,9 +112,5 @@ pub fn counts_ok(
 ) -> bool
     ensures { result ≡ ((leb 1 procs && (leb procs most && (leb vars cap && leb goal vars))) && ltb last procs) }
 {
-    let counts = basics::and(
-        1 <= procs,
-        basics::and(procs <= most, basics::and(vars <= cap, goal <= vars)),
-    );
-    basics::and(counts, last < procs)
+    ((1 <= procs) & ((procs <= most) & ((vars <= cap) & (goal <= vars)))) & (last < procs)
 }

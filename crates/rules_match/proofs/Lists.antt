@@ -4,7 +4,7 @@ use mathlib.Core.Path.{◌∙◌, ◌≡◌, ap, refl}
 use mathlib.Core.List.{[], ◌∷◌, List}
 use Prim.Native.Nat.{◌≤◌, min, suc, zero, ℕ}
 use lib.Dec.{ltb}
-use lib.ListN.{get_or, length, take}
+use lib.ListN.{length, take}
 use borrow.Author.Tests.{ltb-false, ltb-true}
 use native.Mathlib.Omega.{arith}
 use Rattle.decide.proofs.Laws.{decide-cong}
@@ -17,9 +17,6 @@ use Rattle.parlog.specs.declared.Term.{Term}
 use Rattle.rules_match.specs.Starts.{in_four}
 
 -- ---- four places
-
-pub four_is : {A : Type 0} (d : A) (xs : List A) {a b c e : A} → a ≡ get_or xs 0 d → b ≡ get_or xs 1 d → c ≡ get_or xs 2 d → e ≡ get_or xs 3 d → a ∷ b ∷ c ∷ e ∷ [] ≡ in_four d xs
-four_is d xs ea eb ec ee = rw (ea, eb, ec, ee)
 
 -- what a list has in front, its four places have
 pub four-take : {A : Type 0} (d : A) (k : ℕ) (xs : List A) → k ≤ 4 → k ≤ length xs → take k (in_four d xs) ≡ take k xs

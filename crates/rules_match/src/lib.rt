@@ -127,6 +127,7 @@ fn match_at(
 }
 
 // The move of process p.
+// Kept, like that of an equate: a match of four arms is as plain as a function that takes a move for each.
 fn match_move(p: usize, w: Way) -> Move
     ensures { result ≡ match_move p w }
 {

@@ -16,12 +16,9 @@ use Rattle.parlog.specs.declared.Move.TheVariants.{OrSearchStart}
 use Rattle.parlog.specs.declared.Process.{Process}
 use Rattle.parlog.specs.declared.Spot.{Spot}
 use Rattle.move_plan.proofs.Made.{touches}
-use Rattle.move_plan.specs.Plans.{Born, Of, touched}
+use Rattle.move_plan.specs.Plans.{Of, touched}
 use Rattle.rows.proofs.Tables.{procs-length, procs-none, table-rows}
 use Rattle.rows.specs.Rows.{Table}
-
-pub try-made : (p : ℕ) (z : Spot) (k v : ℕ) {u : Spot} {y : Process} → u ≡ try_spot z k v → Born 5 1 p u y → y ≡ new_process try_clause ready p (try_spot z k v)
-try-made p z k v eu ey = ey try_clause refl ready refl ∙ ap (new_process try_clause ready p) eu
 
 module _ (ks : List ℕ) (j v : ℕ) {k : ℕ} (ek : k ≡ get_or ks j 255) where
   pub tried-row : (p : ℕ) (z : Spot) {y : Process} → y ≡ new_process try_clause ready p (try_spot z k v) → {l m : List ℕ} → Table l m (procs_of l j ++ (y ∷ []))

@@ -101,9 +101,6 @@ searching-made b p x nap {u} {z} {me} {y} eu em ez ey ea =
     let q : y ≡ new_process or_search starting p z = ey or_search refl starting refl in
     rw (← eu, ← m, ← ez, ← q) ea
 
-pub blocks-are : (pr : Program) (z : Spot) {rel r : ℕ} → rel ≡ (literal_at pr z).rel → r ≡ block_count pr rel → r ≡ block_count pr (literal_at pr z).rel
-blocks-are pr z er e = rw (← er) e
-
 positive : (n : ℕ) → (n ≡ 0 → ⊥) → 0 < n
 positive zero ne = absurd (ne refl)
 positive (suc n) ne = omega arith

@@ -99,6 +99,7 @@ fn or_par_heard(
 }
 
 // Waits for the search, then for the body.
+// Kept, like that of seq-search: a match of three arms is as plain as a function that takes an answer for each.
 pub fn wait_or_par(
     image: &[u8],
     rels: usize,

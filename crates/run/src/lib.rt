@@ -15,6 +15,7 @@ use parlog::{Answer, End, Move, codes};
 use turn_search::Turn;
 
 // What a run finds before a step: whose turn it is with what its children report, and the end where it is nobody's.
+// Kept, no `Option` of a pair, for the reason that stands at `turn_search::Turn`.
 #[derive(Clone, Copy)]
 pub struct View {
     pub who: Option<usize>,
@@ -62,6 +63,7 @@ pub fn turn(image: &[u8], head: &mut [u8], procs: &mut [u8], vars: &mut [u8]) ->
 {
     let mut ix = [0u16; program_index::SIZE];
     let e = entry::enter(image, head, procs, vars, &mut ix);
+    // Kept in each call: docs/DECISIONS.md asks that each takes the load's answer apart by `let .. else`.
     let Ok((rels, clauses)) = e else {
         let away = load::refusal(e);
         return Err(away);
@@ -72,6 +74,7 @@ pub fn turn(image: &[u8], head: &mut [u8], procs: &mut [u8], vars: &mut [u8]) ->
 // ---- a run
 
 // The end that a result is.
+// Kept: a result is a byte of a row, and each but one is a failure, so that a match would be no plainer.
 fn end_by(res: u8) -> End
     ensures { result ≡ end_of (result_of res) }
 {
@@ -135,6 +138,7 @@ fn going(
             return Ok((End::Room, k));
         };
     }
+    // No run comes here: the last turn of the loop has `k == limit`.
     Ok((End::Budget, limit))
 }
 
@@ -150,6 +154,7 @@ pub fn run(
 {
     let mut ix = [0u16; program_index::SIZE];
     let e = entry::enter(image, head, procs, vars, &mut ix);
+    // Kept in each call: docs/DECISIONS.md asks that each takes the load's answer apart by `let .. else`.
     let Ok((rels, clauses)) = e else {
         let r = load::refusal(e);
         return Err(r);

@@ -1,17 +1,18 @@
 -- The tests of one record, as the code makes them.
+use Rattle.std.specs.Prelude.{None, Some}
 use mathlib.Core.Path.{◌∙◌, ◌≡◌, refl, sym}
 use mathlib.Core.Bool.{◌&&◌, ◌||◌, Bool, cond, false, not, true}
 use mathlib.Core.List.{List}
 use Prim.Native.Nat.{◌+◌, ◌-◌, ◌<◌, ◌≤◌, ℕ}
 use lib.Dec.{eqb, ltb}
 use lib.ListN.{length}
-use borrow.Author.Tests.{eq-eqb, eqb-true, le-ltb, lt-ltb, ltb-false, ltb-true, ne_eqb, not-false}
+use borrow.Author.Tests.{eq-eqb, eqb-false, eqb-true, le-ltb, lt-ltb, ltb-false, ltb-true, ne_eqb, not-false}
 use native.Mathlib.Omega.{arith}
 use Rattle.parlog.proofs.Bools.{or-false, split}
 use Rattle.parlog.proofs.Walk.{whole}
 use Rattle.parlog.specs.Records.{cut, kind_at, record_end, word_at}
 use Rattle.saved.specs.Form.{current_rule, former_length, head_kind, length_of}
-use Rattle.saved.specs.Reading.{fault_at, former, form_fault, kind_wrong, length_wrong, rule_at, rule_wrong}
+use Rattle.saved.specs.Reading.{fault_at, former, form_fault, kind_wrong, length_wrong, rule_at, rule_wrong, some_fault}
 
 left_over : (n at w : ℕ) → at ≤ n → ltb (n - at) w ≡ ltb n (at + w)
 left_over n at w h = split (ltb (n - at) w)
@@ -52,6 +53,22 @@ module _ (s : List ℕ) (before at : ℕ) where
     pub fault-form : q ≡ false → {n : ℕ} → n ≡ form_fault s at → n ≡ fault_at s before at
     unfolding fault_at
     fault-form u en = let y : kind_wrong before (kind_at s at) ≡ false = rw ek at (sym eq ∙ u) in rw (sym e ∙ t, y) en
+
+-- a number is told or not
+module _ {n : ℕ} where
+  pub fault-told : {k : ℕ} → Some k ≡ some_fault n → (k ≡ n) × (k ≡ 0 → ⊥)
+  fault-told {k} e = go (eqb n 0) refl e
+    where
+      go : (b : Bool) → eqb n 0 ≡ b → Some k ≡ cond b None (Some n) → (k ≡ n) × (k ≡ 0 → ⊥)
+      go true eb z = let w : ◌≡◌ {A = ℕ} 0 1 = cc in absurd (omega arith)
+      go false eb z = let w : k ≡ n = cc in (w, λ q. eqb-false n 0 eb (sym w ∙ q))
+
+  pub fault-untold : None ≡ some_fault n → 0 ≡ n
+  fault-untold e = go (eqb n 0) refl e
+    where
+      go : (b : Bool) → eqb n 0 ≡ b → None ≡ cond b None (Some n) → 0 ≡ n
+      go true eb z = sym (eqb-true n 0 eb)
+      go false eb z = let w : ◌≡◌ {A = ℕ} 0 1 = cc in absurd (omega arith)
 
 -- ---- the form of a record
 

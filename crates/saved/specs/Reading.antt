@@ -1,6 +1,6 @@
 -- The tests of a saved run's records: refusals 2, 3, 4 and 18, or how many processes and variables there are.
 use Rattle.parlog.specs.Answer.{Answer}
-use Rattle.std.specs.Prelude.{◌&&◌, ◌||◌, Bool, cond, not, List, ◌+◌, ℕ, eqb, ltb, length, Err, Ok}
+use Rattle.std.specs.Prelude.{◌&&◌, ◌||◌, Bool, cond, not, List, ◌+◌, ℕ, eqb, ltb, length, Err, None, Ok, Option, Some}
 use Rattle.parlog.specs.Load.{refusal}
 use Rattle.parlog.specs.Records.{cut, front_size, kind_at, walk, word_at}
 use Rattle.parlog.specs.Tables.{head_size}
@@ -38,6 +38,10 @@ form_fault x at = cond (former x at) 18 (cond (length_wrong x at) 4 (cond (rule_
 -- Saved 5: the tests of a record in their order: the refusal, or 0
 unfoldable pub fault_at : List ℕ → ℕ → ℕ → ℕ
 fault_at x before at = cond (cut x at) 2 (cond (kind_wrong before (kind_at x at)) 3 (form_fault x at))
+
+-- the number of a test that a record fails, where it fails one
+abbrev pub some_fault : ℕ → Option ℕ
+some_fault n = cond (eqb n 0) None (Some n)
 
 -- what is known behind a record of this kind
 abbrev pub seen_with : Seen → ℕ → Seen

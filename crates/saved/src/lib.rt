@@ -1,13 +1,13 @@
 // A run as a file in the house form: its records written one behind the other, tested, and read back into tables.
+// Processes and variables come as bytes, and the head has their counts: so the C interface lends them.
 #![tactic(auto)]
 
 ghost use Rattle.std.specs.Prelude.{◌≡◌, cond, false, not, ◌+◌, ◌*◌, ◌≤◌, ◌<◌, eqb, length, Err};
-ghost use Rattle.parlog.specs.Load.{refusal};
-ghost use Rattle.parlog.specs.Records.{cut, kind_at, word_at};
+ghost use Rattle.parlog.specs.Records.{cut, kind_at};
 ghost use Rattle.parlog.specs.Tables.{cell_size, head_size, lent, proc_count, rows_bytes, row_size, var_count};
 ghost use Rattle.lay.specs.Lay.{Lays};
 ghost use Rattle.saved.specs.Form.{bytes_from, head_record, length_of, numbers, process_record, record_of, saved_bytes, saved_size, variable_record};
-ghost use Rattle.saved.specs.Reading.{fault_at, form_fault, kind_wrong, read_saved, seen_with};
+ghost use Rattle.saved.specs.Reading.{fault_at, form_fault, kind_wrong, read_saved, seen_with, some_fault};
 ghost use Rattle.saved.specs.Restored.{cells_in, counts_agree, image_length, RestoreSays, rows_in};
 
 use parlog::{Answer, Refusal, codes};
@@ -125,6 +125,7 @@ fn put_processes(out: &mut [u8], at: usize, procs: &[u8], n: usize) -> usize
 }
 
 // The records of the first n variables.
+// Kept beside that of processes: one for both would take the size, the kind and the length of a row too, under bounds that differ.
 fn put_variables(out: &mut [u8], at: usize, vars: &[u8], n: usize) -> usize
     requires { (at ≤ 4194304) × (n ≤ 65535) × (n * cell_size ≤ length vars.now) }
     ensures { Lays out.old out.new at (rows_bytes (variable_record vars.now) (numbers n)) result }
@@ -158,16 +159,8 @@ pub fn write(out: &mut [u8], head: &[u8], procs: &[u8], vars: &[u8], image: usiz
 
 // ---- the tests of the records
 
-// The number of the two bytes at a place.
-fn word(s: &[u8], at: usize) -> usize
-    requires { at + 1 < length s.now }
-    ensures { (result ≡ word_at s.now at) × (result ≤ 65535) }
-{
-    basics::wide(s[at]) + 256 * basics::wide(s[at + 1])
-}
-
 // 2, CUT: by what is left of the bytes, so that no place leads past the largest number.
-fn cut(s: &[u8], at: usize) -> bool
+pub fn cut(s: &[u8], at: usize) -> bool
     requires { at < length s.now }
     ensures { result ≡ cut s.now at }
 {
@@ -175,17 +168,19 @@ fn cut(s: &[u8], at: usize) -> bool
     if rest < codes::RECORD_BODY {
         return true;
     }
-    let w = word(s, at);
-    basics::or(w < codes::RECORD_BODY, rest < w)
+    let w = place::word_in(s, at);
+    (w < codes::RECORD_BODY) | (rest < w)
 }
 
 // 3, KIND: the first record is the head's, a later one is of a process or a variable and no lower than the one before.
 fn kind_wrong(before: usize, kind: usize) -> bool
     ensures { result ≡ kind_wrong before kind }
 {
-    let high = basics::or(VARIABLE_KIND < kind, kind < before);
-    let later = basics::or(kind < PROCESS_KIND, high);
-    basics::choose(before == 0, kind != HEAD_KIND, later)
+    if before == 0 {
+        return kind != HEAD_KIND;
+    }
+    let high = (VARIABLE_KIND < kind) | (kind < before);
+    (kind < PROCESS_KIND) | high
 }
 
 // The one length of a kind.
@@ -201,43 +196,44 @@ fn length_of(kind: usize) -> usize
     VARIABLE_LENGTH
 }
 
-// 18 where the rule number is another than the current one, or 0.
-fn rule_fault(rule: usize) -> u8
-    ensures { result ≡ cond (not (eqb rule 2)) 18 0 }
+// 18 where the rule number is another than the current one.
+fn rule_fault(rule: usize) -> Option<u8>
+    ensures { result ≡ some_fault (cond (not (eqb rule 2)) 18 0) }
 {
-    if rule == RULE { 0 } else { OLDRULE }
+    if rule == RULE { None } else { Some(OLDRULE) }
 }
 
-// The form of a whole record of this kind: 18 for the head's in its former length, 4 for another length, 18 for another rule number, or 0.
-fn form_fault(s: &[u8], at: usize, kind: usize) -> u8
+// The form of a whole record of this kind: 18 for the head's in its former length, 4 for another length, 18 for another rule number.
+fn form_fault(s: &[u8], at: usize, kind: usize) -> Option<u8>
     requires { (cut s.now at ≡ false) × (kind ≡ kind_at s.now at) }
-    ensures { result ≡ form_fault s.now at }
+    ensures { result ≡ some_fault (form_fault s.now at) }
 {
-    let size = word(s, at);
-    if basics::and(kind == HEAD_KIND, size == FORMER_LENGTH) {
-        return OLDRULE;
+    let size = place::word_in(s, at);
+    let former = (kind == HEAD_KIND) & (size == FORMER_LENGTH);
+    if former {
+        return Some(OLDRULE);
     }
     if size != length_of(kind) {
-        return codes::BODY;
+        return Some(codes::BODY);
     }
     if kind != HEAD_KIND {
-        return 0;
+        return None;
     }
-    let rule = word(s, at + RULE_AT);
+    let rule = place::word_in(s, at + RULE_AT);
     rule_fault(rule)
 }
 
-// The tests of a record, 2, 3, then those of its form: the refusal, or 0.
-fn fault(s: &[u8], at: usize, before: usize) -> u8
+// The tests of a record, 2, 3, then those of its form: the refusal's number.
+fn fault(s: &[u8], at: usize, before: usize) -> Option<u8>
     requires { at < length s.now }
-    ensures { result ≡ fault_at s.now before at }
+    ensures { result ≡ some_fault (fault_at s.now before at) }
 {
     if cut(s, at) {
-        return codes::CUT;
+        return Some(codes::CUT);
     }
-    let kind = word(s, at + codes::RECORD_KIND);
+    let kind = place::word_in(s, at + codes::RECORD_KIND);
     if kind_wrong(before, kind) {
-        return codes::KIND;
+        return Some(codes::KIND);
     }
     form_fault(s, at, kind)
 }
@@ -264,13 +260,6 @@ fn seen_with(g: Seen, kind: usize) -> Seen
     Seen { kind, ..g }
 }
 
-// A refusal with its number and offset.
-fn broken(number: u8, offset: usize) -> Answer<(usize, usize)>
-    ensures { result ≡ Err (refusal number offset) }
-{
-    Err(Refusal { number, offset })
-}
-
 // The records of a saved run in their order: how many processes and variables, or the first refusal.
 pub fn read(s: &[u8]) -> Answer<(usize, usize)>
     ensures { result ≡ read_saved s.now }
@@ -283,16 +272,18 @@ pub fn read(s: &[u8]) -> Answer<(usize, usize)>
         vars: 0,
     };
     while at < n {
-        let number = fault(s, at, g.kind);
-        if number != 0 {
-            return broken(number, at);
+        if let Some(number) = fault(s, at, g.kind) {
+            return Err(Refusal { number, offset: at });
         }
-        let kind = word(s, at + codes::RECORD_KIND);
+        let kind = place::word_in(s, at + codes::RECORD_KIND);
         g = seen_with(g, kind);
         at += length_of(kind);
     }
     if g.kind == 0 {
-        return broken(codes::KIND, 0);
+        return Err(Refusal {
+            number: codes::KIND,
+            offset: 0,
+        });
     }
     Ok((g.procs, g.vars))
 }
@@ -304,7 +295,7 @@ pub fn image_length(s: &[u8]) -> usize
     requires { 16 ≤ length s.now }
     ensures { (result ≡ image_length s.now) × (result ≤ 65535) }
 {
-    word(s, IMAGE_LENGTH)
+    place::word_in(s, IMAGE_LENGTH)
 }
 
 // The head's counts are those of the records.
@@ -312,9 +303,9 @@ pub fn counts_agree(s: &[u8], a: usize, b: usize) -> bool
     requires { 16 ≤ length s.now }
     ensures { result ≡ counts_agree s.now a b }
 {
-    let n = basics::wide_u16(rows::get_u16(s, HEAD_PROCS));
-    let m = basics::wide_u16(rows::get_u16(s, HEAD_VARS));
-    basics::and(n == a, m == b)
+    let n = usize::from(rows::get_u16(s, HEAD_PROCS));
+    let m = usize::from(rows::get_u16(s, HEAD_VARS));
+    (n == a) & (m == b)
 }
 
 // The rows of the first n processes, and zeros behind them.
@@ -330,6 +321,7 @@ fn take_processes(s: &[u8], n: usize, procs: &mut [u8])
 }
 
 // The rows of the first n variables, behind a processes, and zeros behind them.
+// Kept beside that of processes, for the reason that stands at `put_variables`.
 fn take_variables(s: &[u8], a: usize, n: usize, vars: &mut [u8])
     requires { (a ≤ 65535) × (n ≤ 65535) × (18 + a * 28 + n * 8 ≤ length s.now) × (n * cell_size ≤ length vars.old) × (length vars.old ≤ 4194304) }
     ensures { vars.new ≡ cells_in s.now a n (length vars.old) }

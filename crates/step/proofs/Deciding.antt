@@ -2,12 +2,11 @@
 use mathlib.Core.Path.{◌∙◌, ◌≡◌, refl, sym}
 use mathlib.Core.Bool.{◌&&◌, Bool, false, true}
 use mathlib.Core.List.{List}
-use Prim.Native.Nat.{◌*◌, ◌+◌, ◌<◌, ◌≤◌, ℕ}
+use Prim.Native.Nat.{◌*◌, ◌+◌, ◌<◌, ◌≤◌, min, ℕ}
 use lib.Dec.{ltb}
 use lib.ListN.{length}
-use borrow.Author.Tests.{le-ltb, lt-ltb}
+use borrow.Author.Tests.{lt-ltb, ltb-false, ltb-true}
 use native.Mathlib.Omega.{arith}
-use native.Mathlib.Numerals.{add-one}
 use Rattle.children.specs.Telling.{Tells}
 use Rattle.children.specs.declared.Told.{Told}
 use Rattle.entry.specs.Entered.{Inside}
@@ -19,7 +18,7 @@ use Rattle.move_plan.specs.Plans.{applied_of, delta_of, fits_in, new_most, state
 use Rattle.move_plan.specs.declared.Plan.{Plan}
 use Rattle.moves.proofs.Legal.{legal, right-sized}
 use Rattle.moves.specs.Legal.{Legal}
-use Rattle.parlog.proofs.Bools.{and-true}
+use Rattle.parlog.proofs.Bools.{and-true, split}
 use Rattle.parlog.proofs.Steps.{steady_kept}
 use Rattle.parlog.specs.Limits.{Limits, small, Usable}
 use Rattle.parlog.specs.Program.{Program, program_of}
@@ -145,8 +144,7 @@ module _ (lim : Limits) (s : List ℕ) (r c : ℕ) (l : Lent) (p : ℕ) (h : p <
     step-made q = step-by ∙ rw (applied-some pl e, sym room-is ∙ sym eb ∙ q) (unfold step_by in refl)
 
 -- one step more
-pub count-more : (k : ℕ) → k < 4294967295 → k + 1 ≡ counted k
-count-more k h = rw (lt-ltb k 4294967295 h) (add-one k)
-
-pub count_most : (k : ℕ) → 4294967295 ≤ k → k ≡ counted k
-count_most k h = rw (le-ltb k 4294967295 h)
+pub count-capped : (k : ℕ) → k ≤ 4294967295 → min (k + 1) 4294967295 ≡ counted k
+count-capped k top = split (ltb k 4294967295)
+    (λ e. let h = ltb-true k 4294967295 e in rw e (omega arith))
+    (λ e. let h = ltb-false k 4294967295 e in rw e (omega (arith, top)))

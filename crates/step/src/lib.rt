@@ -23,10 +23,7 @@ const VARS: usize = codes::MOST_VARS;
 fn count(steps: u32) -> u32
     ensures { result ≡ counted steps }
 {
-    if steps < 4294967295 {
-        return steps + 1;
-    }
-    steps
+    steps.saturating_add(1)
 }
 
 // What the step of process p will do, in tables that keep the rules, or what refuses it; it only reads.
@@ -94,7 +91,7 @@ pub fn ask(procs: &[u8], n: usize, p: usize) -> Told
     requires { (n * row_size ≤ length procs.now) × (n ≤ 65535) }
     ensures { (at (procs_of procs.now n) p).mode ≡ 3 → Tells (procs_of procs.now n) p result }
 {
-    if rows::mode_at(procs, n, p) == 3 {
+    if rows::mode_at(procs, n, p) == codes::WAITING {
         return children::asked(procs, n, p);
     }
     children::nothing()
@@ -112,6 +109,7 @@ pub fn step(
 {
     let mut ix = [0u16; program_index::SIZE];
     let e = entry::enter(image, head, procs, vars, &mut ix);
+    // Kept in each call: docs/DECISIONS.md asks that each takes the load's answer apart by `let .. else`.
     let Ok((rels, clauses)) = e else {
         let r = load::refusal(e);
         return Err(r);

@@ -49,7 +49,7 @@ fn goal_in(
 {
     if z.kind == codes::THE_GOAL {
         let size = program_clause::goal_vars(image, rels, clauses, ix);
-        return basics::and(z.base == 0, size <= n);
+        return (z.base == 0) & (size <= n);
     }
     clause_in(image, rels, clauses, ix, n, z.clause, z.base)
 }
@@ -88,10 +88,7 @@ fn behind_call(
     requires { (rels ≤ 32) × (clauses ≤ 64) × Indexed image.now rels clauses ix.now }
     ensures { result ≡ behind_call t waits (program_of image.now rels clauses) n z rel }
 {
-    if basics::or(
-        t == codes::OR_SEARCH,
-        basics::and(t == codes::SEQ_SEARCH, waits),
-    ) {
+    if (t == codes::OR_SEARCH) | ((t == codes::SEQ_SEARCH) & waits) {
         let count = program_block::block_count(image, rels, clauses, ix, rel);
         return (z.block as usize) < count;
     }
@@ -100,7 +97,7 @@ fn behind_call(
     }
     let found = clause_in(image, rels, clauses, ix, n, z.found, z.first);
     let own = program_clause::clause_relation(image, rels, clauses, ix, z.found as usize);
-    basics::and(found, own == rel)
+    found & (own == rel)
 }
 
 // What a tag asks of a literal of relation rel.
@@ -144,13 +141,13 @@ fn behind_goal(
     if t < codes::OR_PAR {
         let stages = program_goal::goal_size(image, rels, clauses, ix, z.kind, z.clause);
         let stage = z.stage as usize;
-        let there = basics::choose(
-            basics::or(t == codes::AND_PAR, waits),
-            stage < stages,
-            stage <= stages,
-        );
+        let there = if (t == codes::AND_PAR) | waits {
+            stage < stages
+        } else {
+            stage <= stages
+        };
         let split = program_goal::split_by(image, rels, clauses, ix, z.kind, z.clause);
-        return basics::and(there, basics::or(t == codes::AND_PAR, !split));
+        return there & ((t == codes::AND_PAR) | !split);
     }
     let x = program_goal::called(image, rels, clauses, ix, z);
     let size = x.size;
@@ -175,14 +172,11 @@ fn placed_ok(
     if x.tag == codes::GUARD_EVAL {
         return clause_in(image, rels, clauses, ix, n, x.spot.found, x.spot.first);
     }
-    let search = basics::or(x.tag == codes::SEQ_SEARCH, x.tag == codes::OR_SEARCH);
-    let told = basics::and(
-        search,
-        basics::and(x.mode == codes::REPORTING, x.result == codes::SUCCESS),
-    );
+    let search = (x.tag == codes::SEQ_SEARCH) | (x.tag == codes::OR_SEARCH);
+    let told = search & ((x.mode == codes::REPORTING) & (x.result == codes::SUCCESS));
     let goal = goal_in(image, rels, clauses, ix, n, x.spot);
     let found = told_ok(image, rels, clauses, ix, n, told, x.spot);
-    let there = basics::and(goal, found);
+    let there = goal & found;
     if !there {
         return false;
     }
@@ -216,10 +210,7 @@ fn kin_ok(
 {
     if i == 0 {
         let goal = program_goal::tag_of_goal(image, rels, clauses, ix, codes::THE_GOAL, 0);
-        return basics::and(
-            x.tag == goal,
-            basics::and(x.parent == 0, x.spot.kind == codes::THE_GOAL),
-        );
+        return (x.tag == goal) & ((x.parent == 0) & (x.spot.kind == codes::THE_GOAL));
     }
     let parent = x.parent as usize;
     if i <= parent {
@@ -237,7 +228,7 @@ fn own_ok(n: usize, i: usize, x: Process) -> bool
     let result = row_tests::result_ok(i, x.mode, x.result);
     let four = x.notes;
     let notes = row_tests::notes_ok(n, x.mode, x.count, four);
-    basics::and(numbers, basics::and(result, notes))
+    numbers & (result & notes)
 }
 
 // Row i of the first count.
@@ -269,6 +260,7 @@ fn row_ok(
 // ---- the tables
 
 // Each of the first count rows.
+// Kept beside `cells_ok`, which is alike: one loop for both would take its test as a closure, and be no plainer.
 fn rows_ok(
     image: &[u8],
     rels: usize,
@@ -296,7 +288,7 @@ fn cell_ok(vars: &[u8], n: usize, v: usize) -> bool
     ensures { result ≡ cell_ok vars.now n v }
 {
     let b = v * codes::CELL_SIZE;
-    let number = basics::wide_u32(vars::join(vars[b + 1], vars[b + 2], vars[b + 3]));
+    let number = vars::join(vars[b + 1], vars[b + 2], vars[b + 3]) as usize;
     row_tests::cell_ok(v, vars[b], number)
 }
 
@@ -319,11 +311,8 @@ pub fn full_size(head: &[u8], procs: &[u8], vars: &[u8], most: usize, cap: usize
     requires { (most ≤ 65535) × (cap ≤ 65535) }
     ensures { result ≡ full_size (record { procs = most; vars = cap }) (lent head.now procs.entry.now vars.now) }
 {
-    let tables = basics::and(
-        procs.len() == most * codes::ROW_SIZE,
-        vars.len() == cap * codes::CELL_SIZE,
-    );
-    basics::and(head.len() == codes::HEAD_SIZE, tables)
+    let tables = (procs.len() == most * codes::ROW_SIZE) & (vars.len() == cap * codes::CELL_SIZE);
+    (head.len() == codes::HEAD_SIZE) & tables
 }
 
 // The lent tables keep every table rule.
@@ -355,5 +344,5 @@ pub fn lent_ok(
     }
     let cells = cells_ok(vars, n);
     let rows = rows_ok(image, rels, clauses, ix, procs, count, n);
-    basics::and(cells, rows)
+    cells & rows
 }

@@ -5,6 +5,7 @@ use mathlib.Core.List.{[], ◌++◌, ◌∷◌, List, map}
 use Prim.Native.Nat.{◌+◌, ◌-◌, ◌≤◌, ℕ}
 use lib.Dec.{eqb, leb}
 use lib.ListN.{drop, length, length-map}
+use mir.Val.{bool_byte}
 use native.Mathlib.Omega.{arith}
 use Rattle.judge_said.proofs.Sized.{clause-size}
 use Rattle.judge_said.proofs.Told.{ask-parts}
@@ -49,6 +50,10 @@ lay-front size kind f g = rw (lows-append (word_bytes size) (word_bytes kind)) (
 
 pub lay-ask-front : {o p q : List ℕ} {w x y : To} (size vars : ℕ) → Writes o w (lows (front_bytes size 3)) true p x → Writes p x (lows (vars ∷ [])) true q y → Writes o w (lows (ask_front size vars)) true q y
 lay-ask-front size vars f g = rw (lows-append (front_bytes size 3) (vars ∷ [])) (writes-both f g)
+
+pub mark-byte : (b : Bool) → bool_byte b ≡ mark_by b
+mark-byte true = refl
+mark-byte false = refl
 
 pub lay-clause-front : {o o1 o2 o3 o4 o5 : List ℕ} {w w1 w2 w3 w4 w5 : To} (size number arity mark : ℕ) (opens : Bool) (vars : ℕ) → mark ≡ mark_by opens → Writes o w (lows (front_bytes size 2)) true o1 w1 → Writes o1 w1 (lows (number ∷ [])) true o2 w2 →
     Writes o2 w2 (lows (arity ∷ [])) true o3 w3 → Writes o3 w3 (lows (mark ∷ [])) true o4 w4 → Writes o4 w4 (lows (vars ∷ [])) true o5 w5 → Writes o w (lows (clause_front size number arity opens vars)) true o5 w5

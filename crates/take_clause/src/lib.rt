@@ -11,7 +11,6 @@ ghost use Rattle.read_names.specs.Tables.{Finds, modes_from};
 ghost use Rattle.take_clause.specs.TakesClause.{ask_front, clause_front, front_bytes, said_at, starting, taken_as, TakesAsk, TakesClause, TakesPart, TakesParts};
 ghost use Rattle.take_term.specs.Takes.{Ready, rows, stands};
 ghost use Rattle.text_names.specs.Bytes.{front};
-ghost use Rattle.text_program.specs.Numbered.{mark_by};
 ghost use Rattle.text_program.specs.Source.{read_body, read_clause};
 
 use lay_text::To;
@@ -72,13 +71,6 @@ fn front_of(out: &mut [u8], at: usize, size: usize, kind: usize) -> To
     lay_literal::word(out, a, kind)
 }
 
-// The mark of a clause that opens a block.
-fn mark_of(opens: bool) -> usize
-    ensures { result ≡ mark_by opens }
-{
-    if opens { 1 } else { 0 }
-}
-
 // What stands in a clause's record before its terms.
 fn clause_front(
     out: &mut [u8],
@@ -94,7 +86,7 @@ fn clause_front(
     let a = front_of(out, at, size, codes::CLAUSE_KIND);
     let b = lay_literal::number(out, a, number);
     let c = lay_literal::number(out, b, arity);
-    let d = lay_literal::number(out, c, mark_of(opens));
+    let d = lay_literal::number(out, c, usize::from(opens));
     lay_literal::number(out, d, vars)
 }
 
@@ -193,15 +185,23 @@ fn relation_at(
 fn told(end: usize, number: usize, semicolon: bool, right: bool, x: Reading) -> Taken
     ensures { result ≡ taken_as end number semicolon right x }
 {
+    let Reading {
+        at,
+        consts,
+        vars,
+        fits,
+        declared,
+        ..
+    } = x;
     Taken {
         end,
-        at: x.at,
-        consts: x.consts,
+        at,
+        consts,
         number,
         semicolon,
-        right: (x.vars <= codes::MOST_VARIABLES) & right,
-        fits: x.fits,
-        declared: x.declared,
+        right: (vars <= codes::MOST_VARIABLES) & right,
+        fits,
+        declared,
     }
 }
 

@@ -62,23 +62,30 @@ fn turned(v: Result<Progress, u8>, w: Clauses, c: Taken) -> Clauses
     requires { 1 ≤ w.left }
     ensures { result ≡ turned_by v w c }
 {
+    let Taken {
+        end,
+        at,
+        consts,
+        ..
+    } = c;
+    let left = w.left - 1;
     let declared = w.declared & c.declared;
     match v {
         Err(number) => Clauses {
-            end: c.end,
-            left: w.left - 1,
+            end,
+            left,
             number,
-            consts: c.consts,
+            consts,
             declared,
             ..w
         },
-        Ok(next) => Clauses {
-            end: c.end,
-            left: w.left - 1,
+        Ok(known) => Clauses {
+            end,
+            left,
             number: 0,
-            at: c.at,
-            consts: c.consts,
-            known: next,
+            at,
+            consts,
+            known,
             declared,
         },
     }
@@ -150,7 +157,7 @@ pub fn clause_lines(
         if place::byte_at(s, w.end) == ARROW {
             return w;
         }
-        let opens = basics::and(semicolon, text_names::same_name(s, before, w.end));
+        let opens = semicolon & text_names::same_name(s, before, w.end);
         let t = turn(
             s, rels, arities, chains, lines, out, consts, links, w, opens,
         );

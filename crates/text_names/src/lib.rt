@@ -16,11 +16,12 @@ const RETURN: usize = b'\r' as usize;
 const SPACE: usize = b' ' as usize;
 
 // One of the bytes a to z.
+// Kept, like the tests of letters: a byte comes as a number, as `place::byte_at` tells it; `is_ascii_lowercase` would need it as a byte again, which is no plainer.
 fn in_span(a: u8, z: u8, b: usize) -> bool
     requires { a ≤ z }
     ensures { result ≡ in_span a (z - a) b }
 {
-    basics::wide(a) <= b && b <= basics::wide(z)
+    usize::from(a) <= b && b <= usize::from(z)
 }
 
 // A lower-case letter.

@@ -4,10 +4,10 @@ use Rattle.parlog.specs.Answer.{Answer}
 use mathlib.Core.Path.{◌∙◌, ◌≡◌, ap, refl}
 use mathlib.Core.Bool.{◌&&◌, Bool, false, true}
 use mathlib.Core.List.{List}
-use Prim.Native.Nat.{◌%◌, ◌/◌, ◌<◌, ◌≤◌, ℕ}
+use Prim.Native.Nat.{◌%◌, ◌/◌, ◌≤◌, ℕ}
 use lib.Dec.{leb}
 use lib.ListN.{length}
-use borrow.Author.Tests.{le-ltb, lt-ltb, ltb-false}
+use borrow.Author.Tests.{le-ltb, ltb-false}
 use native.Mathlib.Omega.{arith}
 use Rattle.parlog.specs.Load.{long}
 use Rattle.parlog.specs.Numbers.{refused_as, word}
@@ -20,9 +20,6 @@ use Rattle.text_words.specs.Numbers.{ParseFits, parse_numbers, print_numbers}
 use Rattle.words.specs.Nights.{told_offset, told_refusal}
 
 module _ (n : ℕ) where
-  pub told-most : 4294967295 < n → 4294967295 ≡ told_offset n
-  told-most h = rw (lt-ltb 4294967295 n h)
-
   pub told_same : n ≤ 4294967295 → n ≡ told_offset n
   told_same h = rw (le-ltb 4294967295 n h)
 

@@ -1,38 +1,24 @@
 // The answers of print and parse as the one word that C is given.
 #![tactic(auto)]
 
-ghost use Rattle.std.specs.Prelude.{◌≡◌, ◌≤◌};
+ghost use Rattle.std.specs.Prelude.{◌≡◌};
 ghost use Rattle.parlog.specs.Numbers.{word};
 ghost use Rattle.text_words.specs.Numbers.{ParseFits, parse_numbers, print_numbers};
-ghost use Rattle.words.specs.Nights.{told_offset};
 
 use parlog::Answer;
 
 // The refusal of a call that is accepted.
 const ACCEPTED: usize = 0;
 
-// The highest number of 32 bits.
-const MOST_NUMBER: usize = 4294967295;
-
 // How many numbers a byte has.
 const BYTE: usize = 256;
-
-// A length as it can be told.
-fn told(n: usize) -> usize
-    ensures { (result ≡ told_offset n) × (result ≤ 4294967295) }
-{
-    if MOST_NUMBER < n {
-        return MOST_NUMBER;
-    }
-    n
-}
 
 // Of a print: how many bytes the text has.
 pub fn print_word(a: Answer<usize>) -> u64
     ensures { result ≡ word (print_numbers a) }
 {
     match a {
-        Ok(n) => words::word(ACCEPTED, 0, 0, told(n)),
+        Ok(n) => words::word(ACCEPTED, 0, 0, words::told_number(n)),
         Err(r) => words::refused(words::told_refusal(r)),
     }
 }
@@ -43,7 +29,7 @@ pub fn parse_word(a: Answer<(usize, usize)>) -> u64
     ensures { result ≡ word (parse_numbers a) }
 {
     match a {
-        Ok((n, m)) => words::word(ACCEPTED, n % BYTE, n / BYTE, told(m)),
+        Ok((n, m)) => words::word(ACCEPTED, n % BYTE, n / BYTE, words::told_number(m)),
         Err(r) => words::refused(words::told_refusal(r)),
     }
 }

@@ -1,7 +1,7 @@
 -- Stamps that follow, records that fail a test, and the loops over a trace.
 use Rattle.parlog.specs.Answer.{Answer}
 use Rattle.std.specs.Prelude.{Option, Some, None, Err, Ok}
-use Rattle.std.proofs.Common.{◌≡◌, ℕ, zero, suc, ◌+◌, ◌-◌, ◌*◌, ◌%◌, ◌<◌, ◌≤◌, Bool, true, false, not, ◌||◌, eqb, ltb, ◌≢◌, List, length, sym, refl, ◌∙◌, arith, ltb-false, ltb-true, le-ltb, lt-ltb, eq-eqb, ne_eqb, eqb-true}
+use Rattle.std.proofs.Common.{◌≡◌, ℕ, zero, suc, ◌+◌, ◌-◌, ◌*◌, ◌%◌, ◌<◌, ◌≤◌, Bool, true, false, not, ◌||◌, eqb, ltb, ◌≢◌, List, length, sym, refl, ◌∙◌, arith, ltb-false, ltb-true, eq-eqb, ne_eqb, eqb-true}
 use borrow.Author.Tests.{eqb-false}
 use Rattle.parlog.proofs.Bools.{never, or-false, split}
 use Rattle.parlog.proofs.Scans.{Lowest, lowest-at, lowest-is, lowest-nothing}
@@ -19,20 +19,6 @@ gap-exact before stamp r hb hs hr e = split (eqb r 1)
     (λ q. let other : r ≢ 1 = eqb-false r 1 q in rw (q, ne_eqb stamp ((before + 1) % 65536) (λ z. other (omega arith))))
 
 -- ---- a record
-
-module _ (s : List ℕ) (at : ℕ) (here : at < length s) where
-  pub cut_short : length s - at < 4 → true ≡ cut s at
-  unfolding cut
-  cut_short h = rw (lt-ltb (length s) (at + 4) (omega arith))
-
-  pub cut-long : 4 ≤ length s - at → {w : ℕ} → w ≡ word_at s at → (ltb w 4 || ltb (length s - at) w) ≡ cut s at
-  unfolding cut
-  cut-long h e = rw (e, le-ltb (length s) (at + 4) (omega arith), moved (word_at s at))
-    where
-      moved : (w : ℕ) → ltb (length s - at) w ≡ ltb (length s) (at + w)
-      moved w = split (ltb (length s) (at + w))
-          (λ q. rw q (lt-ltb (length s - at) w (omega (arith, ltb-true (length s) (at + w) q))))
-          (λ q. rw q (le-ltb (length s - at) w (omega (arith, ltb-false (length s) (at + w) q))))
 
 -- a record that is not cut has its front
 pub front-there : (s : List ℕ) (at : ℕ) → cut s at ≡ false → at + 4 ≤ length s

@@ -3,9 +3,10 @@
 
 ghost use Rattle.std.specs.Prelude.{◌≡◌, ◌+◌, ◌*◌, ◌<◌, ◌≤◌, length};
 ghost use Rattle.lay.specs.Lay.{Lays};
-ghost use Rattle.parlog.specs.Records.{cut, kind_at, word_at};
+ghost use Rattle.parlog.specs.Records.{kind_at};
 ghost use Rattle.trace.specs.Trace.{first_gap, following, is_gap, known_kind, record_bytes, record_fault, stamp_at, TestedSays, trace_size, what_at, who_at};
 ghost use Rattle.trace.specs.Trace.{FaultsSay};
+ghost use Rattle.saved.specs.Reading.{some_fault};
 
 use parlog::{Answer, Refusal, codes};
 
@@ -46,20 +47,13 @@ fn gap(before: u16, stamp: u16) -> bool
 
 // ---- a record's numbers
 
-// Two bytes, the low one first.
-fn word(s: &[u8], at: usize) -> usize
-    requires { at + 1 < length s.now }
-    ensures { (result ≡ word_at s.now at) × (result ≤ 65535) }
-{
-    basics::wide(s[at]) + 256 * basics::wide(s[at + 1])
-}
-
 // Of record k: what it is.
+// Kept apart, like the three behind it: each is one read, and its name says where.
 pub fn kind(s: &[u8], k: usize) -> usize
     requires { k * trace_size + trace_size ≤ length s.now }
     ensures { (result ≡ kind_at s.now (k * trace_size)) × (result ≤ 65535) }
 {
-    word(s, k * SIZE + codes::RECORD_KIND)
+    place::word_in(s, k * SIZE + codes::RECORD_KIND)
 }
 
 // The process or the variable.
@@ -67,7 +61,7 @@ pub fn who(s: &[u8], k: usize) -> usize
     requires { k * trace_size + trace_size ≤ length s.now }
     ensures { (result ≡ who_at s.now (k * trace_size)) × (result ≤ 65535) }
 {
-    word(s, k * SIZE + WHO)
+    place::word_in(s, k * SIZE + WHO)
 }
 
 // The rule or the value.
@@ -75,7 +69,7 @@ pub fn what(s: &[u8], k: usize) -> usize
     requires { k * trace_size + trace_size ≤ length s.now }
     ensures { (result ≡ what_at s.now (k * trace_size)) × (result ≤ 65535) }
 {
-    word(s, k * SIZE + WHAT)
+    place::word_in(s, k * SIZE + WHAT)
 }
 
 // The stamp.
@@ -83,7 +77,7 @@ fn stamp(s: &[u8], k: usize) -> u16
     requires { k * trace_size + trace_size ≤ length s.now }
     ensures { result ≡ stamp_at s.now (k * trace_size) }
 {
-    word(s, k * SIZE + STAMP) as u16
+    place::word_in(s, k * SIZE + STAMP) as u16
 }
 
 // A record written.
@@ -107,42 +101,29 @@ pub fn put_record(
 
 // ---- the tests of a trace
 
-// 2, CUT.
-fn cut(s: &[u8], at: usize) -> bool
-    requires { at < length s.now }
-    ensures { result ≡ cut s.now at }
-{
-    let left = s.len() - at;
-    if left < codes::RECORD_BODY {
-        return true;
-    }
-    let w = word(s, at);
-    basics::or(w < codes::RECORD_BODY, left < w)
-}
-
 // 3, KIND, is what no trace has.
 fn known_kind(kind: usize) -> bool
     ensures { result ≡ known_kind kind }
 {
-    basics::or(kind == STEP, kind == SUPPLY)
+    (kind == STEP) | (kind == SUPPLY)
 }
 
-// The first of the tests 2, 3 and 4 that a record fails, and 0 where it fails none.
-fn record_fault(s: &[u8], at: usize) -> u8
+// The first of the tests 2, 3 and 4 that a record fails.
+fn record_fault(s: &[u8], at: usize) -> Option<u8>
     requires { at < length s.now }
-    ensures { result ≡ record_fault s.now at }
+    ensures { result ≡ some_fault (record_fault s.now at) }
 {
-    if cut(s, at) {
-        return codes::CUT;
+    if saved::cut(s, at) {
+        return Some(codes::CUT);
     }
-    let known = known_kind(word(s, at + codes::RECORD_KIND));
+    let known = known_kind(place::word_in(s, at + codes::RECORD_KIND));
     if !known {
-        return codes::KIND;
+        return Some(codes::KIND);
     }
-    if word(s, at) != SIZE {
-        return codes::BODY;
+    if place::word_in(s, at) != SIZE {
+        return Some(codes::BODY);
     }
-    0
+    None
 }
 
 // Record by record: how many there are, or the first that fails a test.
@@ -152,12 +133,8 @@ fn faults(s: &[u8]) -> Answer<usize>
     let n = s.len().div_ceil(SIZE);
     for k in 0..n {
         let at = k * SIZE;
-        let fault = record_fault(s, at);
-        if fault != 0 {
-            return Err(Refusal {
-                number: fault,
-                offset: at,
-            });
+        if let Some(number) = record_fault(s, at) {
+            return Err(Refusal { number, offset: at });
         }
     }
     Ok(n)

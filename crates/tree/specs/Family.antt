@@ -1,5 +1,5 @@
 -- The table once all below a process are asleep, the rule that parents have lower numbers, and the marks of the pass.
-use Rattle.std.specs.Prelude.{◌≡◌, ◌≢◌, ◌&&◌, not, List, ◌<◌, ℕ, eqb, ltb, get_or, length}
+use Rattle.std.specs.Prelude.{◌≡◌, ◌≢◌, ◌&&◌, not, List, ◌<◌, ℕ, eqb, ltb, get_or, length, Option, None, Some}
 use Rattle.parlog.specs.Delta.{asleep}
 use Rattle.parlog.specs.Scan.{build}
 use Rattle.parlog.specs.Tables.{at, rank}
@@ -21,6 +21,11 @@ Falls ps = (i : ℕ) → i < length ps → i ≢ 0 → rank ps (at ps i).parent 
 -- no process behind p and before q is a child of p
 abbrev pub Childless : List Process → ℕ → ℕ → Type 0
 Childless ps p q = (i : ℕ) → p < i → i < q → (at ps i).parent ≢ p
+
+-- the first child of p in the first n rows, where there is one
+abbrev pub FirstChild : List Process → ℕ → ℕ → Option ℕ → Type 0
+FirstChild ps n p None = Childless ps p n
+FirstChild ps n p (Some q) = (p < q) × (q < n) × Childless ps p q
 
 -- ---- marks
 

@@ -7,7 +7,7 @@ ghost use Rattle.parlog.specs.Delta.{with_mode};
 ghost use Rattle.parlog.specs.Tables.{at, procs_of, row_size};
 ghost use Rattle.parlog.specs.Tree.{below, enclosing, first_of};
 ghost use Rattle.rows.specs.Rows.{Table};
-ghost use Rattle.tree.specs.Family.{Childless, Falls, Marks, most_rows, slept, slept_below};
+ghost use Rattle.tree.specs.Family.{Childless, Falls, FirstChild, Marks, most_rows, slept, slept_below};
 
 use parlog::{Process, codes};
 
@@ -21,7 +21,7 @@ fn parent(procs: &[u8], n: usize, i: usize) -> usize
     requires { n * row_size ≤ length procs.now }
     ensures { result ≡ (at (procs_of procs.now n) i).parent }
 {
-    basics::wide_u16(rows::parent_at(procs, n, i))
+    usize::from(rows::parent_at(procs, n, i))
 }
 
 // The same for a process known to be there.
@@ -29,7 +29,7 @@ fn above(procs: &[u8], n: usize, a: usize) -> usize
     requires { (n * row_size ≤ length procs.now) × (a < n) }
     ensures { result ≡ (at (procs_of procs.now n) a).parent }
 {
-    basics::wide_u16(rows::get_u16(procs, a * codes::ROW_SIZE + codes::ROW_PARENT))
+    usize::from(rows::get_u16(procs, a * codes::ROW_SIZE + codes::ROW_PARENT))
 }
 
 // The nearest try-clause above p.
@@ -59,6 +59,7 @@ fn first_at(procs: &[u8], n: usize, c: usize) -> usize
 }
 
 // Its first variable; 0 where there is none.
+// Kept, no Option: 0 for none is what `first_of` says, and a definition keeps its meaning.
 pub fn enclosing_first(procs: &[u8], n: usize, p: usize) -> usize
     requires { n * row_size ≤ length procs.now }
     ensures { result ≡ first_of (procs_of procs.now n) (enclosing (procs_of procs.now n) p) }
@@ -69,6 +70,7 @@ pub fn enclosing_first(procs: &[u8], n: usize, p: usize) -> usize
     first_at(procs, n, c)
 }
 
+#[tactic(auto, unfolding(parlog::specs::Delta::with_mode))]
 fn dormant(x: Process) -> Process
     ensures { result ≡ with_mode dormant x }
 {
@@ -117,17 +119,17 @@ fn sleep_one(procs: &mut [u8], n: usize, marks: &mut [u8], p: usize, q: usize)
     rows::put(procs, n, q, y);
 }
 
-// The first row behind p whose parent is p; n where there is none.
-fn first_child(procs: &[u8], n: usize, p: usize) -> usize
+// The first row behind p whose parent is p.
+fn first_child(procs: &[u8], n: usize, p: usize) -> Option<usize>
     requires { (n * row_size ≤ length procs.now) × (p < n) }
-    ensures { (result ≤ n) × (p < result) × Childless (procs_of procs.now n) p result }
+    ensures { FirstChild (procs_of procs.now n) n p result }
 {
     for q in p + 1..n {
         if above(procs, n, q) == p {
-            return q;
+            return Some(q);
         }
     }
-    n
+    None
 }
 
 // All below p falls asleep, from its first child on: one pass upward, in which a row has its mark before its children are reached.
@@ -146,8 +148,7 @@ pub fn sleep_below(procs: &mut [u8], n: usize, p: usize)
     requires { (n * row_size ≤ length procs.old) × (p < n) × Falls (procs_of procs.old n) × (n ≤ most_rows) }
     ensures { Table procs.old procs.new (slept_below (procs_of procs.old n) p) }
 {
-    let first = first_child(procs, n, p);
-    if first < n {
+    if let Some(first) = first_child(procs, n, p) {
         sleep_from(procs, n, p, first);
     }
 }

@@ -26,6 +26,7 @@ pub struct Turn {
 // ---- what a waiting process asks for
 
 // In the low half what is asked for, in the high half what of it must not be all that was said.
+// Kept: numbers, no enum. One test serves all that may be asked for, `s & (k % HALF) != k / HALF`.
 const HALF: u8 = 16;
 
 // One failure, or that none is silent.

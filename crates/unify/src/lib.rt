@@ -20,8 +20,7 @@ pub struct Unified {
 fn newer(c: Change, b: Option<Term>, v: u32) -> Option<Term>
     ensures { result ≡ newer_of c b v }
 {
-    let t = c.to;
-    if c.var == v { Some(t) } else { b }
+    if c.var == v { Some(c.to) } else { b }
 }
 
 // What v is bound to under the pending bindings, where its row has a binding of its own.
@@ -70,6 +69,7 @@ fn value_under(vars: &[u8], n: usize, u: Unified, t: Term) -> Term
 }
 
 // Nothing bound yet.
+// Kept, no `Default`: that of `ok` would be false.
 fn nothing() -> Unified
     ensures { (outcome result ≡ bound []) × (pending result ≡ []) × (result.count ≡ 0) × (length result.binds ≡ 4) × (bound_in result ≡ bound_vars (outcome result)) }
 {
@@ -133,7 +133,7 @@ fn join(u: Unified, m: Met) -> Unified
         Met::Clash => Unified {
             ok: false,
             count: 0,
-            binds: binds,
+            binds,
         },
         Met::Same => u,
         Met::Bind(v, t) => {
@@ -141,7 +141,7 @@ fn join(u: Unified, m: Met) -> Unified
             Unified {
                 ok: true,
                 count: n + 1,
-                binds: binds,
+                binds,
             }
         }
     }
@@ -152,16 +152,12 @@ fn unify_one(vars: &[u8], n: usize, u: Unified, p: Pair) -> Unified
     requires { (n * cell_size ≤ length vars.now) × (top p.left ≤ n) × (top p.right ≤ n) × (u.count < 4) × (length u.binds ≡ 4) × (bound_in u ≡ bound_vars (outcome u)) }
     ensures { (outcome result ≡ unify_one (vars_in vars.now n) (outcome u) p) × (result.count ≤ u.count + 1) × (length result.binds ≡ 4) × (bound_in result ≡ bound_vars (outcome result)) }
 {
-    let ok = u.ok;
-    if !ok {
+    if !u.ok {
         return u;
     }
-    let left = p.left;
-    let right = p.right;
-    let x = value_under(vars, n, u, left);
-    let y = value_under(vars, n, u, right);
-    let m = meet(x, y);
-    join(u, m)
+    let x = value_under(vars, n, u, p.left);
+    let y = value_under(vars, n, u, p.right);
+    join(u, meet(x, y))
 }
 
 // The first of these pairs, from the left; it tells the variables bound, in order, and none after a clash.

@@ -56,6 +56,7 @@ pub fn values(
 {
     let mut ix = [0u16; program_index::SIZE];
     let e = entry::enter(image, head, procs, vars, &mut ix);
+    // Kept in each call: docs/DECISIONS.md asks that each takes the load's answer apart by `let .. else`.
     let Ok((rels, clauses)) = e else {
         let r = load::refusal(e);
         return Err(r);

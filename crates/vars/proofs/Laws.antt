@@ -1,5 +1,6 @@
 -- The laws of variable rows: what a binding is after a row was written.
 use Rattle.std.specs.Prelude.{Option, None, Some}
+use Rattle.std.specs.Int.{to_le_bytes, w32}
 use mathlib.Core.Path.{◌∙◌, ◌≡◌, ap, refl}
 use mathlib.Core.Logic.{⊎_elim}
 use mathlib.Core.Bool.{true}
@@ -86,6 +87,16 @@ module _ (l : List ℕ) (v : ℕ) (b : Option Term) (enough : v * cell_size + ce
 
   pub known_same : cell_known (put_cell l v (binding_bytes b)) v ≡ true
   known_same = known-cong (put_cell l v (binding_bytes b)) (binding_bytes b) v 0 byte-same ∙ known-back b
+
+-- the bytes of a number
+pub low_in : {l : List ℕ} (m : ℕ) → l ≡ to_le_bytes w32 m → get_or l 0 0 ≡ m % 256
+low_in m e = rw e
+
+pub middle_in : {l : List ℕ} (m : ℕ) → l ≡ to_le_bytes w32 m → get_or l 1 0 ≡ m / 256 % 256
+middle_in m e = rw e
+
+pub top_in : {l : List ℕ} (m : ℕ) → m < 16777216 → l ≡ to_le_bytes w32 m → get_or l 2 0 ≡ m / 65536
+top_in m h e = rw e (omega arith)
 
 -- four stores are a row
 stores : (l : List ℕ) (i a b c d : ℕ) → i + cell_size ≤ length l → set (set (set (set l i a) (i + 1) b) (i + 2) c) (i + 3) d ≡ take i l ++ (a ∷ b ∷ c ∷ d ∷ []) ++ drop (i + cell_size) l

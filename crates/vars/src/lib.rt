@@ -1,7 +1,8 @@
 // The variable table: a lent row of bytes, one cell of them a variable, read and written a binding at a time.
+// Kept: a row and its count, no slice of structs, since the C interface lends bytes, and the head has the counts.
 #![tactic(auto)]
 
-ghost use Rattle.std.specs.Prelude.{◌≡◌, ◌++◌, ◌+◌, ◌*◌, ◌/◌, ◌%◌, ◌≤◌, ◌<◌, length, replicate, set, None, Some};
+ghost use Rattle.std.specs.Prelude.{◌≡◌, ◌++◌, ◌+◌, ◌*◌, ◌≤◌, ◌<◌, length, replicate, set, None, Some};
 ghost use Rattle.parlog.specs.Tables.{binding_at, binding_by, binding_bytes, binding_of, cell_size, number_code, sort_code, vars_in};
 ghost use Rattle.vars.specs.Cells.{Cells, put_cell};
 
@@ -9,32 +10,14 @@ use parlog::{Term, codes};
 
 // ---- numbers of three bytes, and terms as sort and number
 
-fn low(v: u32) -> u8
-    ensures { result ≡ v % 256 }
-{
-    (v % 256) as u8
-}
-
-fn middle(v: u32) -> u8
-    ensures { result ≡ v / 256 % 256 }
-{
-    (v / 256 % 256) as u8
-}
-
-fn top(v: u32) -> u8
-    requires { v < 16777216 }
-    ensures { result ≡ v / 65536 }
-{
-    (v / 65536) as u8
-}
-
 // The number of three bytes, the low one first.
 pub fn join(a: u8, b: u8, c: u8) -> u32
     ensures { result ≡ a + b * 256 + c * 65536 }
 {
-    (a as u32) + (b as u32) * 256 + (c as u32) * 65536
+    u32::from_le_bytes([a, b, c, 0])
 }
 
+// Kept: a `From` would be the same match.
 fn sort_of(t: Term) -> u8
     ensures { result ≡ sort_code (Some t) }
 {
@@ -48,23 +31,22 @@ fn number_of(t: Term) -> u32
     ensures { result ≡ number_code (Some t) }
 {
     match t {
-        Term::Const(c) => c,
-        Term::Var(v) => v,
+        Term::Const(k) | Term::Var(k) => k,
     }
 }
 
+#[tactic(auto, unfolding(parlog::specs::Tables::binding_by))]
 fn binding_by(sort: u8, number: u32) -> Option<Term>
     ensures { result ≡ binding_by sort number }
 {
-    if sort == codes::UNBOUND {
-        return None;
+    match sort {
+        codes::UNBOUND => None,
+        codes::CONSTANT => Some(Term::Const(number)),
+        _ => Some(Term::Var(number)),
     }
-    if sort == codes::CONSTANT {
-        return Some(Term::Const(number));
-    }
-    Some(Term::Var(number))
 }
 
+#[tactic(auto, unfolding(parlog::specs::Tables::binding_at))]
 fn get_binding(vars: &[u8], v: usize) -> Option<Term>
     requires { v * cell_size + cell_size ≤ length vars.now }
     ensures { result ≡ binding_at vars.now v }
@@ -81,11 +63,11 @@ pub fn put_bound(vars: &mut [u8], v: usize, t: Term)
     ensures { vars.new ≡ put_cell vars.old v (binding_bytes (Some t)) }
 {
     let b = v * codes::CELL_SIZE;
-    let number = number_of(t);
+    let number = number_of(t).to_le_bytes();
     vars[b] = sort_of(t);
-    vars[b + 1] = low(number);
-    vars[b + 2] = middle(number);
-    vars[b + 3] = top(number);
+    vars[b + 1] = number[0];
+    vars[b + 2] = number[1];
+    vars[b + 3] = number[2];
 }
 
 // The binding of variable v of the first n; past them, unbound.

@@ -9,6 +9,7 @@ ghost use Rattle.parlog.specs.Tables.{procs_of, row_size};
 use parlog::{Process, codes};
 
 // A process is suspended.
+// Kept as a function of one record: a required form of docs/DECISIONS.md.
 pub fn is_suspended(x: Process) -> bool
     ensures { result ≡ is_mode suspended x.mode }
 {

@@ -4,11 +4,12 @@ use Rattle.std.specs.Prelude.{Err, Ok}
 use mathlib.Core.Path.{◌∙◌, ◌≡◌, ap}
 use mathlib.Core.Bool.{Bool, false, true}
 use mathlib.Core.List.{List}
-use Prim.Native.Nat.{◌<◌, ◌≤◌, ℕ}
+use Prim.Native.Nat.{◌≤◌, min, ℕ}
 use lib.Dec.{ltb}
 use lib.ListN.{length}
-use borrow.Author.Tests.{le-ltb, lt-ltb}
+use borrow.Author.Tests.{le-ltb, ltb-false, ltb-true}
 use native.Mathlib.Omega.{arith}
+use Rattle.parlog.proofs.Bools.{split}
 use Rattle.parlog.specs.Calls.{enter, entered, Entry, turned_away}
 use Rattle.parlog.specs.Limits.{Limits}
 use Rattle.parlog.specs.Load.{load_of}
@@ -22,12 +23,11 @@ use Rattle.words.proofs.Fitting.{enter-within, EntryWithin, load_fits}
 use Rattle.words.specs.Fits.{RefusalFits}
 use Rattle.words.specs.Nights.{resume_numbers, SaveFits, told_offset, told_refusal}
 
--- a number over 32 bits, and one that fits
-pub told_over : (n : ℕ) → 4294967295 < n → 4294967295 ≡ told_offset n
-told_over n h = rw (lt-ltb 4294967295 n h)
-
-pub told-all : (n : ℕ) → n ≤ 4294967295 → n ≡ told_offset n
-told-all n h = rw (le-ltb 4294967295 n h)
+-- a number as it can be told
+pub told-min : (n : ℕ) → min n 4294967295 ≡ told_offset n
+told-min n = split (ltb 4294967295 n)
+    (λ e. let h = ltb-true 4294967295 n e in rw e (omega arith))
+    (λ e. let h = ltb-false 4294967295 n e in rw e (omega arith))
 
 pub told-near : (r : Refusal) → r.offset ≤ 4294967295 → r ≡ told_refusal r
 told-near r h = rw (le-ltb 4294967295 r.offset h)

@@ -66,12 +66,12 @@ fn number_of(t: Term) -> usize
     ensures { (result ≡ (variable t).number) × (result ≤ 4294967295) }
 {
     match t {
-        Term::Const(c) => c as usize,
-        Term::Var(v) => v as usize,
+        Term::Const(k) | Term::Var(k) => k as usize,
     }
 }
 
 // What there is to tell of a move, rule by rule.
+// Kept: a line for each rule; a `From` would be the same match.
 fn tell(m: Move) -> Told
     requires { MoveWithin 4294967295 m }
     ensures { ToldSays m result.0 result.1 result.2 }
@@ -149,6 +149,7 @@ pub fn step_word(a: Answer<Move>) -> u64
 // ---- a run, a supply, a look, a watch
 
 // The number of an end.
+// Kept: C is told these numbers, so that each stands beside its case.
 fn end_number(e: End) -> u8
     ensures { result ≡ end_number e }
 {
@@ -234,10 +235,7 @@ pub fn watch_word(a: Option<usize>) -> u64
 pub fn told_number(n: usize) -> usize
     ensures { (result ≡ told_offset n) × (result ≤ 4294967295) }
 {
-    if MOST_NUMBER < n {
-        return MOST_NUMBER;
-    }
-    n
+    n.min(MOST_NUMBER)
 }
 
 // A refusal as it can be told, its offset so.

@@ -44,7 +44,7 @@ fn term(w: &mut Writer, s: &Source, at: usize)
     ensures { Wrote w.old (term_text s.now.relations s.now.names.row.now (term_at s.now.image.now at)) (term_named s.now.relations s.now.names.row.now (term_at s.now.image.now at)) w.new }
 {
     match place::term_at(s.image, at) {
-        Term::Const(c) => w.name(&s.names, s.relations + basics::wide_u32(c)),
+        Term::Const(c) => w.name(&s.names, s.relations + c as usize),
         Term::Var(v) => w.put(letter(v)),
     }
 }

@@ -8,4 +8,4 @@ returns-then-i-eq0 c = rw (eq-eqb _ _ c.if-i-eq0.true)
 
 pub returns : goal.returns
 unfolding is_child
-returns c = rw (ne_eqb _ _ c.if-i-eq0.false, c.wide_u16.ensures, c.parent_at.ensures)
+returns c = rw (ne_eqb _ _ c.if-i-eq0.false, c.from.ensures, c.parent_at.ensures)

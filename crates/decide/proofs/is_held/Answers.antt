@@ -3,4 +3,4 @@ use Rattle.decide.proofs.is_held.Goals as goal
 
 pub returns : goal.returns
 unfolding held_by
-returns c = rw (← c.is_input-input.ensures) c.or.ensures
+returns c = rw (← c.is_input.ensures)

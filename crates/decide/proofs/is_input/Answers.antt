@@ -5,20 +5,17 @@ use Rattle.decide.proofs.Laws.{input-done, input-hit, input-miss}
 use Rattle.decide.proofs.Pairs.{top-shifted}
 use Rattle.decide.proofs.is_input.Goals as goal
 
-pub loop-i-init : goal.loop-i-init
-loop-i-init c = (search rules, search rules, refl)
-
 pub shift-t-requires : goal.shift-t-requires
 shift-t-requires c = omega (arith, c.requires.4 c.loop-i.i c.loop-i-test.true)
 
 pub value_of-x-requires : goal.value_of-x-requires
 value_of-x-requires c = (search rules, top-shifted _ _ _ c.shift-t.ensures (c.requires.4 c.loop-i.i c.loop-i-test.true))
 
-pub returns-then-hit : goal.returns-then-hit
-returns-then-hit c = input-hit _ _ _ _ _ _ _ (omega arith) (omega arith) c.loop-i-test.true c.shift-t.ensures c.value_of-x.ensures c.is_var-yes.ensures c.and-hit.ensures c.if-hit.true ∙ c.loop-i.invariant.2
+pub returns-then-h-i : goal.returns-then-h-i
+returns-then-h-i c = input-hit _ _ _ _ _ _ _ (omega arith) (omega arith) c.loop-i-test.true c.shift-t.ensures c.value_of-x.ensures c.is_var-yes.ensures refl c.if-h-i.true ∙ c.loop-i.invariant
 
 pub loop-i-preserved : goal.loop-i-preserved
-loop-i-preserved c = (search rules, search rules, input-miss _ _ _ _ _ _ _ (omega arith) (omega arith) c.loop-i-test.true c.shift-t.ensures c.value_of-x.ensures c.is_var-yes.ensures c.and-hit.ensures c.if-hit.false ∙ c.loop-i.invariant.2)
+loop-i-preserved c = input-miss _ _ _ _ _ _ _ (omega arith) (omega arith) c.loop-i-test.true c.shift-t.ensures c.value_of-x.ensures c.is_var-yes.ensures refl c.if-h-i.false ∙ c.loop-i.invariant
 
 pub returns : goal.returns
-returns c = input-done _ _ _ _ _ _ _ (omega arith) (omega arith) c.loop-i-test.false ∙ c.loop-i.invariant.2
+returns c = input-done _ _ _ _ _ _ _ (omega arith) (omega arith) c.loop-i-test.false ∙ c.loop-i.invariant

@@ -1,12 +1,16 @@
-use borrow.Author.Rules.{rules}
-use borrow.Author.Tests.{eq-eqb, ne_eqb}
+use mathlib.Core.Path.{◌≡◌}
+use mathlib.Core.Bool.{Bool, cond, false, not, true}
+use Prim.Native.Nat.{◌+◌, ◌≤◌, ℕ}
+use lib.Dec.{eqb}
+use native.Mathlib.Omega.{arith}
+use mir.Val.{bool_byte}
 use Rattle.parlog.specs.Unify.{out_after}
 use Rattle.decide.proofs.out_after.Goals as goal
 
-pub returns-then-m-eq0 : goal.returns-then-m-eq0
-unfolding out_after
-returns-then-m-eq0 c = (simp (eq-eqb _ _ c.if-m-eq0.true), search rules)
+after : (b : Bool) (out v : ℕ) → v ≡ bool_byte (not b) → (out + v ≡ cond b out (out + 1)) × (out + v ≤ out + 1)
+after true out v e = let u : v ≡ 0 = e in (omega arith, omega arith)
+after false out v e = let u : v ≡ 1 = e in (omega arith, omega arith)
 
-pub returns-else-m-eq0 : goal.returns-else-m-eq0
+pub returns : goal.returns
 unfolding out_after
-returns-else-m-eq0 c = (simp (ne_eqb _ _ c.if-m-eq0.false), search rules)
+returns c = after (eqb c.args.m 0) _ _ c.from.ensures

@@ -2,5 +2,4 @@ use Rattle.lay.proofs.Laws.{lays-then}
 use Rattle.lay.proofs.put2.Goals as goal
 
 pub returns : goal.returns
-returns c =
-    rw (← c.low.ensures, ← c.low-2.ensures) (lays-then c.put-next.ensures c.put.ensures)
+returns c = lays-then c.put-next.ensures c.put.ensures

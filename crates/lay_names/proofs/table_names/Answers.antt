@@ -9,7 +9,7 @@ use native.Mathlib.Omega.{arith}
 use Rattle.lay_names.proofs.table_names.Goals as goal
 
 pub loop-q-preserved : goal.loop-q-preserved
-loop-q-preserved c = entry-on _ (front (drop (get_or c.args.table.now c.loop-q.q-index 0) c.args.s.now)) _ (names_at c.args.s.now (drop (c.loop-q.q-index + 1) c.args.table.now)) (table_on c.args.s.now c.args.table.now c.loop-q.q-index c.loop-q-test.true) (ap (λ (y : List ℕ). front y) c.inside.ensures.0) c.loop-q.invariant c.entry-to.ensures
+loop-q-preserved c = entry-on _ (front (drop (get_or c.args.table.now c.loop-q.q-index 0) c.args.s.now)) _ (names_at c.args.s.now (drop (c.loop-q.q-index + 1) c.args.table.now)) (table_on c.args.s.now c.args.table.now c.loop-q.q-index c.loop-q-test.true) (ap (λ (y : List ℕ). front y) c.within.ensures.0) c.loop-q.invariant c.entry-to.ensures
 
 pub returns : goal.returns
 returns c = entry-end _ (table-end c.args.s.now c.args.table.now c.loop-q.q-index (omega arith)) c.loop-q.invariant

@@ -11,7 +11,7 @@ pub bounds-links-chain : goal.bounds-links-chain
 bounds-links-chain c = let e = c.requires.2.size in omega (arith, chain-small (front (drop c.args.q c.args.s.now)))
 
 pub loop-k-init : goal.loop-k-init
-loop-k-init c = left-start c.args.s.now c.args.places.now c.args.links.now c.args.n (front (drop c.args.q c.args.s.now)) c.requires.2 c.args.chain _ c.requires.1 c.wide_u16-k.ensures
+loop-k-init c = left-start c.args.s.now c.args.places.now c.args.links.now c.args.n (front (drop c.args.q c.args.s.now)) c.requires.2 c.args.chain _ c.requires.1 c.from-k.ensures
 
 pub offset_bounds-places-i : goal.offset_bounds-places-i
 offset_bounds-places-i c = let e = c.loop-k.invariant.inside in let f = c.requires.2 in omega (arith, f.inside, f.small)
@@ -32,10 +32,10 @@ pub bounds-links-i : goal.bounds-links-i
 bounds-links-i c = let e = c.loop-k.invariant.inside in let f = c.requires.2 in let t = c.loop-k-test.true in omega (arith, f.inside, f.size)
 
 pub loop-k-smaller : goal.loop-k-smaller
-loop-k-smaller c = (left-more c.args.s.now c.args.places.now c.args.links.now c.args.n (front (drop c.args.q c.args.s.now)) c.requires.2 c.within-p.result c.loop-k.k _ c.loop-k-test.true c.within-p.ensures.0 c.same_name.ensures c.loop-k.invariant c.wide_u16-k-in-loop-k.result c.if-same_name.false c.wide_u16-k-in-loop-k.ensures).1
+loop-k-smaller c = (left-more c.args.s.now c.args.places.now c.args.links.now c.args.n (front (drop c.args.q c.args.s.now)) c.requires.2 c.within-p.result c.loop-k.k _ c.loop-k-test.true c.within-p.ensures.0 c.same_name.ensures c.loop-k.invariant c.from-k-in-loop-k.result c.if-same_name.false c.from-k-in-loop-k.ensures).1
 
 pub loop-k-preserved : goal.loop-k-preserved
-loop-k-preserved c = (left-more c.args.s.now c.args.places.now c.args.links.now c.args.n (front (drop c.args.q c.args.s.now)) c.requires.2 c.within-p.result c.loop-k.k _ c.loop-k-test.true c.within-p.ensures.0 c.same_name.ensures c.loop-k.invariant c.wide_u16-k-in-loop-k.result c.if-same_name.false c.wide_u16-k-in-loop-k.ensures).0
+loop-k-preserved c = (left-more c.args.s.now c.args.places.now c.args.links.now c.args.n (front (drop c.args.q c.args.s.now)) c.requires.2 c.within-p.result c.loop-k.k _ c.loop-k-test.true c.within-p.ensures.0 c.same_name.ensures c.loop-k.invariant c.from-k-in-loop-k.result c.if-same_name.false c.from-k-in-loop-k.ensures).0
 
 pub returns : goal.returns
 returns c = left_end c.args.s.now c.args.places.now c.args.links.now c.args.n (front (drop c.args.q c.args.s.now)) c.requires.2 c.loop-k.k (omega arith) c.loop-k.invariant

@@ -1,4 +1,4 @@
-use mathlib.Core.Path.{ap}
+use mathlib.Core.Path.{ap, refl}
 use Prim.Native.Nat.{◌+◌, ◌<◌, ◌≤◌, ℕ}
 use native.Mathlib.Omega.{arith}
 use Rattle.parlog.specs.Program.{in_block, opens, program_of}
@@ -22,7 +22,7 @@ loop-k-preserved c = let a = c.args in
     let rel = c.byte_at-rel.ensures.0 in
     let new = opens-turn a.s.now a.rels a.clauses p.k h at rel a.q c.byte_at-mark.ensures.0 p.invariant.4 c.opens-new.ensures in
     let count = tally-turn (opens pr a.q) p.k new p.invariant.5 c.more-count.ensures.0 in
-    let there = there-turn a.s.now a.rels a.clauses p.k h at rel a.q a.b count (ap (λ (x : ℕ). x + 1) c.wide-next.ensures.0) c.and-there.ensures in (
+    let there = there-turn a.s.now a.rels a.clauses p.k h at rel a.q a.b count (ap (λ (x : ℕ). x + 1) c.from-next.ensures) refl in (
       omega arith,
       omega arith,
       omega arith,

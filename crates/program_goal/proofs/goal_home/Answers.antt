@@ -1,3 +1,4 @@
+use mathlib.Core.Path.{refl}
 use native.Mathlib.Omega.{arith}
 use Rattle.program_goal.proofs.Homes.{home-clause, home-goal, home-none}
 use Rattle.program_goal.proofs.goal_home.Goals as goal
@@ -9,4 +10,4 @@ pub returns-then-clauses-number : goal.returns-then-clauses-number
 returns-then-clauses-number c = (home-none c.args.s.now _ _ _ c.if-kind-eq-THE_GOAL.false c.if-clauses-number.true, (omega arith, omega arith, omega arith))
 
 pub returns : goal.returns
-returns c = (home-clause c.args.s.now _ _ _ c.requires.2.heads c.if-clauses-number.false c.record_at-clause.ensures.0 c.if-kind-eq-THE_GOAL.false c.part_place-at.ensures.0 c.byte_at-stages-2.ensures.0 c.splits.ensures c.and-apart.ensures c.stages_left.ensures.0, (omega arith, omega arith, omega arith))
+returns c = (home-clause c.args.s.now _ _ _ c.requires.2.heads c.if-clauses-number.false c.record_at-clause.ensures.0 c.if-kind-eq-THE_GOAL.false c.part_place-at.ensures.0 c.byte_at-stages-2.ensures.0 c.splits.ensures refl c.stages_left.ensures.0, (omega arith, omega arith, omega arith))

@@ -1,8 +1,7 @@
-use Rattle.step.proofs.Deciding.{count-more, count_most}
+use native.Mathlib.Omega.{arith}
+use Rattle.step.proofs.Deciding.{count-capped}
+use mathlib.Core.Path.{◌∙◌}
 use Rattle.step.proofs.count.Goals as goal
 
-pub returns-then-steps-lt4294967295 : goal.returns-then-steps-lt4294967295
-returns-then-steps-lt4294967295 c = count-more _ c.if-steps-lt4294967295.true
-
 pub returns : goal.returns
-returns c = count_most _ c.if-steps-lt4294967295.false
+returns c = c.saturating_add.ensures ∙ count-capped c.args.steps (omega arith)

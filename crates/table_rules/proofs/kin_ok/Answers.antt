@@ -1,10 +1,11 @@
 use Rattle.parlog.specs.Tables.{procs_of}
 use Rattle.parlog.specs.Program.{program_of}
 use Rattle.table_rules.proofs.Rules.{kin-first, kin-none, kin-made}
+use mathlib.Core.Path.{refl}
 use Rattle.table_rules.proofs.kin_ok.Goals as goal
 
 pub returns-then-i-eq0 : goal.returns-then-i-eq0
-returns-then-i-eq0 c = kin-first (program_of c.args.image.now c.args.rels c.args.clauses) (procs_of c.args.procs.now c.args.count) c.args.x c.if-i-eq0.true c.tag_of_goal-goal.ensures.0 c.and.ensures c.and-then-i-eq0.ensures
+returns-then-i-eq0 c = kin-first (program_of c.args.image.now c.args.rels c.args.clauses) (procs_of c.args.procs.now c.args.count) c.args.x c.if-i-eq0.true c.tag_of_goal-goal.ensures.0 refl refl
 
 pub returns-then-i-parent : goal.returns-then-i-parent
 returns-then-i-parent c = kin-none (program_of c.args.image.now c.args.rels c.args.clauses) (procs_of c.args.procs.now c.args.count) c.args.x c.if-i-eq0.false c.if-i-parent.true

@@ -1,5 +1,6 @@
 use Rattle.parlog.specs.Program.{program_of}
 use Rattle.table_rules.proofs.Whole.{cells_fit, head-fits, lent-counts, lent-rest, lent-size, rows_fit}
+use mathlib.Core.Path.{refl}
 use Rattle.table_rules.proofs.lent_ok.Goals as goal
 
 pub returns-then-not-full : goal.returns-then-not-full
@@ -24,4 +25,4 @@ pub rows_ok-rows-requires : goal.rows_ok-rows-requires
 rows_ok-rows-requires c = (c.requires.0, c.requires.1, rows_fit c.args.most c.args.cap (program_of c.args.image.now c.args.rels c.args.clauses) c.args.head.now c.args.procs.now c.args.vars.now c.full_size-full.ensures (c.if-not-full.false) _ _ _ _ c.counts_ok-counts.ensures c.proc_count-count.ensures.0 c.var_count-n.ensures.0 c.marker_last-last.ensures.0 c.goal_vars-goal.ensures.0 (c.if-not-counts.false), c.requires.4)
 
 pub returns : goal.returns
-returns c = lent-rest c.args.most c.args.cap (program_of c.args.image.now c.args.rels c.args.clauses) c.args.head.now c.args.procs.now c.args.vars.now c.full_size-full.ensures (c.if-not-full.false) _ _ _ _ c.counts_ok-counts.ensures c.proc_count-count.ensures.0 c.var_count-n.ensures.0 c.marker_last-last.ensures.0 c.goal_vars-goal.ensures.0 (c.if-not-counts.false) c.cells_ok-cells.ensures c.rows_ok-rows.ensures c.and.ensures
+returns c = lent-rest c.args.most c.args.cap (program_of c.args.image.now c.args.rels c.args.clauses) c.args.head.now c.args.procs.now c.args.vars.now c.full_size-full.ensures (c.if-not-full.false) _ _ _ _ c.counts_ok-counts.ensures c.proc_count-count.ensures.0 c.var_count-n.ensures.0 c.marker_last-last.ensures.0 c.goal_vars-goal.ensures.0 (c.if-not-counts.false) c.cells_ok-cells.ensures c.rows_ok-rows.ensures refl

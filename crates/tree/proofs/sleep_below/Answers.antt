@@ -1,6 +1,12 @@
 use native.Mathlib.Omega.{arith}
 use Rattle.tree.proofs.Passing.{pass-end, pass-start}
+use mathlib.Core.Path.{refl}
 use Rattle.tree.proofs.sleep_below.Goals as goal
 
-pub returns-else-first-n : goal.returns-else-first-n
-returns-else-first-n c = let free = c.first_child-first.ensures in pass-end _ _ _ _ _ (pass-start _ _ _ _ c.requires.2 free.2) (omega (arith, free.0, free.1))
+pub sleep_from-requires : goal.sleep_from-requires
+sleep_from-requires c =
+    let f = rw c.in-Some.is at c.first_child.ensures in
+    (c.requires.0, c.requires.3, f.0, omega (arith, f.1), c.requires.2, f.2)
+
+pub returns-in_default : goal.returns-in_default
+returns-in_default c = pass-end _ _ _ _ _ (pass-start _ _ _ _ c.requires.2 (rw c.in_default.is at c.first_child.ensures)) refl
