@@ -4,7 +4,7 @@ use Rattle.parlog.specs.Answer.{Answer}
 use mathlib.Core.Path.{◌∙◌, ◌≡◌, ap, sym}
 use mathlib.Core.List.{[], ◌∷◌, List}
 use Prim.Native.Nat.{◌<◌, ◌≤◌, ℕ}
-use lib.ListN.{length, take}
+use lib.ListN.{length}
 use Rattle.bound_row.proofs.Rows.{bytes-length}
 use Rattle.bound_row.specs.Row.{bound_bytes}
 use Rattle.bound.proofs.Rows.{row-says, tell-fits, tell-short}
@@ -12,7 +12,7 @@ use Rattle.bound.specs.Calls.{RowSays, step_binds, step_bound_in, supply_bound_c
 use Rattle.entry.specs.Entered.{Inside}
 use Rattle.lay.specs.Lay.{laid}
 use Rattle.machine.specs.Supplying.{DecidedSays, SupplySays}
-use Rattle.move_plan.specs.Plans.{changes_of, delta_of}
+use Rattle.move_plan.specs.Plans.{delta_of}
 use Rattle.parlog.specs.Limits.{Limits}
 use Rattle.parlog.specs.Load.{refusal}
 use Rattle.parlog.specs.Program.{program_of}
@@ -22,7 +22,7 @@ use Rattle.parlog.specs.declared.Refusal.{Refusal}
 use Rattle.step.proofs.Stepping.{step-unmade, stepped-moved}
 use Rattle.step.specs.Stepping.{CarriedOut, PlannedSays, step_in}
 use Rattle.move_plan.specs.declared.Plan.{Plan}
-use Rattle.unify.specs.Pending.{vars_bound}
+use Rattle.unify.specs.Pending.{pending, vars_bound}
 
 -- ---- the step
 
@@ -35,13 +35,13 @@ module _ (lim : Limits) (s : List ℕ) (r c : ℕ) (l : Lent) (i : Inside lim s 
 
   module _ {pl : Plan} (z : d ≡ Ok pl) where
     abbrev vars-told : List ℕ
-    vars-told = vars_bound (take pl.changes.count pl.changes.list)
+    vars-told = vars_bound (pending pl.changes)
 
     abbrev tables-made : Tables
     tables-made = stepped (tables_in l) p (delta_of pl)
 
     binds-are : step_binds (program_of s r c) (tables_in l) p ≡ vars-told
-    unfolding step_binds delta_of changes_of
+    unfolding step_binds delta_of
     binds-are = rw (says.rule z)
 
     made_so : step_in lim s r c l p ≡ made pl.mv tables-made

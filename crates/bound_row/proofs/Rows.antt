@@ -10,7 +10,8 @@ use Rattle.bound_row.specs.Row.{bound_bytes, twos}
 use Rattle.lay.proofs.Laws.{laid_none, laid_then, lays-then}
 use Rattle.lay.specs.Lay.{laid, Lays, two}
 use Rattle.parlog.specs.declared.Change.{Change}
-use Rattle.unify.specs.Pending.{vars_bound}
+use Rattle.unify.specs.Pending.{pending, vars_bound}
+use Rattle.unify.specs.declared.waiting.Changes.{Changes}
 
 -- ---- how many bytes
 
@@ -26,17 +27,19 @@ bytes-length vs = let e = twos-length vs in omega arith
 pub vars-many : (cs : List Change) → length (vars_bound cs) ≡ length cs
 vars-many cs = length-map cs (λ c. c.var)
 
-pub size_is : (list : List Change) (count : ℕ) → count ≤ length list → 2 + 2 * count ≡ length (bound_bytes (vars_bound (take count list)))
-size_is list count h = sym (bytes-length (vars_bound (take count list)) ∙ rw (vars-many (take count list), length-take-le count list h))
+module _ (changes : Changes) (four : length changes.list ≡ 4) where
+  many : length (vars_bound (pending changes)) ≡ changes.count
+  unfolding pending
+  many = vars-many (take changes.count changes.list) ∙ length-take-le changes.count changes.list (omega (arith, changes.few))
 
--- ---- writing them
+  pub size_is : 2 + 2 * changes.count ≡ length (bound_bytes (vars_bound (pending changes)))
+  size_is = sym (bytes-length (vars_bound (pending changes)) ∙ rw many)
 
-pub tell-start : (list : List Change) (count : ℕ) → count ≤ length list → (o : List ℕ) {out : List ℕ} {at : ℕ} → Lays o out 0 (two count) at
-    → laid out at (twos (vars_bound (take count list))) ≡ laid o 0 (bound_bytes (vars_bound (take count list)))
-unfolding bound_bytes
-tell-start list count g o {out} {at} w =
-    let e : length (vars_bound (take count list)) ≡ count = vars-many (take count list) ∙ length-take-le count list g in
-    rw (e, w.row, w.place) (laid_then (two count) (twos (vars_bound (take count list))) o 0)
+  -- ---- writing them
+
+  pub tell-start : (o : List ℕ) {out : List ℕ} {at : ℕ} → Lays o out 0 (two changes.count) at → laid out at (twos (vars_bound (pending changes))) ≡ laid o 0 (bound_bytes (vars_bound (pending changes)))
+  unfolding bound_bytes
+  tell-start o {out} {at} w = rw (many, w.row, w.place) (laid_then (two changes.count) (twos (vars_bound (pending changes))) o 0)
 
 -- what is left to tell of a list, from its k-th change on
 module _ (cs : List Change) (k : ℕ) (out : List ℕ) (at : ℕ) {whole : List ℕ} (inv : laid out at (twos (vars_bound (drop k cs))) ≡ whole) where

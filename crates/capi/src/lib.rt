@@ -1,4 +1,5 @@
 // What a C program calls: numbers and byte rows alone. Each answer is one word. Crate capi_c exports these functions.
+// Kept, calls that are alike: the C interface has each by its name, with rows and numbers of its own.
 #![tactic(auto)]
 
 ghost use Rattle.capi.specs.Tells.{LoadTells, ParseTells, PrintTells, ReplayTells, ResumeTells, RunTells, RunTracedTells, SaveTells, StartTells, StepBoundTells, StepTells, StepTracedTells, SupplyBoundTells, SupplyTells, SupplyTracedTells, TurnBoundTells, TurnTells, ValuesTells, ValueTells, WatchTells};

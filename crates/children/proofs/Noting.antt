@@ -1,7 +1,7 @@
 -- The note of a process through the pass: at its start, after each row, and what it tells at the end.
 use Rattle.std.specs.Prelude.{Option, Some, None}
 use mathlib.Core.Path.{◌∙◌, ◌≡◌, refl, sym}
-use mathlib.Core.Bool.{◌&&◌, ◌||◌, and_assoc, and_comm, Bool, cond, false, not, or_assoc, or_comm, true}
+use mathlib.Core.Bool.{◌&&◌, ◌||◌, and_assoc, and_comm, Bool, cond, false, not, or_assoc, or_comm, true, or-false}
 use mathlib.Core.List.{[], List}
 use Prim.Native.Nat.{◌<◌, suc, zero, ℕ}
 use lib.Dec.{eqb}
@@ -13,7 +13,8 @@ use Rattle.children.specs.Notes.{found_by, heard_by, heard_in, latest_in, news_i
 use Rattle.children.specs.Telling.{heard_of, Tells}
 use Rattle.children.specs.declared.Note.{Note}
 use Rattle.children.specs.declared.Told.{Told}
-use Rattle.parlog.proofs.Bools.{not_so, or-false, or-none, split}
+use Rattle.std.proofs.lemmas.Bool.{false_from_ne_true, or_parts}
+use Rattle.parlog.proofs.Bools.{split}
 use Rattle.parlog.proofs.Kin.{not-both, reports-at}
 use Rattle.parlog.specs.Codes.{failure, success}
 use Rattle.parlog.specs.Scan.{every, highest, implies, lowest, or_else, some}
@@ -43,7 +44,7 @@ low-move None false false q v = refl
 -- success and failure are not told together
 exclusive : (ps : List Process) (c : ℕ) → not (reports success (at ps c) && reports failure (at ps c)) ≡ true
 exclusive ps c = split (reports success (at ps c))
-    (λ a. rw (a, not_so (reports failure (at ps c)) (λ b. not-both here c (reports-at here c success a) (reports-at here c failure b))))
+    (λ a. rw (a, false_from_ne_true (reports failure (at ps c)) (λ b. not-both here c (reports-at here c success a) (reports-at here c failure b))))
     (λ a. rw a)
   where
     here : State
@@ -56,7 +57,7 @@ pub noted-start : (ps : List Process) (p n v w : ℕ) → n ≡ length ps → No
 unfolding any_child all_children lowest_child heard latest
 noted-start ps p n v w e = rw e (record {
   small = omega arith;
-  failed = or-none (some (child_reports failure ps p) (length ps));
+  failed = or-false (some (child_reports failure ps p) (length ps));
   succeeded = and_comm (every (child_done success ps p) (length ps)) true;
   hopeless = and_comm (every (child_done failure ps p) (length ps)) true;
   lowest = or_nothing (lowest (child_reports success ps p) (length ps));
@@ -128,7 +129,7 @@ module _ (ps : List Process) (p q : ℕ) (x : Note) (so : Noted ps p (suc q) x) 
     told-highest = rw e
 
     late-here : (z : Bool) → eqb s 0 ≡ z → cond (cond z (a || b) (latest_in s)) (heard_in (at ps (cond (z && (a || b)) q x.latest)) (cond (z && (a || b)) q x.latest)) silent ≡ heard ps p
-    late-here true w = split (a || b) (λ y. rw y heard-now) (λ y. let (u, v) = or-false a b y in rw y ((rw (u, v) at heard-now)))
+    late-here true w = split (a || b) (λ y. rw y heard-now) (λ y. let (u, v) = or_parts a b y in rw y ((rw (u, v) at heard-now)))
       where
         heard-now : heard_in (at ps q) q ≡ heard ps p
         heard-now = unfold heard_from in (rw (w, told-highest) at so.latest)

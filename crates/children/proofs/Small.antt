@@ -5,7 +5,8 @@ use Prim.Native.Nat.{◌<◌, ℕ}
 use lib.Dec.{eqb, ltb}
 use borrow.Author.Tests.{ltb-true}
 use Rattle.children.specs.Notes.{bad_note, good_note, hear, latest_in, none_silent, silent_bit, some_bad, some_good}
-use Rattle.parlog.proofs.Bools.{and-true, implies_true}
+use Rattle.std.proofs.lemmas.Bool.{and_parts}
+use Rattle.parlog.proofs.Bools.{implies_true}
 use Rattle.parlog.proofs.Scans.{every-at}
 use Rattle.parlog.specs.Scan.{every, implies}
 
@@ -16,10 +17,10 @@ abbrev pub answers : (Bool → Bool → Bool) → Bool
 answers t = (t true true && t true false) && (t false true && t false false)
 
 pub answered : (t : Bool → Bool → Bool) (a b : Bool) → answers t ≡ true → t a b ≡ true
-answered t true true e = (and-true (t true true) (t true false) (and-true (t true true && t true false) (t false true && t false false) e).0).0
-answered t true false e = (and-true (t true true) (t true false) (and-true (t true true && t true false) (t false true && t false false) e).0).1
-answered t false true e = (and-true (t false true) (t false false) (and-true (t true true && t true false) (t false true && t false false) e).1).0
-answered t false false e = (and-true (t false true) (t false false) (and-true (t true true && t true false) (t false true && t false false) e).1).1
+answered t true true e = (and_parts (t true true) (t true false) (and_parts (t true true && t true false) (t false true && t false false) e).0).0
+answered t true false e = (and_parts (t true true) (t true false) (and_parts (t true true && t true false) (t false true && t false false) e).0).1
+answered t false true e = (and_parts (t false true) (t false false) (and_parts (t true true && t true false) (t false true && t false false) e).1).0
+answered t false false e = (and_parts (t false true) (t false false) (and_parts (t true true && t true false) (t false true && t false false) e).1).1
 
 -- two tests have the same answer
 abbrev pub agree : Bool → Bool → Bool

@@ -4,16 +4,14 @@ use Rattle.std.specs.Bool.{then_some}
 use mathlib.Core.Path.{◌≡◌, refl}
 use mathlib.Core.Bool.{Bool, cond, false, true}
 use mathlib.Core.List.{List}
-use Prim.Native.Nat.{◌%◌, ◌-◌, ◌/◌, ◌<◌, suc, ℕ}
+use Prim.Native.Nat.{ℕ}
 use lib.Dec.{eqb}
 use borrow.Author.Tests.{ne_eqb}
-use native.Mathlib.Omega.{arith}
 use Rattle.children.proofs.Small.{says}
-use Rattle.children.specs.Notes.{bad_note, found_by, good_note, heard_in, latest_bit, news_in, Noted, note_of, silent_bit}
+use Rattle.children.specs.Notes.{bad_note, found_by, good_note, heard_in, Noted, note_of, silent_bit}
 use Rattle.children.specs.declared.Note.{Note}
 use Rattle.parlog.specs.Codes.{failure, success}
-use Rattle.parlog.specs.Tables.{at}
-use Rattle.parlog.specs.Tree.{bad, good, Heard, reports, silent}
+use Rattle.parlog.specs.Tree.{bad, good, reports, silent}
 use Rattle.parlog.specs.declared.Process.{Process}
 
 -- ---- what a process tells its parent
@@ -57,20 +55,7 @@ module _ (x : Process) (c : ℕ) {f : ℕ} (ef : f ≡ note_of x) where
   pub heard-silent : (f ≡ good_note → ⊥) → (f ≡ bad_note → ⊥) → silent ≡ heard_in x c
   heard-silent a b = rw (heard-by, ne_eqb f good_note a, ne_eqb f bad_note b)
 
--- ---- what the latest has reported
-
-module _ (ps : List Process) (x : Note) where
-  pub news-none : (x.said / latest_bit % 2 ≡ 1 → ⊥) → silent ≡ news_in ps x
-  news-none ne = rw (ne_eqb (x.said / latest_bit % 2) 1 ne)
-
-  pub news-some : x.said / latest_bit % 2 ≡ 1 → {h : Heard} {c : ℕ} → c ≡ x.latest → h ≡ heard_in (at ps c) c → h ≡ news_in ps x
-  news-some e ec eh = rw (e, ← ec) eh
-
 -- ---- the pass
-
--- the row before
-pub noted-less : (ps : List Process) (p q : ℕ) (x : Note) → 0 < q → Noted ps p q x → Noted ps p (suc (q - 1)) x
-noted-less ps p q x h so = let e : suc (q - 1) ≡ q = omega arith in rw e so
 
 pub noted-end : (ps : List Process) (p q : ℕ) (x : Note) → q ≡ 0 → Noted ps p q x → Noted ps p 0 x
 noted-end ps p q x e so = rw e at so

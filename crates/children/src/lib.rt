@@ -1,14 +1,16 @@
 // What the children of a process report, heard one by one from the last row down.
 #![tactic(auto)]
 
-ghost use Rattle.std.specs.Prelude.{◌≡◌, false, ◌*◌, ◌≤◌, suc, ℕ, length, None};
-ghost use Rattle.parlog.specs.Tables.{at, procs_of, row_size};
+ghost use Rattle.rows.specs.Views.{processes_in};
+ghost use Rattle.std.specs.Prelude.{◌≡◌, false, ◌≤◌, suc, ℕ, None};
+ghost use Rattle.parlog.specs.Tables.{at};
 ghost use Rattle.parlog.specs.Tree.{is_child};
 ghost use Rattle.children.specs.declared.News.TheVariants.{Silent};
 ghost use Rattle.children.specs.Notes.{hear, heard_by, heard_in, news_in, none_silent, note_of, Noted, some_bad, some_good};
 ghost use Rattle.children.specs.Telling.{heard_of, Tells};
 
 use parlog::codes;
+use rows::Processes;
 
 // ---- what was said, in bits: one reports nothing, one success, one failure, and the latest reports
 // Kept: bits, no enum. To hear a child is one store, and one note has what all of them said.
@@ -58,6 +60,7 @@ pub struct Note {
 }
 
 // What is handed on for a process that does not ask.
+// Kept, no `Default`: `News` would need one too, in which the case for nothing has to be named all the same.
 pub fn nothing() -> Told
     ensures { (result.failed ≡ false) × (result.succeeded ≡ false) × (result.hopeless ≡ false) × (result.lowest ≡ None) × (result.latest ≡ Silent) }
 {
@@ -73,12 +76,11 @@ pub fn nothing() -> Told
 // ---- one child more
 
 // What process i tells its parent.
-pub fn note_of(procs: &[u8], n: usize, i: usize) -> u8
-    requires { n * row_size ≤ length procs.now }
-    ensures { result ≡ note_of (at (procs_of procs.now n) i) }
+pub fn note_of(procs: &Processes, i: usize) -> u8
+    ensures { result ≡ note_of (at (processes_in procs.now) i) }
 {
-    if rows::mode_at(procs, n, i) == codes::REPORTING {
-        let told = rows::result_at(procs, n, i);
+    if procs.mode_at(i) == codes::REPORTING {
+        let told = procs.result_at(i);
         if told == codes::SUCCESS {
             return SUCCEEDED;
         }
@@ -116,6 +118,7 @@ fn hear(x: Note, f: u8, q: u16) -> Note
 
 // ---- what a note says
 
+// Kept, a function for each: a line that is called has no shorter form, and each says another thing of the note.
 pub fn some_bad(s: u8) -> bool
     ensures { result ≡ some_bad s }
 {
@@ -135,11 +138,10 @@ pub fn none_silent(s: u8) -> bool
 }
 
 // What process c has reported.
-fn heard_from(procs: &[u8], n: usize, c: usize) -> News
-    requires { n * row_size ≤ length procs.now }
-    ensures { heard_of result ≡ heard_in (at (procs_of procs.now n) c) c }
+fn heard_from(procs: &Processes, c: usize) -> News
+    ensures { heard_of result ≡ heard_in (at (processes_in procs.now) c) c }
 {
-    let f = note_of(procs, n, c);
+    let f = note_of(procs, c);
     if f == SUCCEEDED {
         return News::Good(c);
     }
@@ -150,20 +152,18 @@ fn heard_from(procs: &[u8], n: usize, c: usize) -> News
 }
 
 // What the latest has reported.
-fn heard(procs: &[u8], n: usize, x: Note) -> News
-    requires { n * row_size ≤ length procs.now }
-    ensures { heard_of result ≡ news_in (procs_of procs.now n) x }
+fn heard(procs: &Processes, x: Note) -> News
+    ensures { heard_of result ≡ news_in (processes_in procs.now) x }
 {
     if x.said / LATEST % 2 == 1 {
-        return heard_from(procs, n, usize::from(x.latest));
+        return heard_from(procs, usize::from(x.latest));
     }
     News::Silent
 }
 
 // What the note tells once every row was heard.
-pub fn told_by(procs: &[u8], n: usize, x: Note) -> Told
-    requires { n * row_size ≤ length procs.now }
-    ensures { (p : ℕ) → Noted (procs_of procs.now n) p 0 x → Tells (procs_of procs.now n) p result }
+pub fn told_by(procs: &Processes, x: Note) -> Told
+    ensures { (p : ℕ) → Noted (processes_in procs.now) p 0 x → Tells (processes_in procs.now) p result }
 {
     let failed = some_bad(x.said);
     let good = some_good(x.said);
@@ -173,47 +173,46 @@ pub fn told_by(procs: &[u8], n: usize, x: Note) -> Told
         succeeded: !failed && spoke,
         hopeless: !good && spoke,
         lowest: good.then_some(usize::from(x.lowest)),
-        latest: heard(procs, n, x),
+        latest: heard(procs, x),
     }
 }
 
 // ---- one process's children
 
 // Process i counts as a child of p, also where it is dormant.
-fn is_child(procs: &[u8], n: usize, p: usize, i: usize) -> bool
-    requires { n * row_size ≤ length procs.now }
-    ensures { result ≡ is_child (procs_of procs.now n) p i }
+fn is_child(procs: &Processes, p: usize, i: usize) -> bool
+    ensures { result ≡ is_child (processes_in procs.now) p i }
 {
     if i == 0 {
         return false;
     }
-    usize::from(rows::parent_at(procs, n, i)) == p
+    usize::from(procs.parent_at(i)) == p
 }
 
 // Row q is heard if it is a child of p.
-fn listen(procs: &[u8], n: usize, p: usize, q: usize, x: Note) -> Note
-    requires { (n * row_size ≤ length procs.now) × (q ≤ 65535) × Noted (procs_of procs.now n) p (suc q) x }
-    ensures { Noted (procs_of procs.now n) p q result }
+fn listen(procs: &Processes, p: usize, q: usize, x: Note) -> Note
+    requires { (q ≤ 65535) × Noted (processes_in procs.now) p (suc q) x }
+    ensures { Noted (processes_in procs.now) p q result }
 {
-    if !is_child(procs, n, p, q) {
+    if !is_child(procs, p, q) {
         return x;
     }
-    let f = note_of(procs, n, q);
+    let f = note_of(procs, q);
     hear(x, f, q as u16)
 }
 
 // What the children of p report: one pass over the rows.
-pub fn asked(procs: &[u8], n: usize, p: usize) -> Told
-    requires { (n * row_size ≤ length procs.now) × (n ≤ 65535) }
-    ensures { Tells (procs_of procs.now n) p result }
+pub fn asked(procs: &Processes, p: usize) -> Told
+    requires { procs.now.count ≤ 65535 }
+    ensures { Tells (processes_in procs.now) p result }
 {
     let mut x = Note {
         said: 0,
         latest: 0,
         lowest: 0,
     };
-    for q in (0..n).rev() {
-        x = listen(procs, n, p, q, x);
+    for q in (0..procs.count).rev() {
+        x = listen(procs, p, q, x);
     }
-    told_by(procs, n, x)
+    told_by(procs, x)
 }

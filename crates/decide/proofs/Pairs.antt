@@ -1,6 +1,7 @@
 -- The laws of the pairs of a match, and the ways through match_of and equate_of.
 use Rattle.std.specs.Prelude.{Option}
 use mathlib.Core.Path.{◌∙◌, ◌≡◌, ap, refl, sym}
+use mathlib.Core.Bool.{Bool}
 use mathlib.Core.List.{[], ◌∷◌, List}
 use Prim.Native.Nat.{◌+◌, ◌≤◌, suc, zero, ℕ}
 use lib.Dec.{eqb, ltb}
@@ -10,6 +11,7 @@ use native.Mathlib.Omega.{arith}
 use Rattle.decide.proofs.Laws.{decide-cong}
 use Rattle.decide.specs.Decision.{Decides, held_by, Shifted}
 use Rattle.decide.specs.declared.Decision.{Decision}
+use Rattle.decide.specs.declared.arguments.Call.{Call}
 use Rattle.parlog.proofs.Bools.{or-none, split}
 use Rattle.parlog.specs.Program.{out_count}
 use Rattle.parlog.specs.Unify.{decide, equate_of, head_side, input_value, match_of, out_after, pair_of, pairs_of, shift}
@@ -88,32 +90,35 @@ below_one n p h g (suc k) lt = absurd (omega arith)
 -- ---- the ways through match_of and equate_of
 
 module _ (vs : List (Option Term)) {r : Decision} where
-  pub match_is : (n : ℕ) (ms : List ℕ) (xs : List Term) (base : ℕ) (ts : List Term) (first own : ℕ) {es : List Pair} → es ≡ pairs_of ms xs base ts first own
-      → Decides (decide vs (take n es) (held_by vs xs (record { bar = 0; arity = n; modes = ms; base = base }))) r
-      → Decides (match_of vs (take n ms) (take n xs) base (take n ts) first own) r
+  pub match_is : (call : Call) (ts : List Term) (first own : ℕ) {es : List Pair} → es ≡ pairs_of call.modes call.args call.base ts first own
+      → Decides (decide vs (take call.arity es) (held_by vs (record { bar = 0; call = call }))) r
+      → Decides (match_of vs (take call.arity call.modes) (take call.arity call.args) call.base (take call.arity ts) first own) r
   unfolding match_of
-  match_is n ms xs base ts first own {es} e h =
+  match_is call ts first own {es} e h =
       rw same at h
     where
-      test : (v : ℕ) → held_by vs xs (record { bar = 0; arity = n; modes = ms; base = base }) v ≡ input_value vs (take n ms) (take n xs) base v
+      inputs : ℕ → Bool
+      inputs = input_value vs (take call.arity call.modes) (take call.arity call.args) call.base
+
+      test : (v : ℕ) → held_by vs (record { bar = 0; call = call }) v ≡ inputs v
       test v = unfold held_by in (rw (le-ltb v 0 (omega arith)))
 
-      same : decide vs (take n es) (held_by vs xs (record { bar = 0; arity = n; modes = ms; base = base }))
-          ≡ decide vs (pairs_of (take n ms) (take n xs) base (take n ts) first own) (input_value vs (take n ms) (take n xs) base)
+      same : decide vs (take call.arity es) (held_by vs (record { bar = 0; call = call }))
+          ≡ decide vs (pairs_of (take call.arity call.modes) (take call.arity call.args) call.base (take call.arity ts) first own) inputs
       same =
-          decide-cong vs (take n es) _ (input_value vs (take n ms) (take n xs) base) test
-          ∙ ap (λ (q : List Pair). decide vs q (input_value vs (take n ms) (take n xs) base)) (rw e (take-pairs n ms xs ts base first own))
+          decide-cong vs (take call.arity es) _ inputs test
+          ∙ ap (λ (q : List Pair). decide vs q inputs) (rw e (take-pairs call.arity call.modes call.args ts call.base first own))
 
-  pub equate-is : (t u : Term) (base bar : ℕ) (xs : List Term) {x y : Term} → x ≡ shift base t → y ≡ shift base u
-      → Decides (decide vs (record { left = x; right = y } ∷ []) (held_by vs xs (record { bar = bar; arity = 0; modes = 0 ∷ 0 ∷ 0 ∷ 0 ∷ []; base = base }))) r
-      → Decides (equate_of vs t u base bar) r
+  pub equate-is : (t u : Term) (bar : ℕ) (call : Call) → call.arity ≡ 0 → {x y : Term} → x ≡ shift call.base t → y ≡ shift call.base u
+      → Decides (decide vs (record { left = x; right = y } ∷ []) (held_by vs (record { bar = bar; call = call }))) r
+      → Decides (equate_of vs t u call.base bar) r
   unfolding equate_of
-  equate-is t u base bar xs {x} {y} ex ey h =
+  equate-is t u bar call z {x} {y} ex ey h =
       rw same at h
     where
-      test : (v : ℕ) → held_by vs xs (record { bar = bar; arity = 0; modes = 0 ∷ 0 ∷ 0 ∷ 0 ∷ []; base = base }) v ≡ ltb v bar
-      test v = unfold held_by input_value in (or-none (ltb v bar))
+      test : (v : ℕ) → held_by vs (record { bar = bar; call = call }) v ≡ ltb v bar
+      test v = unfold held_by input_value in (rw z (or-none (ltb v bar)))
 
-      same : decide vs (record { left = x; right = y } ∷ []) (held_by vs xs (record { bar = bar; arity = 0; modes = 0 ∷ 0 ∷ 0 ∷ 0 ∷ []; base = base }))
-          ≡ decide vs (record { left = shift base t; right = shift base u } ∷ []) (λ v. ltb v bar)
+      same : decide vs (record { left = x; right = y } ∷ []) (held_by vs (record { bar = bar; call = call }))
+          ≡ decide vs (record { left = shift call.base t; right = shift call.base u } ∷ []) (λ v. ltb v bar)
       same = decide-cong vs (record { left = x; right = y } ∷ []) _ (λ v. ltb v bar) test ∙ rw (ex, ey)

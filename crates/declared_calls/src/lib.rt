@@ -2,10 +2,11 @@
 #![tactic(auto)]
 
 ghost use Rattle.std.specs.Prelude.{◌≡◌, ◌+◌, ◌≤◌, length};
+ghost use Rattle.std.proofs.Props.{props};
 ghost use Rattle.declared_calls.specs.Declares.{all_named, Answers, class_declared, Cleared, declared_for, Declares, Names};
 ghost use Rattle.name_index.specs.Index.{Indexed};
 
-use missing_call::Asked;
+use missing_call::{Asked, Search};
 
 // The class that stands for all.
 const ALL: usize = missing_call::CLASSES;
@@ -17,6 +18,16 @@ pub struct Named {
     pub class: usize,
     pub count: usize,
     pub rest: usize,
+}
+
+// A text, the places and chains of a table of names of its mode lines, and what is told of that table.
+#[derive(Clone, Copy)]
+pub struct Table<'a> {
+    pub text: &'a [u8],
+    pub places: &'a [usize],
+    pub links: &'a [u16],
+    pub named: Named,
+    pub ghost declares: { Declares text.now places.now links.now named } by { Prim.hlevel props },
 }
 
 // ---- mode lines
@@ -34,6 +45,7 @@ fn told(m: usize, class: usize, n: usize, p: usize) -> Named
 }
 
 // The names of a class in the mode lines from place m on, each once, as long as there is room.
+// Kept, like `each_class` and `declared_behind`: text and place apart, with the place's bound asked for, as wherever a text is read from a place on; a struct of both would be made anew for each place.
 fn names(s: &[u8], m: usize, class: usize, places: &mut [usize], links: &mut [u16]) -> Named
     requires { (m ≤ length s.now) × Indexed s.now places.old links.old 0 }
     ensures { Names s.now places.old m class places.new links.new result }
@@ -69,33 +81,36 @@ fn clear(links: &mut [u16])
 
 // ---- calls
 
-// Each call of a table's class in up to `left` clauses from a place on and in the goal behind them has a mode line: the least name that the table does not have is looked for among the lines left over, then the next.
-fn class_declared(
-    s: &[u8],
-    places: &[usize],
-    links: &[u16],
-    named: Named,
-    from: usize,
-    left: usize,
-) -> bool
-    requires { (from ≤ length s.now) × Declares s.now places.now links.now named }
-    ensures { result ≡ class_declared s.now named.from named.class from left }
-{
-    let Named { class, count, .. } = named;
-    let mut bound = None;
-    loop {
-        let a = Asked {
-            class,
-            count,
-            bound,
-        };
-        let Some(at) = missing_call::least(s, places, links, a, from, left) else {
-            return true;
-        };
-        if read_names::relation(s, named.rest, at).arity.is_none() {
-            return false;
+impl Table<'_> {
+    // Each call of the table's class in up to `left` clauses from a place on and in the goal behind them has a mode line: the least name that the table does not have is looked for among the lines left over, then the next.
+    fn class_declared(&self, from: usize, left: usize) -> bool
+        requires { from ≤ length self.now.text.now }
+        ensures { result ≡ class_declared self.now.text.now self.now.named.from self.now.named.class from left }
+    {
+        let Named { class, count, .. } = self.named;
+        let mut bound = None;
+        loop {
+            let search = Search {
+                text: self.text,
+                places: self.places,
+                links: self.links,
+                asked: Asked {
+                    class,
+                    count,
+                    bound,
+                },
+            };
+            let Some(at) = search.least(from, left) else {
+                return true;
+            };
+            if read_names::relation(self.text, self.named.rest, at)
+                .arity
+                .is_none()
+            {
+                return false;
+            }
+            bound = Some(at);
         }
-        bound = Some(at);
     }
 }
 
@@ -112,7 +127,13 @@ pub fn declared(
     requires { (from ≤ length s.now) × Declares s.now places.now links.now (all_named s.now m n) }
     ensures { result ≡ declared_for s.now m from left }
 {
-    class_declared(s, places, links, told(m, ALL, n, s.len()), from, left)
+    let table = Table {
+        text: s,
+        places,
+        links,
+        named: told(m, ALL, n, s.len()),
+    };
+    table.class_declared(from, left)
 }
 
 // The same class by class, with the table filled anew for each.
@@ -130,7 +151,13 @@ fn each_class(
     for k in 0..missing_call::CLASSES {
         clear(links);
         let named = names(s, m, k, places, links);
-        if !class_declared(s, places, links, named, from, left) {
+        let table = Table {
+            text: s,
+            places,
+            links,
+            named,
+        };
+        if !table.class_declared(from, left) {
             return false;
         }
     }
@@ -147,7 +174,13 @@ pub fn declared_behind(s: &[u8], m: usize, places: &mut [usize], links: &mut [u1
     let from = rest.end;
     let left = s.len() - from;
     if rest.count == 0 {
-        return class_declared(s, places, links, named, from, left);
+        let table = Table {
+            text: s,
+            places,
+            links,
+            named,
+        };
+        return table.class_declared(from, left);
     }
     each_class(s, m, places, links, from, left)
 }

@@ -12,7 +12,7 @@ use native.Mathlib.Omega.{arith}
 use Rattle.entry.specs.Entered.{EnterSays, Inside}
 use Rattle.load.specs.Bounds.{Bounded}
 use Rattle.parlog.proofs.Assume.{assume-counts, full-sizes}
-use Rattle.parlog.proofs.Bools.{and-true}
+use Rattle.std.proofs.lemmas.Bool.{and_parts}
 use Rattle.parlog.specs.Calls.{enter}
 use Rattle.parlog.specs.Limits.{Limits}
 use Rattle.parlog.specs.Load.{load_of, refusal}
@@ -29,9 +29,9 @@ use Rattle.vars.proofs.Tables.{vars-length}
 pub lent-inside : (lim : Limits) (s : List ℕ) (r c : ℕ) (l : Lent) → load_of s ≡ Ok (r, c) → r ≤ 32 → c ≤ 64 → lent_ok lim (program_of s r c) l ≡ true → Inside lim s r c l
 unfolding lent_ok tables_ok tables_in
 lent-inside lim s r c l el hr hc e =
-    let a = and-true (full_size lim l) (every (cell_known l.vars) (var_count l.head) && tables_ok lim (program_of s r c) (tables_in l)) e in
-    let b = and-true (every (cell_known l.vars) (var_count l.head)) (tables_ok lim (program_of s r c) (tables_in l)) a.1 in
-    let t = and-true (state_ok lim (program_of s r c) (tables_in l).state) (ltb (marker_last l.head) (length (tables_in l).state.procs)) b.1 in
+    let a = and_parts (full_size lim l) (every (cell_known l.vars) (var_count l.head) && tables_ok lim (program_of s r c) (tables_in l)) e in
+    let b = and_parts (every (cell_known l.vars) (var_count l.head)) (tables_ok lim (program_of s r c) (tables_in l)) a.1 in
+    let t = and_parts (state_ok lim (program_of s r c) (tables_in l).state) (ltb (marker_last l.head) (length (tables_in l).state.procs)) b.1 in
     let k = assume-counts lim (program_of s r c) (tables_in l).state t.0 in
     let m = ltb-true (marker_last l.head) (length (tables_in l).state.procs) t.1 in
     let (h, p, v) = full-sizes lim l a.0 in
@@ -77,9 +77,3 @@ inside_of lim s l h e = rw e at h.inside
 
 pub indexed_of : (s ix : List ℕ) {a : Answer (ℕ × ℕ)} {r c : ℕ} → IndexedOf a s ix → a ≡ Ok (r, c) → Indexed s r c ix
 indexed_of s ix h e = rw e at h
-
-pub indexed-none : (s ix : List ℕ) {a : Answer (ℕ × ℕ)} {f : Refusal} → a ≡ Err f → IndexedOf a s ix
-indexed-none s ix e = rw e tt
-
-pub indexed-some : (s ix : List ℕ) {a : Answer (ℕ × ℕ)} {r c : ℕ} → a ≡ Ok (r, c) → Indexed s r c ix → IndexedOf a s ix
-indexed-some s ix e i = rw e i

@@ -7,7 +7,7 @@ use lib.ListN.{length}
 use native.Mathlib.Omega.{arith}
 use Rattle.head.proofs.Laws.{head-last, head-length, head-procs, head-steps, head-vars}
 use Rattle.parlog.proofs.Assume.{assume-counts, full-sizes, sizes-full}
-use Rattle.parlog.proofs.Bools.{and-true}
+use Rattle.std.proofs.lemmas.Bool.{and_parts}
 use Rattle.parlog.proofs.Kept.{fresh_keeps}
 use Rattle.parlog.proofs.Rows.{rows-length, written_over}
 use Rattle.parlog.specs.Limits.{Limits, Usable}
@@ -104,7 +104,7 @@ put-over l t u more_procs more_vars rows cells =
 
 pub tables-state : (lim : Limits) (pr : Program) (t : Tables) → tables_ok lim pr t ≡ true → state_ok lim pr t.state ≡ true
 unfolding tables_ok
-tables-state lim pr t ok = (and-true (state_ok lim pr t.state) (ltb t.last (length t.state.procs)) ok).0
+tables-state lim pr t ok = (and_parts (state_ok lim pr t.state) (ltb t.last (length t.state.procs)) ok).0
 
 module _ (lim : Limits) (pr : Program) (l : Lent) (t : Tables) (full : full_size lim l ≡ true) (ok : tables_ok lim pr t ≡ true) where
   pub rows_fit : length t.state.procs * row_size ≤ length l.procs

@@ -1,20 +1,20 @@
 -- Places of entries, one behind the other.
-use mathlib.Core.Path.{◌∙◌, ◌≡◌, ap, refl, sym}
-use mathlib.Core.Bool.{◌&&◌, Bool, false, true}
+use mathlib.Core.Path.{ap, refl, sym, ◌∙◌, ◌≡◌}
+use mathlib.Core.Bool.{Bool, false, true, ◌&&◌}
 use mathlib.Core.List.{List}
-use Prim.Native.Nat.{◌*◌, ◌+◌, ◌-◌, ◌/◌, ◌<◌, ◌≤◌, suc, zero, ℕ}
+use Prim.Native.Nat.{suc, zero, ℕ, ◌*◌, ◌+◌, ◌-◌, ◌<◌, ◌≤◌}
 use lib.Dec.{eqb}
 use lib.ListN.{drop, drop_of_length-le, get_or, length, length-set, set}
 use lib.Seq.{drop-cons, get_or-set_other, get_or-set_same}
-use mir.Val.{bool_byte}
 use borrow.Author.Tests.{eq-eqb, eqb-false, eqb-true, ne_eqb}
 use native.Mathlib.Omega.{arith}
-use native.Mathlib.Nat.{div-mul-le_self, le_trans, mul_assoc, mul-le-mul_right, mul_left_comm, suc-mul}
+use native.Mathlib.Nat.{mul_assoc, mul_left_comm, suc-mul}
 use native.Mathlib.Numerals.{add-one}
 use Rattle.entry_table.specs.Entered.{Entered, table_size}
 use Rattle.text_names.proofs.Rest.{empty-entry, first-at}
 use Rattle.text_names.specs.Bytes.{back, is_small}
 use Rattle.text_names.specs.Entries.{behind_entry, entry_from, is_entry}
+use mir.Val.{bool_byte}
 
 -- ---- walks
 
@@ -56,19 +56,6 @@ pub record Thinned (before after : List ℕ) (k : ℕ) : Type 0 where
   pub done : (j : ℕ) → j < k → get_or after j 0 ≡ get_or before (2 * j) 0
   pub kept : (j : ℕ) → k ≤ j → get_or after j 0 ≡ get_or before j 0
   pub same : length after ≡ length before
-
-pub thin-start : (t : List ℕ) → Thinned t t 0
-thin-start t = record { done = λ j h. absurd (omega arith); kept = λ j h. refl; same = refl }
-
-pub thin-turn : (o t : List ℕ) (k v : ℕ) → k < length t → v ≡ get_or t (2 * k) 0 → Thinned o t k → Thinned o (set t k v) (k + 1)
-thin-turn o t k v h e i = record { done = done_at; kept = λ j g. get_or-set_other t k j v 0 (λ f. absurd (omega (arith, f))) ∙ i.kept j (omega arith); same = length-set t k v ∙ i.same }
-  where
-    done_at : (j : ℕ) → j < k + 1 → get_or (set t k v) j 0 ≡ get_or o (2 * j) 0
-    done_at j g = go (eqb j k) refl
-      where
-        go : (b : Bool) → eqb j k ≡ b → get_or (set t k v) j 0 ≡ get_or o (2 * j) 0
-        go true f = let z = eqb-true j k f in rw z (get_or-set_same t k v 0 h ∙ e ∙ i.kept (2 * k) (omega arith))
-        go false f = let z = eqb-false j k f in get_or-set_other t k j v 0 z ∙ i.done j (omega (arith, z))
 
 -- ---- places in a table
 
@@ -166,12 +153,6 @@ unfolding entry_from
 among-start s t t0 h e = record { entered = first-entered s t t0 h e; behind = refl; inside = omega arith }
 
 -- ---- finding
-
-pub near-in : (k every : ℕ) → k / every * every ≤ k
-near-in k every = div-mul-le_self k every
-
-pub near_last : (k every count : ℕ) → 0 < count → count ≤ k / every → (count - 1) * every ≤ k
-near_last k every count p h = le_trans (mul-le-mul_right every (let z : count - 1 ≤ k / every = omega arith in z)) (div-mul-le_self k every)
 
 pub found : (s t : List ℕ) (every n q k r : ℕ) → Entered s t every n → q < n → q * every ≤ k → drop r s ≡ entry_from (drop (get_or t q 0) s) (k - q * every) → drop r s ≡ entry_from s k
 found s t every n q k r e h g w =

@@ -3,7 +3,7 @@
 
 ghost use Rattle.std.specs.Prelude.{◌&&◌, ◌≡◌, ◌*◌, ◌<◌, ◌≤◌, ℕ, eqb, drop, get_or, length};
 ghost use Rattle.std.proofs.Props.{props};
-ghost use Rattle.entry_table.specs.Entered.{Entered, table_size};
+ghost use Rattle.entry_table.specs.Entered.{Entered};
 ghost use Rattle.text_names.specs.Bytes.{is_small};
 ghost use Rattle.text_names.specs.Entries.{behind_entry, entry_from};
 
@@ -20,6 +20,7 @@ const HALF: usize = 2561;
 const FARTHEST: usize = 8;
 
 // How many entries lie from one noted place to the next, and how many places are noted.
+// Kept beside a table with a count: a Vec of places would need a heap, and the project has none.
 #[derive(Clone, Copy)]
 pub struct Noted {
     pub every: usize,
@@ -36,6 +37,8 @@ pub struct Names<'a> {
 }
 
 // ---- walks
+
+// Kept: a row and a place in it come as two (`entry_end`, `walk`), as in crate `text_names`; each answers a place.
 
 // The place behind the entry at a place.
 fn entry_end(s: &[u8], from: usize) -> usize
@@ -68,9 +71,8 @@ fn walk(s: &[u8], from: usize, k: usize) -> usize
 // ---- filling
 
 // Each other place of a full table.
-fn thin(table: &mut [usize])
-    requires { length table.old ≡ table_size }
-    ensures { ((k : ℕ) → k < 2561 → get_or table.new k 0 ≡ get_or table.old (2 * k) 0) × (length table.new ≡ length table.old) }
+fn thin(table: &mut [usize; PLACES])
+    ensures { (k : ℕ) → k < 2561 → get_or table.new k 0 ≡ get_or table.old (2 * k) 0 }
 {
     for k in 0..HALF {
         table[k] = table[2 * k];
@@ -78,9 +80,8 @@ fn thin(table: &mut [usize])
 }
 
 // The places of all entries, until the table is full. Each byte might end an entry, so the place behind it is noted, and counts if it does: no branch.
-fn fill_each(table: &mut [usize], names: &[u8]) -> usize
-    requires { length table.old ≡ table_size }
-    ensures { Entered names.now table.new 1 result × (length table.new ≡ table_size) }
+fn fill_each(table: &mut [usize; PLACES], names: &[u8]) -> usize
+    ensures { Entered names.now table.new 1 result }
 {
     table[0] = 0;
     let mut n = 1;
@@ -95,9 +96,9 @@ fn fill_each(table: &mut [usize], names: &[u8]) -> usize
 }
 
 // More places behind the n that are noted, until the table is full.
-fn fill_on(table: &mut [usize], names: &[u8], every: usize, n: usize) -> usize
-    requires { Entered names.now table.old every n × (length table.old ≡ table_size) }
-    ensures { Entered names.now table.new every result × (length table.new ≡ table_size) }
+fn fill_on(table: &mut [usize; PLACES], names: &[u8], every: usize, n: usize) -> usize
+    requires { Entered names.now table.old every n }
+    ensures { Entered names.now table.new every result }
 {
     let mut at = table[n - 1];
     for count in n..PLACES {
@@ -111,8 +112,7 @@ fn fill_on(table: &mut [usize], names: &[u8], every: usize, n: usize) -> usize
 }
 
 // The places of a row's entries.
-pub fn fill(table: &mut [usize], names: &[u8]) -> Noted
-    requires { length table.old ≡ table_size }
+pub fn fill(table: &mut [usize; PLACES], names: &[u8]) -> Noted
     ensures { Entered names.now table.new result.every result.count }
 {
     let mut every = 1;
@@ -137,8 +137,7 @@ fn nearest(every: usize, count: usize, k: usize) -> usize
 
 impl<'a> Names<'a> {
     // A row with its places, noted in a lent table.
-    pub fn new(table: &'a mut [usize], row: &'a [u8]) -> Self
-        requires { length table.old ≡ table_size }
+    pub fn new(table: &'a mut [usize; PLACES], row: &'a [u8]) -> Self
         ensures { result.row.now ≡ row.now }
     {
         let noted = fill(table, row);

@@ -1,12 +1,9 @@
 -- The laws of the head: its four numbers, and its bytes from them.
-use mathlib.Core.Path.{◌∙◌, ◌≡◌, ap, refl, sym}
-use mathlib.Core.List.{[], ◌∷◌, append-nil, List}
+use mathlib.Core.Path.{◌∙◌, ◌≡◌, refl, sym}
+use mathlib.Core.List.{[], ◌∷◌, List}
 use Prim.Native.Nat.{◌%◌, ◌*◌, ◌+◌, ◌/◌, ◌<◌, ◌≤◌, ℕ}
-use lib.ListN.{drop, drop_of_length-le, get_or, length, set}
-use lib.Seq.{paste, paste-suc, take_all}
+use lib.ListN.{get_or, length}
 use native.Mathlib.Omega.{arith}
-use native.Mathlib.Nat.{zero-add}
-use native.Mathlib.Numerals.{add-one}
 use Rattle.parlog.proofs.Rows.{build-is, halves, high_half, low_half}
 use Rattle.parlog.specs.Scan.{build}
 use Rattle.parlog.specs.Tables.{head_bytes, head_size, marker_last, marker_steps, proc_count, var_count}
@@ -85,17 +82,3 @@ head_of {s = s} n m last steps hn hm hl hs ep ev ek es =
     let c : get_or s 2 0 ≡ steps / 65536 % 256 = rw es in
     let d : get_or s 3 0 ≡ steps / 16777216 = rw es (omega arith) in
     rw (low_in _ ep, high_in _ hn ep, low_in _ ev, high_in _ hm ev, low_in _ ek, high_in _ hl ek, a, b, c, d)
-
--- one byte more of a copy from the start
-pub paste-one : (l r : List ℕ) (k : ℕ) → k < length l → k < length r → set (paste l 0 r k) k (get_or r k 0) ≡ paste l 0 r (k + 1)
-paste-one l r k g h =
-    ap (λ (j : ℕ). set (paste l 0 r k) j (get_or r k 0)) (sym (zero-add k))
-    ∙ paste-suc l 0 r k 0 (rw (zero-add k) g) h
-    ∙ ap (paste l 0 r) (sym (add-one k))
-
--- the whole copied
-pub paste_all : (l r : List ℕ) (k : ℕ) → length l ≤ k → length r ≤ k → paste l 0 r k ≡ r
-paste_all l r k g h =
-    let z : length l ≤ 0 + k = rw (zero-add k) g in
-    let d : drop (0 + k) l ≡ [] = drop_of_length-le l z in
-    rw (take_all k r h, d) (append-nil r)

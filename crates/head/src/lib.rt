@@ -1,4 +1,5 @@
 // The head of a run's tables: the counts of processes and variables, then the turn marker.
+// Kept, that a head has its size, with each read: C lends it as bytes, and the calls write it between two reads, so that a value that holds it would be made for each read.
 #![tactic(auto)]
 
 ghost use Rattle.std.specs.Prelude.{◌≡◌, ◌+◌, ◌≤◌, length};

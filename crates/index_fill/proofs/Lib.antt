@@ -1,5 +1,4 @@
 -- The laws of the filling.
-pub mod Words
 pub mod Columns
 pub mod Relations
 pub mod Whole

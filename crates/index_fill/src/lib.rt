@@ -1,7 +1,7 @@
 // The filling of the index, record by record, as the load passes them.
 #![tactic(auto)]
 
-ghost use Rattle.std.specs.Prelude.{◌≡◌, cond, ◌+◌, ◌≤◌, ◌<◌, ℕ, eqb, get_or, length};
+ghost use Rattle.std.specs.Prelude.{◌≡◌, cond, ◌+◌, ◌≤◌, ◌<◌, ℕ, eqb, get_or};
 ghost use Rattle.parlog.specs.Records.{byte_at};
 ghost use Rattle.program_index.specs.Indexed.{blocks_from, index_size};
 ghost use Rattle.index_fill.specs.Filling.{Fits, Kept, note_clause, noted, put_clause, vars_word};
@@ -13,7 +13,6 @@ const RELATION_WORDS: usize = 96;
 
 // Nothing is known of the relations yet.
 pub fn clear(ix: &mut [u16; program_index::SIZE])
-    requires { length ix.old ≡ index_size }
     ensures { ((k : ℕ) → k < 96 → get_or ix.new (blocks_from + k) 0 ≡ 0) × Kept blocks_from index_size ix.old ix.new }
 {
     ix[program_index::BLOCKS..program_index::BLOCKS + RELATION_WORDS].fill(0);
@@ -50,7 +49,7 @@ fn put_clause(
     blocks: usize,
     first: usize,
 )
-    requires { (length ix.old ≡ index_size) × (k < 64) × (q < 32) × (vars ≤ 65535) × (body ≤ 65535) × (blocks ≤ 65535) × (first ≤ 65535) }
+    requires { (k < 64) × (q < 32) × (vars ≤ 65535) × (body ≤ 65535) × (blocks ≤ 65535) × (first ≤ 65535) }
     ensures { ix.new ≡ put_clause ix.old k q vars body blocks first }
 {
     ix[program_index::VARS + k] = vars as u16;

@@ -1,19 +1,17 @@
 -- The ways through the tests of a record.
 use Rattle.std.specs.Prelude.{Err, Ok}
-use mathlib.Core.Path.{◌∙◌, ◌≡◌, refl}
-use mathlib.Core.Bool.{◌&&◌, Bool, cond, false, not, true}
+use mathlib.Core.Path.{refl, ◌≡◌}
+use mathlib.Core.Bool.{Bool, false, not, true}
 use mathlib.Core.List.{List}
-use Prim.Native.Nat.{◌+◌, ℕ}
-use lib.Dec.{eqb, leb, ltb}
+use Prim.Native.Nat.{ℕ, ◌+◌}
+use lib.Dec.{leb, ltb}
 use lib.ListN.{drop}
 use borrow.Author.Tests.{leb-false, ltb-false}
 use native.Mathlib.Omega.{arith}
 use Rattle.judge_text.specs.Tests.{Counted, kept, tested}
-use Rattle.parlog.specs.Load.{block_with, refuse_if}
-use Rattle.parlog.specs.Names.{follows}
+use Rattle.parlog.specs.Load.{refuse_if}
 use Rattle.parlog.specs.declared.Progress.{Progress}
 use Rattle.text_names.specs.Bytes.{front}
-use Rattle.text_program.specs.Numbered.{mark_by}
 use Rattle.text_program.specs.Source.{read_clause}
 
 -- ---- the first that fails
@@ -53,15 +51,6 @@ module _ (many right known full : Bool) (next : Progress) where
 pub clause-name : (s : List ℕ) (at : ℕ) → front (drop at s) ≡ (read_clause (drop at s)).value.name
 unfolding read_clause
 clause-name s at = refl
-
--- ---- the block
-
-pub block-told : (g : Progress) (r n : ℕ) (opens joins follow : Bool) → follow ≡ follows g r → joins ≡ (follow && not opens) → n ≡ cond joins (g.block + 1) 1 → n ≡ block_with g r (mark_by opens)
-block-told g r n opens joins follow e f h = h ∙ rw (f, e, mark-none opens) refl
-  where
-    mark-none : (b : Bool) → not b ≡ eqb (mark_by b) 0
-    mark-none true = refl
-    mark-none false = refl
 
 -- ---- a clause
 

@@ -38,9 +38,5 @@ pub fn block_with(g: Progress, r: usize, opens: bool) -> usize
     requires { g.block ≤ 8 }
     ensures { result ≡ block_with g r (mark_by opens) }
 {
-    if load_names::follows(g, r) & !opens {
-        g.block + 1
-    } else {
-        1
-    }
+    load_names::block_with(g, r, usize::from(opens))
 }

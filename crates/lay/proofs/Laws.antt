@@ -3,7 +3,7 @@ use mathlib.Core.Path.{◌∙◌, ◌≡◌, refl, sym}
 use mathlib.Core.List.{[], ◌++◌, ◌∷◌, List}
 use Prim.Native.Nat.{◌+◌, ◌<◌, ◌≤◌, suc, zero, ℕ}
 use lib.ListN.{drop, get_or, length, length-append, length-set, set, take}
-use lib.Seq.{drop-append_seam, get_or-set_other, get_or-set_same, set_out, sets, sets-eq, take-append_seam}
+use lib.Seq.{get_or-set_other, get_or-set_same, set_out, sets, sets-eq, take-append_seam}
 use native.Mathlib.Omega.{arith}
 use native.Mathlib.Nat.{add-zero, zero-add}
 use Rattle.lay.specs.Lay.{laid, Lays}
@@ -37,19 +37,11 @@ unfolding laid
 laid-past [] out at h = refl
 laid-past (b ∷ bs) out at h = rw (set_out out at b h) (laid-past bs out (suc at) (omega arith))
 
--- into an empty row nothing is written
-pub laid-empty : (bs : List ℕ) (at : ℕ) → laid [] at bs ≡ []
-laid-empty bs at = laid-past bs [] at (omega arith)
-
 -- a row with a byte in front
 pub laid-behind : (bs out : List ℕ) (x at : ℕ) → laid (x ∷ out) (suc at) bs ≡ x ∷ laid out at bs
 unfolding laid
 laid-behind [] out x at = refl
 laid-behind (b ∷ bs) out x at = laid-behind bs (set out at b) x (suc at)
-
-pub laid-first : (bs out : List ℕ) (x b : ℕ) → laid (x ∷ out) 0 (b ∷ bs) ≡ b ∷ laid out 0 bs
-unfolding laid
-laid-first bs out x b = laid-behind bs out b 0
 
 -- what is laid where it fits: as much as was there before, the bytes, and the rest
 pub laid-sets : (bs out : List ℕ) (at : ℕ) → laid out at bs ≡ sets out at bs
@@ -70,23 +62,13 @@ module _ (bs out : List ℕ) (room : length bs ≤ length out) where
   pub laid-read : take (length bs) (laid out 0 bs) ≡ bs
   laid-read = rw laid-start (take-append_seam bs (drop (length bs) out))
 
-  pub laid-rest : drop (length bs) (laid out 0 bs) ≡ drop (length bs) out
-  laid-rest = rw laid-start (drop-append_seam bs (drop (length bs) out))
-
--- every byte before and behind stays
+-- every byte before stays
 pub laid-before : (bs out : List ℕ) (at i : ℕ) → i < at → get_or (laid out at bs) i 0 ≡ get_or out i 0
 unfolding laid
 laid-before [] out at i h = refl
 laid-before (b ∷ bs) out at i h =
     let apart : i ≡ at → ⊥ = λ e. omega arith in
     laid-before bs (set out at b) (suc at) i (omega arith) ∙ get_or-set_other out at i b 0 apart
-
-pub laid-after : (bs out : List ℕ) (at i : ℕ) → at + length bs ≤ i → get_or (laid out at bs) i 0 ≡ get_or out i 0
-unfolding laid
-laid-after [] out at i h = refl
-laid-after (b ∷ bs) out at i h =
-    let apart : i ≡ at → ⊥ = λ e. omega arith in
-    laid-after bs (set out at b) (suc at) i (omega arith) ∙ get_or-set_other out at i b 0 apart
 
 -- the byte k of those laid
 pub laid-at : (bs out : List ℕ) (at k : ℕ) → k < length bs → at + k < length out → get_or (laid out at bs) (at + k) 0 ≡ get_or bs k 0

@@ -1,13 +1,13 @@
 -- One turn of the loops over entries.
-use mathlib.Core.Path.{◌∙◌, ◌≡◌, ap, refl, sym}
+use mathlib.Core.Path.{ap, refl, sym, ◌∙◌, ◌≡◌}
 use mathlib.Core.Bool.{true}
-use mathlib.Core.List.{[], ◌++◌, ◌∷◌, append_assoc, List}
-use Prim.Native.Nat.{◌+◌, ◌<◌, ◌≤◌, ℕ}
+use mathlib.Core.List.{[], append_assoc, List, ◌++◌, ◌∷◌}
+use Prim.Native.Nat.{ℕ, ◌+◌, ◌<◌, ◌≤◌}
 use lib.ListN.{drop, drop_of_length-le, get_or, length}
 use lib.Seq.{drop-cons}
 use native.Mathlib.Numerals.{add-one}
-use Rattle.lay_text.proofs.Laws.{left_as, left_end, left-start, left_step}
-use Rattle.lay_text.specs.Laying.{Left, most, Writes}
+use Rattle.lay_text.proofs.Laws.{left_as, left_end, left_step}
+use Rattle.lay_text.specs.Laying.{Left, Writes}
 use Rattle.lay_text.specs.declared.To.{To}
 use Rattle.read_names.specs.Tables.{names_at}
 use Rattle.text_names.specs.Bytes.{front}
@@ -33,6 +33,3 @@ table_on s t i h = rw (add-one, drop-cons t i 0 h)
 pub table-end : (s t : List ℕ) (i : ℕ) → length t ≤ i → names_at s (drop i t) ≡ []
 unfolding names_at
 table-end s t i h = rw (drop_of_length-le t h)
-
-pub entry-start : (o : List ℕ) (w : To) (names others : List Name) → names ≡ others → length o ≤ most → w.at ≤ most → Left o w (entries others) true o w (entries names) true
-entry-start o w names others e h g = left_as (ap entries (sym e)) refl (left-start o w (entries others) true h g)

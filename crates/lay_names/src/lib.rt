@@ -1,4 +1,5 @@
 // Names of a text as entries of a names row: each name and a byte 10.
+// Kept: a text and a place in it, which is at most its end, come as two (`name`, `entry`, `mode_names`). A struct of both is no plainer, as crates `read_goal` and `read_names` say, whose places these are; nor is a writer for the row and how far its text is, as crate `lay_text` says.
 #![tactic(auto)]
 
 ghost use Rattle.std.specs.Prelude.{true, [], ◌++◌, ◌∷◌, ◌≤◌, drop, length};

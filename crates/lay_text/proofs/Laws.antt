@@ -146,9 +146,6 @@ put_one o p w x b e f g h = laid_word o p w x (b ∷ []) e f g h
 name-length : (s : List ℕ) (from end : ℕ) → from ≤ length s → end ≤ length s → drop end s ≡ back (drop from s) → length (front (drop from s)) ≡ end - from
 name-length s from end h g e = let a = ap length (front-back (drop from s)) in omega (arith, length-append (front (drop from s)) (back (drop from s)), a, ap length e, length-drop end s, length-drop from s)
 
-pub name-order : (s : List ℕ) (from end : ℕ) → from ≤ length s → end ≤ length s → drop end s ≡ back (drop from s) → from ≤ end
-name-order s from end h g e = let a = ap length (front-back (drop from s)) in omega (arith, length-append (front (drop from s)) (back (drop from s)), a, ap length e, length-drop end s, length-drop from s)
-
 pub name-part : (s : List ℕ) (from end : ℕ) → from ≤ length s → end ≤ length s → drop end s ≡ back (drop from s) → front (drop from s) ≡ take (end - from) (drop from s)
 name-part s from end h g e =
     let n = name-length s from end h g e in

@@ -1,4 +1,5 @@
 pub mod Room
+pub mod Late
 pub mod Turn
 pub mod Inside
 pub mod Accepted

@@ -1,15 +1,16 @@
 // The image loader: the tests of a record in their order, and the records in file order.
 #![tactic(auto)]
 
-ghost use Rattle.std.specs.Prelude.{◌≡◌, false, ◌+◌, ◌<◌, ◌≤◌, ℕ, get_or, length, Err, IfSome};
+ghost use Rattle.std.specs.Prelude.{◌≡◌, false, true, ◌+◌, ◌<◌, ◌≤◌, ℕ, get_or, length, Err, IfSome, MatchOption};
 ghost use Rattle.parlog.specs.Records.{kind_at, record_end};
-ghost use Rattle.parlog.specs.Load.{kind_fault, too_many, block_with, block_full, progressed, records, nothing_read, refusal, load_of};
+ghost use Rattle.parlog.specs.Load.{kind_fault, too_many, block_full, progressed, records, nothing_read, refusal, load_of};
 ghost use Rattle.load_body.specs.Reading.{place_of};
-ghost use Rattle.load_names.specs.Reading.{Arities};
-ghost use Rattle.program_index.specs.Indexed.{blocks_from, index_size, IndexedOf};
+ghost use Rattle.load_names.specs.Reading.{kind_number};
+ghost use Rattle.program_index.specs.Indexed.{blocks_from, IndexedOf};
 ghost use Rattle.load.specs.Bounds.{Bounded, Next, Small};
 ghost use Rattle.load.specs.Fields.{fields_verdict, record_verdict, refusal_of, told};
 
+use load_names::{Kind, Known};
 use parlog::{Answer, Progress, Refusal, codes};
 
 // What is known before the first record.
@@ -21,125 +22,97 @@ const NOTHING_READ: Progress = Progress {
     block: 0,
 };
 
-// 3, KIND.
-fn kind_fault(g: Progress, kind: usize) -> bool
-    ensures { result ≡ kind_fault g kind }
+// 3, KIND: the kind of a record that may come behind those before it.
+fn kind_after(g: Progress, number: usize) -> Option<Kind>
+    ensures { MatchOption result (kind_fault g number ≡ true) (λ k. (kind_number k ≡ number) × (kind_fault g number ≡ false)) }
 {
-    let late = (kind < g.kind) | (g.kind == codes::GOAL_KIND);
-    (kind < codes::RELATION_KIND) | ((codes::GOAL_KIND < kind) | late)
+    let kind = Kind::of(number)?;
+    let late = (number < g.kind) | (g.kind == codes::GOAL_KIND);
+    (!late).then_some(kind)
 }
 
 // 6, MANY: 33rd relation, 65th clause.
-fn too_many(g: Progress, kind: usize) -> bool
-    ensures { result ≡ too_many g kind }
+fn too_many(g: Progress, kind: Kind) -> bool
+    ensures { result ≡ too_many g (kind_number kind) }
 {
-    if kind == codes::RELATION_KIND {
-        codes::MOST_RELATIONS <= g.relations
-    } else {
-        (kind == codes::CLAUSE_KIND) & (codes::MOST_CLAUSES <= g.clauses)
-    }
-}
-
-// How many clauses the block has with this one.
-fn block_with(g: Progress, r: usize, mark: usize) -> usize
-    requires { g.block ≤ 8 }
-    ensures { result ≡ block_with g r mark }
-{
-    if load_names::follows(g, r) & (mark == 0) {
-        g.block + 1
-    } else {
-        1
+    match kind {
+        Kind::Relation => codes::MOST_RELATIONS <= g.relations,
+        Kind::Clause => codes::MOST_CLAUSES <= g.clauses,
+        Kind::Goal => false,
     }
 }
 
 // 6, MANY: 9th clause of a block.
-fn block_full(s: &[u8], g: Progress, at: usize, kind: usize) -> bool
-    requires { (g.block ≤ 8) × (at ≤ 32768) }
-    ensures { result ≡ block_full s.now g at kind }
+fn block_full(known: &Known, kind: Kind) -> bool
+    ensures { result ≡ block_full known.now.image.now known.now.before known.now.at (kind_number kind) }
 {
-    let r = place::byte_at(s, at + codes::CLAUSE_RELATION);
-    let m = place::byte_at(s, at + codes::CLAUSE_MARK);
-    let n = block_with(g, r, m);
-    (kind == codes::CLAUSE_KIND) & (codes::MOST_BLOCK < n)
+    let Kind::Clause = kind else {
+        return false;
+    };
+    let r = place::byte_at(known.image, known.at + codes::CLAUSE_RELATION);
+    let m = place::byte_at(known.image, known.at + codes::CLAUSE_MARK);
+    codes::MOST_BLOCK < load_names::block_with(known.before, r, m)
 }
 
 // What is known after the record.
-fn progressed(s: &[u8], g: Progress, at: usize, kind: usize) -> Progress
-    requires small { Small g }
-    requires at_bound { at ≤ 32768 }
-    requires kind_value { too_many g kind ≡ false }
-    requires kind_value_2 { block_full s.now g at kind ≡ false }
-    ensures value { result ≡ progressed s.now g at kind }
-    ensures small_2 { Small result }
+fn progressed(known: &Known, kind: Kind) -> Progress
+    requires few { too_many known.now.before (kind_number kind) ≡ false }
+    requires room { block_full known.now.image.now known.now.before known.now.at (kind_number kind) ≡ false }
+    ensures value { result ≡ progressed known.now.image.now known.now.before known.now.at (kind_number kind) }
+    ensures small { Small result }
 {
-    if kind == codes::RELATION_KIND {
-        return Progress {
+    let g = Progress {
+        kind: kind.number(),
+        ..known.before
+    };
+    match kind {
+        Kind::Relation => Progress {
             relations: g.relations + 1,
-            kind,
             ..g
-        };
+        },
+        Kind::Clause => {
+            let relation = place::byte_at(known.image, known.at + codes::CLAUSE_RELATION);
+            let mark = place::byte_at(known.image, known.at + codes::CLAUSE_MARK);
+            Progress {
+                clauses: g.clauses + 1,
+                relation,
+                block: load_names::block_with(known.before, relation, mark),
+                ..g
+            }
+        }
+        Kind::Goal => g,
     }
-    if kind == codes::CLAUSE_KIND {
-        let relation = place::byte_at(s, at + codes::CLAUSE_RELATION);
-        let mark = place::byte_at(s, at + codes::CLAUSE_MARK);
-        return Progress {
-            clauses: g.clauses + 1,
-            kind,
-            relation,
-            block: block_with(g, relation, mark),
-            ..g
-        };
-    }
-    Progress { kind, ..g }
 }
 
 // The tests of a record's fields, 4, 5, and the ninth-clause part of 6: what is known after it, and where the body of a clause begins.
-fn test_fields(
-    s: &[u8],
-    t: &[u8; codes::ARITIES],
-    g: Progress,
-    at: usize,
-    kind: usize,
-) -> Result<(Progress, usize), u8>
-    requires arities { Arities s.now g.relations t.now }
-    requires small { Small g }
-    requires at_bound { (at ≤ 32768) × (record_end s.now at ≤ length s.now) }
-    requires kind_value { too_many g kind ≡ false }
-    ensures { (result ≡ told (fields_verdict s.now g at kind) (place_of s.now at kind)) × Next result }
+fn test_fields(known: &Known, kind: Kind) -> Result<(Progress, usize), u8>
+    requires inside { record_end known.now.image.now known.now.at ≤ length known.now.image.now }
+    requires few { too_many known.now.before (kind_number kind) ≡ false }
+    ensures { (result ≡ told (fields_verdict known.now.image.now known.now.before known.now.at (kind_number kind)) (place_of known.now.image.now known.now.at (kind_number kind))) × Next result }
 {
-    let body = load_body::body_of(s, at, kind).ok_or(codes::BODY)?;
-    if !load_names::names_right(s, t, g, at, kind) {
+    let body = load_body::body_of(known.image, known.at, kind.number()).ok_or(codes::BODY)?;
+    if !load_names::names_right(known, kind) {
         return Err(codes::NAME);
     }
-    if block_full(s, g, at, kind) {
+    if block_full(known, kind) {
         return Err(codes::MANY);
     }
-    Ok((progressed(s, g, at, kind), body))
+    Ok((progressed(known, kind), body))
 }
 
 // The tests of a record, 2, 3, 6, then those of its fields.
-fn test_record(
-    s: &[u8],
-    t: &[u8; codes::ARITIES],
-    g: Progress,
-    at: usize,
-) -> Result<(Progress, usize), u8>
-    requires arities { Arities s.now g.relations t.now }
-    requires small { Small g }
-    requires at_bound { at ≤ 32768 }
-    ensures { (result ≡ told (record_verdict s.now g at) (place_of s.now at (kind_at s.now at))) × Next result }
+fn test_record(known: &Known) -> Result<(Progress, usize), u8>
+    ensures { (result ≡ told (record_verdict known.now.image.now known.now.before known.now.at) (place_of known.now.image.now known.now.at (kind_at known.now.image.now known.now.at))) × Next result }
 {
-    if records::cut(s, at) {
+    if records::cut(known.image, known.at) {
         return Err(codes::CUT);
     }
-    let kind = records::kind_at(s, at);
-    if kind_fault(g, kind) {
-        return Err(codes::KIND);
-    }
-    if too_many(g, kind) {
+    let number = records::kind_at(known.image, known.at);
+    let kind = kind_after(known.before, number).ok_or(codes::KIND)?;
+    if too_many(known.before, kind) {
         return Err(codes::MANY);
     }
-    test_fields(s, t, g, at, kind)
+    test_fields(known, kind)
 }
 
 // A refusal with its number and offset.
@@ -151,7 +124,7 @@ fn refused(number: u8, offset: usize) -> Answer<(usize, usize)>
 
 // Records in file order, each noted in the index once it has passed its tests.
 fn records(s: &[u8], ix: &mut [u16; program_index::SIZE]) -> Answer<(usize, usize)>
-    requires { (length s.now ≤ 32768) × (length ix.old ≡ index_size) × ((k : ℕ) → k < 96 → get_or ix.old (blocks_from + k) 0 ≡ 0) }
+    requires { (length s.now ≤ 32768) × ((k : ℕ) → k < 96 → get_or ix.old (blocks_from + k) 0 ≡ 0) }
     ensures value { result ≡ records s.now (length s.now) 0 nothing_read }
     ensures bounded { Bounded (length s.now) result }
     ensures indexed_of { IndexedOf result s.now ix.new }
@@ -162,7 +135,13 @@ fn records(s: &[u8], ix: &mut [u16; program_index::SIZE]) -> Answer<(usize, usiz
     let mut g = NOTHING_READ;
     while at < n {
         let end = records::end_at(s, at);
-        let (next, body) = match test_record(s, &arities, g, at) {
+        let known = Known {
+            image: s,
+            at,
+            before: g,
+            arities: &arities,
+        };
+        let (next, body) = match test_record(&known) {
             Ok(passed) => passed,
             Err(number) => return refused(number, at),
         };
@@ -181,7 +160,6 @@ fn records(s: &[u8], ix: &mut [u16; program_index::SIZE]) -> Answer<(usize, usiz
 
 // The answer to an image: its counts, with the index of its program, or the first refusal.
 pub fn load_indexed(image: &[u8], ix: &mut [u16; program_index::SIZE]) -> Answer<(usize, usize)>
-    requires { length ix.old ≡ index_size }
     ensures value { result ≡ load_of image.now }
     ensures bounded { Bounded (length image.now) result }
     ensures indexed_of { IndexedOf result image.now ix.new }
@@ -201,7 +179,13 @@ fn first_refusal(s: &[u8]) -> Option<u8>
         return None;
     }
     let arities = [0; codes::ARITIES];
-    test_record(s, &arities, NOTHING_READ, 0).err()
+    let known = Known {
+        image: s,
+        at: 0,
+        before: NOTHING_READ,
+        arities: &arities,
+    };
+    test_record(&known).err()
 }
 
 // The same for who needs no index: it is the same pass, but that no row is set up for it where the first record is refused.
@@ -217,6 +201,7 @@ pub fn load(image: &[u8]) -> Answer<(usize, usize)>
 }
 
 // The refusal that an answer holds.
+// Kept, a number for none: docs/DECISIONS.md, "Required forms", asks for `let .. else` where a call takes an answer apart, and its else branch has no name for what an Err holds.
 pub fn refusal(l: Answer<(usize, usize)>) -> Refusal
     ensures { result ≡ refusal_of l }
 {

@@ -9,6 +9,9 @@ ghost use Rattle.load_body.specs.Reading.{place_of, stages_row};
 
 use parlog::codes;
 
+// Kept, modes of arguments and marks of clauses are numbers: here each is a byte of an image, held to its range, and has no other use.
+// Kept, image and place with `at ≤ 32768` in the tests of a record: `body_of`, which docs/ARCHITECTURE.md names, is given both, and a struct made of them here would be taken apart again for each field.
+
 // What is told for the body of a record that is no clause.
 const NO_CLAUSE: usize = 1;
 
@@ -20,7 +23,7 @@ fn modes_range(s: &[u8], n: usize, from: usize) -> bool
     (from..from + n).all(|at| place::byte_at(s, at) <= codes::MOST_MODE)
 }
 
-// BODY, literals: the place after n literals, if each has an arity of 0 to 4.
+// BODY, literals: the place after n literals, if each has an arity of 0 to 4. Kept, a walk of its own: `place::literals_end` says why.
 fn literals_range(s: &[u8], n: usize, from: usize) -> Option<usize>
     requires { (n ≤ 255) × (from ≤ 1073741824) }
     ensures { (result ≡ then_some (literals_range s.now n from) (literals_end s.now n from)) × IfSome result (λ e. e ≤ from + 10 * n) }
@@ -48,7 +51,7 @@ fn stage_range(s: &[u8], at: usize) -> Option<usize>
     literals_range(s, n, at + 1)
 }
 
-// BODY, goals: the place after n stages, if they have at most 8 literals in all.
+// BODY, goals: the place after n stages, if they have at most 8 literals in all. Kept too: it sums the literals.
 fn stages_range(s: &[u8], n: usize, from: usize) -> Option<usize>
     requires { (n ≤ 8) × (from ≤ 268435456) }
     ensures { (result ≡ stages_row s.now n from 0) × IfSome result (λ e. e ≤ from + 81 * n) }
@@ -115,15 +118,14 @@ fn ask_body(s: &[u8], at: usize) -> bool
 }
 
 // 4, BODY: where a clause's body begins, 1 of another record; none where it is refused.
+// Kept, the kind is a number: docs/ARCHITECTURE.md names this function, which takes any number, as the definition `body_right` does; `load_names::Kind` has three.
 pub fn body_of(s: &[u8], at: usize, kind: usize) -> Option<usize>
     requires { at ≤ 32768 }
     ensures { (result ≡ then_some (body_right s.now at kind) (place_of s.now at kind)) × IfSome result (λ b. b ≤ at + 1167) }
 {
-    if kind == codes::RELATION_KIND {
-        return relation_body(s, at).then_some(NO_CLAUSE);
+    match kind {
+        codes::RELATION_KIND => relation_body(s, at).then_some(NO_CLAUSE),
+        codes::CLAUSE_KIND => clause_body(s, at),
+        _ => ask_body(s, at).then_some(NO_CLAUSE),
     }
-    if kind == codes::CLAUSE_KIND {
-        return clause_body(s, at);
-    }
-    ask_body(s, at).then_some(NO_CLAUSE)
 }

@@ -1,9 +1,17 @@
--- What the names of a record are read with: the arities of the relations before it, and goals that end inside the bytes.
+-- What the names of a record are read with: the numbers of kinds, the arities of the relations before it, and goals that end inside the bytes.
 use Rattle.std.specs.Prelude.{◌≡◌, List, ◌+◌, ◌<◌, ◌≤◌, ℕ, length}
-use Rattle.parlog.specs.Image.{body_at, byte_at, goal_end}
+use Rattle.load_names.specs.declared.Kind.{Kind}
+use Rattle.load_names.specs.declared.Kind.TheVariants.{Clause, Goal, Relation}
+use Rattle.parlog.specs.Image.{body_at, byte_at, clause_kind, goal_end, goal_kind, relation_kind}
 use Rattle.parlog.specs.Names.{arity_of}
 use Rattle.parlog.specs.declared.Term.{Term}
 use Rattle.parlog.specs.declared.Term.TheVariants.{Const, Var}
+
+-- the number that an image has for a kind of record
+abbrev pub kind_number : Kind → ℕ
+kind_number Relation = relation_kind
+kind_number Clause = clause_kind
+kind_number Goal = goal_kind
 
 -- the table t holds the arities of the first n relations
 pub record Arities (s : List ℕ) (n : ℕ) (t : List ℕ) : Type 0 where

@@ -1,11 +1,9 @@
 -- The ways through a start, and the bytes that it leaves.
-use Rattle.parlog.specs.declared.Term.{Term}
-use Rattle.std.specs.Prelude.{Ok, None, Err, Option}
-use Rattle.parlog.specs.Answer.{Answer}
-use mathlib.Core.Path.{◌∙◌, ◌≡◌, ap, refl, sym}
+use Rattle.std.specs.Prelude.{Err, None, Ok, Option}
+use mathlib.Core.Path.{ap, refl, sym, ◌∙◌, ◌≡◌}
 use mathlib.Core.Bool.{Bool, false, true}
-use mathlib.Core.List.{[], ◌++◌, ◌∷◌, List}
-use Prim.Native.Nat.{◌*◌, ◌+◌, ◌<◌, ◌≤◌, suc, zero, ℕ}
+use mathlib.Core.List.{[], List, ◌++◌, ◌∷◌}
+use Prim.Native.Nat.{suc, zero, ℕ, ◌*◌, ◌+◌, ◌<◌, ◌≤◌}
 use lib.ListN.{get_or, length, length-replicate, replicate}
 use native.Mathlib.Omega.{arith}
 use Rattle.load.specs.Bounds.{Bounded}
@@ -13,15 +11,17 @@ use Rattle.load.specs.Fields.{refusal_of}
 use Rattle.machine.specs.Starting.{BeginSays, SizedOf, StartableSays, StartSays}
 use Rattle.parlog.proofs.Assume.{full-sizes}
 use Rattle.parlog.proofs.Scans.{every-is}
+use Rattle.parlog.specs.Answer.{Answer}
 use Rattle.parlog.specs.Calls.{start_call}
-use Rattle.parlog.specs.Codes.{kind_of, starting, tag_code, the_goal}
+use Rattle.parlog.specs.Codes.{kind_of, starting, Tag, the_goal}
 use Rattle.parlog.specs.Limits.{Limits, Usable}
 use Rattle.parlog.specs.Load.{load_of, refusal}
 use Rattle.parlog.specs.Program.{goal_by, Program, program_of, tag_of_goal}
 use Rattle.parlog.specs.TableRules.{cell_known, full_size}
-use Rattle.parlog.specs.Tables.{binding_bytes, binding_of, cell_size, fresh, fresh_tables, goal_spot, head_bytes, Lent, new_process, no_notes, nowhere, process_bytes, procs_of, put_tables, rows_bytes, row_size, started_lent, vars_in, written, zeros}
+use Rattle.parlog.specs.Tables.{binding_bytes, binding_of, cell_size, fresh, fresh_tables, goal_spot, head_bytes, Lent, new_process, process_bytes, procs_of, put_tables, row_size, rows_bytes, started_lent, vars_in, written, zeros}
 use Rattle.parlog.specs.declared.Process.{Process}
 use Rattle.parlog.specs.declared.Refusal.{Refusal}
+use Rattle.parlog.specs.declared.Term.{Term}
 use Rattle.rows.proofs.Exact.{table-bytes}
 use Rattle.rows.proofs.Laws.{wiped-all, zeros-at, zeros-length}
 use Rattle.rows.proofs.Tables.{procs-none}
@@ -54,9 +54,8 @@ sized_of lim s l h e = rw e at h.sized
 
 -- ---- the goal's process
 
-pub process-new : (pr : Program) {tag : ℕ} → tag ≡ tag_code (tag_of_goal (goal_by (kind_of 0) pr 0))
-    → ◌≡◌ {A = Process} (record { tag = tag; mode = 2; result = 0; count = 0; parent = 0; spot = nowhere; notes = no_notes }) (new_process (tag_of_goal pr.goal) starting 0 (goal_spot the_goal 0 0))
-unfolding new_process goal_by kind_of
+pub process-new : (pr : Program) {t : Tag} → t ≡ tag_of_goal (goal_by (kind_of 0) pr 0) → new_process t starting 0 (goal_spot the_goal 0 0) ≡ new_process (tag_of_goal pr.goal) starting 0 (goal_spot the_goal 0 0)
+unfolding goal_by kind_of
 process-new pr e = rw e
 
 -- ---- bytes

@@ -7,14 +7,13 @@ use mathlib.Core.List.{List}
 use Prim.Native.Nat.{◌<◌, ◌≤◌, ℕ}
 use lib.Dec.{leb, ltb}
 use lib.ListN.{length, set}
-use borrow.Author.Tests.{le-leb, le-ltb, leb-true, lt-leb, lt-ltb, ltb-true}
+use borrow.Author.Tests.{le-ltb, leb-true, lt-ltb, ltb-true}
 use native.Mathlib.Omega.{arith}
 use Rattle.head.proofs.Laws.{head_is}
 use Rattle.load.specs.Fields.{refusal_of}
 use Rattle.entry.proofs.Entering.{inside_of}
 use Rattle.entry.specs.Entered.{EnterSays}
-use Rattle.machine.specs.Supplying.{asked_of, DecidedSays, given_by, is_const, supply_of, SupplySays, Writes, WritesOf}
-use Rattle.parlog.proofs.Bools.{never}
+use Rattle.machine.specs.Supplying.{asked_of, DecidedSays, given_by, supply_of, SupplySays, Writes, WritesOf}
 use Rattle.parlog.specs.Calls.{supply_answer, supply_call}
 use Rattle.parlog.specs.Limits.{Limits}
 use Rattle.parlog.specs.Load.{refusal}
@@ -33,25 +32,6 @@ use Rattle.unify.specs.Pending.{top}
 use Rattle.vars.proofs.Exact.{cells-bytes}
 use Rattle.vars.proofs.Tables.{vars-set-length}
 use Rattle.vars.specs.Cells.{Cells}
-
-module _ (t : Term) (c : ℕ) where
-  pub given-large : 32767 < c → {f : Refusal} → f ≡ refusal 14 0 → Err f ≡ cond (leb c 32767) (given_by t) (Err (refusal 14 0))
-  given-large h ef = rw (ef, lt-leb c 32767 h)
-
-  module _ (h : c ≤ 32767) {k : Bool} (ek : k ≡ is_const t) where
-    pub given-known : k ≡ true → {f : Refusal} → f ≡ refusal 13 0 → Err f ≡ cond (leb c 32767) (given_by t) (Err (refusal 14 0))
-    given-known e ef = rw (ef, le-leb c 32767 h) (sym (const-of t (sym ek ∙ e)))
-      where
-        const-of : (x : Term) → is_const x ≡ true → given_by x ≡ Err (refusal 13 0)
-        const-of (Const n) q = refl
-        const-of (Var v) q = never q
-
-    pub given-free : k ≡ false → {w : ℕ} → w ≡ number_code (Some t) → Ok w ≡ cond (leb c 32767) (given_by t) (Err (refusal 14 0))
-    given-free e ew = rw (ew, le-leb c 32767 h) (sym (var-of t (sym ek ∙ e)))
-      where
-        var-of : (x : Term) → is_const x ≡ false → given_by x ≡ Ok (number_code (Some x))
-        var-of (Const n) q = never (sym q)
-        var-of (Var v) q = refl
 
 module _ (pr : Program) (vs : List (Option Term)) (v c : ℕ) {g : ℕ} (eg : g ≡ pr.goal_vars) where
   pub asked-none : g ≤ v → {f : Refusal} → f ≡ refusal 12 0 → Err f ≡ asked_of pr vs v c

@@ -7,7 +7,6 @@ use mathlib.Core.List.{List}
 use Prim.Native.Nat.{◌<◌, ◌≤◌, ℕ}
 use lib.Dec.{ltb}
 use borrow.Author.Tests.{le-ltb, lt-ltb}
-use native.Mathlib.Omega.{arith}
 use Rattle.load.specs.Fields.{refusal_of}
 use Rattle.entry.specs.Entered.{EnterSays}
 use Rattle.parlog.specs.Calls.{value_answer, value_call}
@@ -20,11 +19,6 @@ use Rattle.parlog.specs.Unify.{value}
 use Rattle.parlog.specs.declared.Refusal.{Refusal}
 use Rattle.parlog.specs.declared.Term.{Term}
 use Rattle.parlog.specs.declared.Term.TheVariants.{Var}
-use Rattle.unify.specs.Pending.{top}
-
-pub var-top : (v g n : ℕ) → v < g → g ≤ n → top (Var v) ≤ n
-unfolding top
-var-top v g n h k = omega arith
 
 module _ (k : ℕ) (vs : List (Option Term)) (v : ℕ) {g : ℕ} (eg : g ≡ k) where
   pub look_none : g ≤ v → {f : Refusal} → f ≡ refusal 12 0 → Err f ≡ value_answer (cond (ltb v k) (seen (value vs (Var v))) (unseen 12))

@@ -1,21 +1,26 @@
 // The calls over lent bytes: a start, a supply, and the value of a goal variable.
+// Kept, head, processes and variables as three rows: the head of crate `bound` says why.
 #![tactic(auto)]
 
-ghost use Rattle.std.specs.Prelude.{◌≡◌, cond, ◌*◌, ◌≤◌, ◌<◌, leb, ltb, length, Err, Some};
+ghost use Rattle.program_index.specs.Images.{program_in};
+ghost use Rattle.std.specs.Prelude.{◌≡◌, cond, ◌*◌, ◌≤◌, ◌<◌, leb, ltb, length, Err};
 ghost use Rattle.parlog.specs.Calls.{value_answer, value_call};
 ghost use Rattle.parlog.specs.Codes.{starting, the_goal};
 ghost use Rattle.parlog.specs.Limits.{small};
 ghost use Rattle.parlog.specs.Load.{refusal};
-ghost use Rattle.parlog.specs.Program.{program_of, tag_of_goal};
+ghost use Rattle.parlog.specs.Program.{tag_of_goal};
 ghost use Rattle.parlog.specs.Run.{seen, unseen};
-ghost use Rattle.parlog.specs.Tables.{cell_size, goal_spot, head_size, lent, new_process, number_code, started_lent, var_count, vars_in};
+ghost use Rattle.parlog.specs.Tables.{cell_size, goal_spot, head_size, lent, new_process, started_lent, var_count, vars_in};
 ghost use Rattle.parlog.specs.Unify.{value};
 ghost use Rattle.parlog.specs.declared.Term.TheVariants.{Var};
-ghost use Rattle.program_index.specs.Indexed.{Indexed, IndexedOf, index_size};
+ghost use Rattle.program_index.specs.Indexed.{IndexedOf};
 ghost use Rattle.machine.specs.Starting.{BeginSays, StartSays, StartableSays};
 ghost use Rattle.machine.specs.Supplying.{DecidedSays, SupplySays, asked_of, given_by, is_const};
 
+use parlog::cases::{Kind, Mode, Outcome};
 use parlog::{Answer, Process, Spot, Term, codes};
+use program_index::Image;
+use vars::Variables;
 
 // The sizes of the two tables of a run.
 const PROC_BYTES: usize = codes::MOST_PROCS * codes::ROW_SIZE;
@@ -25,25 +30,20 @@ const VAR_BYTES: usize = codes::MOST_VARS * codes::CELL_SIZE;
 // ---- the value
 
 // The value of a goal variable, in tables that keep the rules.
-fn look(
-    image: &[u8],
-    rels: usize,
-    clauses: usize,
-    ix: &[u16; program_index::SIZE],
-    head: &[u8],
-    vars: &[u8],
-    variable: u32,
-) -> Answer<Term>
-    requires { (rels ≤ 32) × (clauses ≤ 64) × (head_size ≤ length head.now) × (var_count head.now * cell_size ≤ length vars.now) × ((program_of image.now rels clauses).goal_vars ≤ var_count head.now) × Indexed image.now rels clauses ix.now }
-    ensures { result ≡ value_answer (cond (ltb variable (program_of image.now rels clauses).goal_vars) (seen (value (vars_in vars.now (var_count head.now)) (Var variable))) (unseen 12)) }
+fn look(image: &Image, head: &[u8], vars: &[u8], variable: u32) -> Answer<Term>
+    requires { (head_size ≤ length head.now) × (var_count head.now * cell_size ≤ length vars.now) × ((program_in image.now).goal_vars ≤ var_count head.now) }
+    ensures { result ≡ value_answer (cond (ltb variable (program_in image.now).goal_vars) (seen (value (vars_in vars.now (var_count head.now)) (Var variable))) (unseen 12)) }
 {
-    let goal = program_clause::goal_vars(image, rels, clauses, ix);
+    let goal = program_clause::goal_vars(image);
     if goal <= (variable as usize) {
         let unseen = entry::refusal(codes::NOVAR);
         return Err(unseen);
     }
-    let n = head::var_count(head);
-    let seen = unify::value_of(vars, n, Term::Var(variable));
+    let cells = Variables {
+        bytes: vars,
+        count: head::var_count(head),
+    };
+    let seen = unify::value_of(&cells, Term::Var(variable));
     Ok(seen)
 }
 
@@ -54,11 +54,17 @@ pub fn value(image: &[u8], head: &[u8], procs: &[u8], vars: &[u8], variable: u32
     let mut ix = [0u16; program_index::SIZE];
     let e = entry::enter(image, head, procs, vars, &mut ix);
     // Kept in each call: docs/DECISIONS.md asks that each takes the load's answer apart by `let .. else`.
-    let Ok((rels, clauses)) = e else {
+    let Ok((relations, clauses)) = e else {
         let r = load::refusal(e);
         return Err(r);
     };
-    look(image, rels, clauses, &ix, head, vars, variable)
+    let accepted = Image {
+        bytes: image,
+        relations,
+        clauses,
+        index: &ix,
+    };
+    look(&accepted, head, vars, variable)
 }
 
 // ---- the start
@@ -71,85 +77,46 @@ fn startable(
     vars: &[u8],
     ix: &mut [u16; program_index::SIZE],
 ) -> Answer<(usize, usize)>
-    requires { length ix.old ≡ index_size }
     ensures startable_says { StartableSays small image.now (lent head.now procs.now vars.now) result }
     ensures indexed_of { IndexedOf result image.now ix.new }
 {
     let l = load::load_indexed(image, ix);
     // Kept in each call: docs/DECISIONS.md asks that each takes the load's answer apart by `let .. else`.
-    let Ok((rels, clauses)) = l else {
+    let Ok((relations, clauses)) = l else {
         return l;
     };
     if !table_rules::full_size(head, procs, vars, entry::PROCS, entry::VARS) {
         return Err(entry::refusal(codes::STATE));
     }
-    Ok((rels, clauses))
+    Ok((relations, clauses))
 }
 
 // The process of the image's goal, about to start.
-fn goal_process(
-    image: &[u8],
-    rels: usize,
-    clauses: usize,
-    ix: &[u16; program_index::SIZE],
-) -> Process
-    requires { (rels ≤ 32) × (clauses ≤ 64) × Indexed image.now rels clauses ix.now }
-    ensures { result ≡ new_process (tag_of_goal (program_of image.now rels clauses).goal) starting 0 (goal_spot the_goal 0 0) }
+fn goal_process(image: &Image) -> Process
+    ensures { result ≡ new_process (tag_of_goal (program_in image.now).goal) starting 0 (goal_spot the_goal 0 0) }
 {
-    let tag = program_goal::tag_of_goal(image, rels, clauses, ix, 0, 0);
-    let spot = Spot {
-        kind: 0,
-        clause: 0,
-        base: 0,
-        stage: 0,
-        literal: 0,
-        block: 0,
-        found: 0,
-        first: 0,
-    };
-    let notes = [0, 0, 0, 0];
-    Process {
-        tag,
-        mode: codes::STARTING,
-        result: 0,
-        count: 0,
-        parent: 0,
-        spot,
-        notes,
-    }
+    let tag = program_goal::tag_of_goal(image, codes::THE_GOAL, 0);
+    let goal = move_plan::goal_spot(Kind::TheGoal, 0, 0);
+    move_plan::new_process(tag, Mode::Starting, 0, goal)
 }
 
 // The process table of a start: the goal's process, and zeros.
-fn begin_procs(
-    image: &[u8],
-    rels: usize,
-    clauses: usize,
-    ix: &[u16; program_index::SIZE],
-    procs: &mut [u8],
-)
-    requires { (rels ≤ 32) × (clauses ≤ 64) × (length procs.old ≡ 12288) × Indexed image.now rels clauses ix.now }
-    ensures { procs.new ≡ (started_lent small (program_of image.now rels clauses)).procs }
+fn begin_procs(image: &Image, procs: &mut [u8])
+    requires { length procs.old ≡ 12288 }
+    ensures { procs.new ≡ (started_lent small (program_in image.now)).procs }
 {
-    let x = goal_process(image, rels, clauses, ix);
+    let x = goal_process(image);
     rows::wipe(procs, 0, PROC_BYTES);
     rows::append(procs, 0, x);
 }
 
 // All three: the counts, the goal's process, and its variables unbound.
-fn begin(
-    image: &[u8],
-    rels: usize,
-    clauses: usize,
-    ix: &[u16; program_index::SIZE],
-    head: &mut [u8],
-    procs: &mut [u8],
-    vars: &mut [u8],
-)
-    requires { (rels ≤ 32) × (clauses ≤ 64) × (length head.old ≡ head_size) × (length procs.old ≡ 12288) × (length vars.old ≡ 4096) × Indexed image.now rels clauses ix.now }
-    ensures { BeginSays small (program_of image.now rels clauses) head.new procs.new vars.new }
+fn begin(image: &Image, head: &mut [u8], procs: &mut [u8], vars: &mut [u8])
+    requires { (length head.old ≡ head_size) × (length procs.old ≡ 12288) × (length vars.old ≡ 4096) }
+    ensures { BeginSays small (program_in image.now) head.new procs.new vars.new }
 {
-    let goal = program_clause::goal_vars(image, rels, clauses, ix);
-    begin_procs(image, rels, clauses, ix, procs);
+    let goal = program_clause::goal_vars(image);
+    begin_procs(image, procs);
     rows::wipe(vars, 0, VAR_BYTES);
     head::put_head(head, 1, goal, 0, 0);
 }
@@ -161,11 +128,17 @@ pub fn start(image: &[u8], head: &mut [u8], procs: &mut [u8], vars: &mut [u8]) -
     let mut ix = [0u16; program_index::SIZE];
     let a = startable(image, head, procs, vars, &mut ix);
     // Kept in each call: docs/DECISIONS.md asks that each takes the load's answer apart by `let .. else`.
-    let Ok((rels, clauses)) = a else {
+    let Ok((relations, clauses)) = a else {
         let r = load::refusal(a);
         return Err(r);
     };
-    begin(image, rels, clauses, &ix, head, procs, vars);
+    let accepted = Image {
+        bytes: image,
+        relations,
+        clauses,
+        index: &ix,
+    };
+    begin(&accepted, head, procs, vars);
     Ok(())
 }
 
@@ -176,15 +149,6 @@ fn is_const(t: Term) -> bool
     ensures { result ≡ is_const t }
 {
     matches!(t, Term::Const(_))
-}
-
-// The number of a term.
-fn number_of(t: Term) -> usize
-    ensures { result ≡ number_code (Some t) }
-{
-    match t {
-        Term::Const(k) | Term::Var(k) => k as usize,
-    }
 }
 
 // A constant for a variable whose value is t: it must be one that an image can have, before t is looked at.
@@ -199,29 +163,25 @@ fn given(t: Term, constant: u32) -> Answer<usize>
     if known {
         return Err(entry::refusal(codes::BOUND));
     }
-    Ok(number_of(t))
+    Ok(vars::number_of(t) as usize)
 }
 
 // What a supply answers, in tables that keep the rules; nothing is written yet.
-pub fn asked(
-    image: &[u8],
-    rels: usize,
-    clauses: usize,
-    ix: &[u16; program_index::SIZE],
-    head: &[u8],
-    vars: &[u8],
-    variable: u32,
-    value: u32,
-) -> Answer<usize>
-    requires { (rels ≤ 32) × (clauses ≤ 64) × (head_size ≤ length head.now) × (var_count head.now * cell_size ≤ length vars.now) × ((program_of image.now rels clauses).goal_vars ≤ var_count head.now) × Indexed image.now rels clauses ix.now }
-    ensures { result ≡ asked_of (program_of image.now rels clauses) (vars_in vars.now (var_count head.now)) variable value }
+// Kept here, at `look` and at `values::gather`, that the cells and the goal's variables are there: docs/landings/07.md names `asked`, which takes the rows as they are lent, and each of the three reads the head once.
+// Kept beside `look`, which asks for the same variable: each names its own answer where there is none, and what comes behind the value differs.
+pub fn asked(image: &Image, head: &[u8], vars: &[u8], variable: u32, value: u32) -> Answer<usize>
+    requires { (head_size ≤ length head.now) × (var_count head.now * cell_size ≤ length vars.now) × ((program_in image.now).goal_vars ≤ var_count head.now) }
+    ensures { result ≡ asked_of (program_in image.now) (vars_in vars.now (var_count head.now)) variable value }
 {
-    let goal = program_clause::goal_vars(image, rels, clauses, ix);
+    let goal = program_clause::goal_vars(image);
     if goal <= (variable as usize) {
         return Err(entry::refusal(codes::NOVAR));
     }
-    let n = head::var_count(head);
-    let t = unify::value_of(vars, n, Term::Var(variable));
+    let cells = Variables {
+        bytes: vars,
+        count: head::var_count(head),
+    };
+    let t = unify::value_of(&cells, Term::Var(variable));
     given(t, value)
 }
 
@@ -239,11 +199,17 @@ pub fn decided(
     let mut ix = [0u16; program_index::SIZE];
     let e = entry::enter(image, head, procs, vars, &mut ix);
     // Kept in each call: docs/DECISIONS.md asks that each takes the load's answer apart by `let .. else`.
-    let Ok((rels, clauses)) = e else {
+    let Ok((relations, clauses)) = e else {
         let r = load::refusal(e);
         return Err(r);
     };
-    asked(image, rels, clauses, &ix, head, vars, variable, value)
+    let accepted = Image {
+        bytes: image,
+        relations,
+        clauses,
+        index: &ix,
+    };
+    asked(&accepted, head, vars, variable, value)
 }
 
 // A supply: the value of a goal variable becomes bound to a constant.

@@ -7,7 +7,7 @@ use lib.ListN.{drop, length, take}
 use borrow.Author.Tests.{not-false, not-true}
 use Rattle.std.specs.Prelude.{None, Option, Some}
 use Rattle.missing_call.specs.Least.{above, before, in_class, least, missing, of_class}
-use Rattle.missing_call.specs.Sees.{least_of, Looks, one_at, OneIn}
+use Rattle.missing_call.specs.Sees.{least_of, one_at, OneIn, Within}
 use Rattle.missing_call.specs.declared.Asked.{Asked}
 use Rattle.missing_call.specs.declared.Seen.{Seen}
 use Rattle.name_index.specs.Index.{chain_of}
@@ -90,12 +90,12 @@ module _ (asked : Name → Bool) (x : Name) where
 abbrev pub Called : List ℕ → List ℕ → Asked → Seen → ℕ → Seen → Type 0
 Called s t a w q r = (one_at s r.at ≡ least_of s t a w (front (drop q s) ∷ [])) × OneIn s r.at × (r.end ≡ w.end)
 
-module _ {s t l : List ℕ} {a : Asked} {w : Seen} (q : ℕ) (looks : Looks s t l a w) (c : Bool) (asked : c ≡ asked_for s t a q) where
+module _ {s : List ℕ} (t : List ℕ) (a : Asked) {w : Seen} (q : ℕ) (here : Within s w) (c : Bool) (asked : c ≡ asked_for s t a q) where
   abbrev wanted : Name → Bool
   wanted = missing a.class (names_at s (take a.count t)) (one_at s a.bound)
 
   pub call_none : not c ≡ true → Called s t a w q w
-  call_none e = (none_kept wanted (front (drop q s)) (one_at s w.at) (sym asked ∙ not-true c e), looks.within, refl)
+  call_none e = (none_kept wanted (front (drop q s)) (one_at s w.at) (sym asked ∙ not-true c e), here.within, refl)
 
   module _ (is : not c ≡ false) where
     pub call-first : q ≤ length s → w.at ≡ None → Called s t a w q (record { end = w.end; at = Some q })
@@ -106,4 +106,4 @@ module _ {s t l : List ℕ} {a : Asked} {w : Seen} (q : ℕ) (looks : Looks s t 
       call-lesser i h = (rw some (lesser-kept wanted (front (drop q s)) (sym asked ∙ not-false c is) (front (drop p s)) (sym less ∙ not-false r h)), i, refl)
 
       pub call-other : not r ≡ true → Called s t a w q w
-      call-other h = (rw some (other-kept wanted (front (drop q s)) (sym asked ∙ not-false c is) (front (drop p s)) (sym less ∙ not-true r h)), looks.within, refl)
+      call-other h = (rw some (other-kept wanted (front (drop q s)) (sym asked ∙ not-false c is) (front (drop p s)) (sym less ∙ not-true r h)), here.within, refl)

@@ -1,10 +1,10 @@
--- One turn of the loop over two names.
+-- The loop over two names.
 use mathlib.Core.Path.{◌∙◌, ◌≡◌, ap, refl, sym}
 use mathlib.Core.Bool.{Bool, false, not, or_comm, true}
 use mathlib.Core.List.{[], ◌∷◌, List}
-use Prim.Native.Nat.{◌+◌, ◌<◌, ℕ}
+use Prim.Native.Nat.{◌+◌, ◌-◌, ◌<◌, ◌≤◌, ℕ}
 use lib.Dec.{ltb}
-use lib.ListN.{drop, get_or, length}
+use lib.ListN.{drop, drop_of_length-le, get_or, length}
 use borrow.Author.Tests.{eq-eqb, le-ltb, ne_eqb, not-false, not-true}
 use native.Mathlib.Omega.{arith}
 use Rattle.missing_call.specs.Least.{before}
@@ -39,3 +39,30 @@ module _ (s : List ℕ) (i j a b : ℕ) (ea : a ≡ get_or s i 0) (eb : b ≡ ge
       unfolding before
       both_go n =
           (rw (second-on, first_on, eq-eqb a b n, le-ltb a b (omega arith)), name_in s i (ap is_name (sym ea) ∙ sym g ∙ not-false t h), name_in s j (ap is_name (sym eb) ∙ sym e ∙ not-false r f))
+
+-- ---- the loop
+
+-- the names at p and q are as those at j and as far behind p
+pub record Compared (s : List ℕ) (p q j : ℕ) : Type 0 where
+  pub from : q ≤ j
+  pub inside : j ≤ length s
+  pub same : before (front (drop (p + (j - q)) s)) (front (drop j s)) ≡ before (front (drop p s)) (front (drop q s))
+
+-- how far behind p a place is
+at : {i k : ℕ} (s : List ℕ) (j : ℕ) → i ≡ k → before (front (drop i s)) (front (drop j s)) ≡ before (front (drop k s)) (front (drop j s))
+at s j e = ap (λ (i : ℕ). before (front (drop i s)) (front (drop j s))) e
+
+module _ (s : List ℕ) (p q : ℕ) where
+  pub compared-start : q ≤ length s → Compared s p q q
+  compared-start h = record { from = omega arith; inside = h; same = at s q (omega arith) }
+
+  module _ (j : ℕ) (here : Compared s p q j) where
+    pub compared-on : j < length s → before (front (drop (p + (j - q)) s)) (front (drop j s)) ≡ before (front (drop (p + (j - q) + 1) s)) (front (drop (j + 1) s)) → Compared s p q (j + 1)
+    compared-on h e =
+        let f = here.from in
+        record { from = omega arith; inside = omega arith; same = at s (j + 1) (omega arith) ∙ sym e ∙ here.same }
+
+    -- the second name ends with the text
+    pub compared-end : length s ≤ j → false ≡ before (front (drop p s)) (front (drop q s))
+    unfolding front
+    compared-end h = (rw (drop_of_length-le s h) (none_before (front (drop (p + (j - q)) s)))) ∙ here.same

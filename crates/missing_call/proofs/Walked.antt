@@ -4,7 +4,7 @@ use mathlib.Core.List.{[], ◌∷◌, List}
 use Prim.Native.Nat.{◌≤◌, ℕ}
 use lib.ListN.{drop, length}
 use Rattle.missing_call.proofs.Folded.{least-none, least_on}
-use Rattle.missing_call.specs.Sees.{least_of, Looks, OneIn, Sees}
+use Rattle.missing_call.specs.Sees.{least_of, OneIn, Sees, Within}
 use Rattle.missing_call.specs.declared.Asked.{Asked}
 use Rattle.missing_call.specs.declared.Seen.{Seen}
 use Rattle.text_names.specs.Names.{Name}
@@ -19,16 +19,16 @@ pub record Walked {A : Type 0} (f : A → List Name) (s t : List ℕ) (a : Asked
   pub inside : v.end ≤ length s
   pub within : OneIn s v.at
 
--- the table is as it was
-pub looks_on : {s t l : List ℕ} {a : Asked} {w v : Seen} → Looks s t l a w → v.end ≤ length s → OneIn s v.at → Looks s t l a v
-looks_on k h i = record { index = k.index; bound = k.bound; inside = h; within = i }
+-- both places of a walk are in the text
+pub within_of : {s : List ℕ} {v : Seen} → v.end ≤ length s → OneIn s v.at → Within s v
+within_of h i = record { inside = h; within = i }
 
 -- the least name with those of a row
 abbrev named : {A : Type 0} → (A → List Name) → List ℕ → List ℕ → Asked → Seen → Got (List A) → List Name
 named f s t a v Y = least_of s t a v (joined f Y.value)
 
 module _ {A : Type 0} (f : A → List Name) (s t : List ℕ) (a : Asked) (w : Seen) {W : Got (List A)} where
-  pub walked_start : {l : List ℕ} {Y : Got (List A)} → Looks s t l a w → Y ≡ W → Walked f s t a w W w Y
+  pub walked_start : {Y : Got (List A)} → Within s w → Y ≡ W → Walked f s t a w W w Y
   walked_start k e = record { rest = ap (λ (y : Got (List A)). y.rest) e; name = ap (named f s t a w) e; inside = k.inside; within = k.within }
 
   pub walked_on : {v u : Seen} {Y Z : Got (List A)} {rest : List ℕ} (x : A) (e : ℕ) → Y ≡ cons_got x Z → Sees s rest (least_of s t a v (f x)) u → e ≤ length s →

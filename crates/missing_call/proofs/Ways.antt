@@ -10,7 +10,7 @@ use Rattle.missing_call.proofs.Folded.{least_on}
 use Rattle.missing_call.proofs.One.{Called}
 use Rattle.missing_call.specs.Called.{calls_from, clause_calls, goal_calls, said_calls}
 use Rattle.missing_call.specs.Least.{least}
-use Rattle.missing_call.specs.Sees.{least_of, Looks, one_at, OneIn, Sees, unseen}
+use Rattle.missing_call.specs.Sees.{least_of, one_at, OneIn, Sees, unseen, Within}
 use Rattle.missing_call.specs.declared.Asked.{Asked}
 use Rattle.missing_call.specs.declared.Seen.{Seen}
 use Rattle.read_clause.specs.Parts.{ClauseIn, part_of}
@@ -49,11 +49,11 @@ module _ (s t : List ℕ) (a : Asked) (w : Seen) (m p b : ℕ) (name : drop m s 
 abbrev GoalSeen : Reader (List (List Said)) → List ℕ → List ℕ → Asked → Seen → Seen → Type 0
 GoalSeen read s t a w r = Sees s (read (drop w.end s)).rest (least_of s t a w (goal_calls (read (drop w.end s)).value)) r
 
-module _ {s t l : List ℕ} {a : Asked} {w : Seen} (looks : Looks s t l a w) where
+module _ {s : List ℕ} (t : List ℕ) (a : Asked) {w : Seen} (here : Within s w) where
   -- nothing is there
   none_seen : Sees s (drop w.end s) (least_of s t a w (goal_calls [])) w
   unfolding joined least
-  none_seen = record { end = refl; inside = looks.inside; name = refl; within = looks.within }
+  none_seen = record { end = refl; inside = here.inside; name = refl; within = here.within }
 
   module _ (b : ℕ) (is : b ≡ get_or s w.end 0) where
     pub body-none : (eqb b 46 || eqb b 59) ≡ true → GoalSeen read_body s t a w w
@@ -68,8 +68,8 @@ module _ {s t l : List ℕ} {a : Asked} {w : Seen} (looks : Looks s t l a w) whe
 abbrev pub PartSeen : List ℕ → List ℕ → Asked → Seen → List (List Said) → Seen → Type 0
 PartSeen s t a w g r = Sees s (drop r.end s) (least_of s t a w (goal_calls g)) r
 
-pub part_none : {s t l : List ℕ} {a : Asked} {w : Seen} → Looks s t l a w → PartSeen s t a w [] w
-part_none looks = none_seen looks
+pub part_none : {s : List ℕ} (t : List ℕ) (a : Asked) {w : Seen} → Within s w → PartSeen s t a w [] w
+part_none t a here = none_seen t a here
 
 -- one that was read at a place
 pub part_some : (s t : List ℕ) (a : Asked) (w : Seen) {v r : Seen} (read : Reader (List (List Said))) (at : ℕ) → v ≡ record { end = at; at = w.at } → GoalSeen read s t a v r → PartSeen s t a w (read (drop at s)).value r

@@ -1,9 +1,8 @@
 -- A walk over the calls of a text, by places.
-use Rattle.std.specs.Prelude.{◌≡◌, [], ◌∷◌, List, ◌≤◌, ℕ, drop, length, take, Option, Some, None}
+use Rattle.std.specs.Prelude.{◌≡◌, [], ◌∷◌, List, ◌≤◌, ℕ, drop, length, take, IfSome, Option, Some, None}
 use Rattle.missing_call.specs.Least.{least, missing}
 use Rattle.missing_call.specs.declared.Asked.{Asked}
 use Rattle.missing_call.specs.declared.Seen.{Seen}
-use Rattle.name_index.specs.Index.{Indexed}
 use Rattle.read_names.specs.Tables.{names_at}
 use Rattle.text_names.specs.Bytes.{front}
 use Rattle.text_names.specs.Names.{Name}
@@ -15,8 +14,7 @@ one_at s None = []
 
 -- the place, if there is one, is in the text
 abbrev pub OneIn : List ℕ → Option ℕ → Type 0
-OneIn s (Some q) = q ≤ length s
-OneIn s None = Unit {0}
+OneIn s b = IfSome b (λ q. q ≤ length s)
 
 -- nothing was seen yet
 abbrev pub unseen : ℕ → Seen
@@ -26,10 +24,8 @@ unseen from = record { end = from; at = None }
 abbrev pub least_of : List ℕ → List ℕ → Asked → Seen → List Name → List Name
 least_of s t a w xs = least (missing a.class (names_at s (take a.count t)) (one_at s a.bound)) (one_at s w.at) xs
 
--- names are at the places of a table, and all places are inside the text
-pub record Looks (s t l : List ℕ) (a : Asked) (w : Seen) : Type 0 where
-  pub index : Indexed s t l a.count
-  pub bound : OneIn s a.bound
+-- the places of a walk are in the text
+pub record Within (s : List ℕ) (w : Seen) : Type 0 where
   pub inside : w.end ≤ length s
   pub within : OneIn s w.at
 

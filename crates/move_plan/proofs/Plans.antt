@@ -1,29 +1,27 @@
 -- What plans mean, and what is known of one that acts.
 use mathlib.Core.Path.{◌≡◌, refl}
 use mathlib.Core.Bool.{Bool, cond, false, true}
-use mathlib.Core.List.{[], ◌∷◌, List}
-use Prim.Native.Nat.{◌+◌, ◌-◌, ◌<◌, ◌≤◌, suc, zero, ℕ}
+use mathlib.Core.List.{[]}
+use Prim.Native.Nat.{◌+◌, ◌-◌, ◌<◌, ◌≤◌, ℕ}
 use lib.Dec.{leb}
-use lib.ListN.{get_or, length, take}
-use lib.Seq.{length-take-le}
+use lib.ListN.{length}
 use borrow.Author.Tests.{le-leb, leb-false, leb-true, lt-leb}
 use native.Mathlib.Omega.{arith}
 use Rattle.parlog.proofs.Bools.{and-true, split}
 use Rattle.parlog.specs.Codes.{Result}
-use Rattle.parlog.specs.Delta.{Delta, four_of, report, reporting_with, with_notes}
+use Rattle.parlog.specs.Delta.{Delta, report, reporting_with, with_notes}
 use Rattle.parlog.specs.Limits.{Limits}
 use Rattle.parlog.specs.Rules.{Applied, by_rule, fits, no_rule}
 use Rattle.parlog.specs.Tables.{State}
 use Rattle.parlog.specs.declared.Move.{Move}
 use Rattle.parlog.specs.declared.Process.{Process}
-use Rattle.move_plan.specs.Plans.{applied_of, changes_of, delta_of, fits_in}
-use Rattle.move_plan.specs.declared.Changes.{Changes}
+use Rattle.move_plan.specs.Plans.{applied_of, delta_of, fits_in}
 use Rattle.move_plan.specs.declared.Plan.{Plan}
 use Rattle.rows.proofs.Tables.{procs-length}
-
-pub none-taken : (c : Changes) → c.count ≡ 0 → changes_of c ≡ []
-unfolding changes_of
-none-taken c e = rw e
+use Rattle.unify.proofs.Laws.{noted-many}
+use Rattle.unify.specs.Pending.{noted_in, pending}
+use Rattle.unify.specs.declared.waiting.Changes.{Changes}
+use Rattle.unify.specs.declared.waiting.Noted.{Noted}
 
 -- ---- a plan that acts
 
@@ -68,44 +66,37 @@ delta-fresh pl = refl
 
 -- ---- room
 
-module _ (procs vars n m : ℕ) (pl : Plan) where
-  pub fits_not : n ≤ procs → procs - n < pl.count → false ≡ fits_in procs vars n m pl
+module _ (procs vars n m count fresh : ℕ) where
+  pub fits_not : n ≤ procs → procs - n < count → false ≡ fits_in procs vars n m count fresh
   unfolding fits_in
-  fits_not a h = rw (lt-leb (n + pl.count) procs (omega arith))
+  fits_not a h = rw (lt-leb (n + count) procs (omega arith))
 
-  pub fits_by : n ≤ procs → m ≤ vars → pl.count ≤ procs - n → leb pl.fresh (vars - m) ≡ fits_in procs vars n m pl
+  pub fits_by : n ≤ procs → m ≤ vars → count ≤ procs - n → leb fresh (vars - m) ≡ fits_in procs vars n m count fresh
   unfolding fits_in
-  fits_by a b h = rw (le-leb (n + pl.count) procs (omega arith)) (split (leb pl.fresh (vars - m))
-      (λ q. let k : pl.fresh ≤ vars - m = leb-true pl.fresh (vars - m) q in rw (q, le-leb (m + pl.fresh) vars (omega arith)))
-      (λ q. let k : vars - m < pl.fresh = leb-false pl.fresh (vars - m) q in rw (q, lt-leb (m + pl.fresh) vars (omega arith))))
+  fits_by a b h = rw (le-leb (n + count) procs (omega arith)) (split (leb fresh (vars - m))
+      (λ q. let k : fresh ≤ vars - m = leb-true fresh (vars - m) q in rw (q, le-leb (m + fresh) vars (omega arith)))
+      (λ q. let k : vars - m < fresh = leb-false fresh (vars - m) q in rw (q, lt-leb (m + fresh) vars (omega arith))))
 
-  pub fits-procs : fits_in procs vars n m pl ≡ true → n + pl.count ≤ procs
+  pub fits-procs : fits_in procs vars n m count fresh ≡ true → n + count ≤ procs
   unfolding fits_in
-  fits-procs e = leb-true (n + pl.count) procs (and-true (leb (n + pl.count) procs) (leb (m + pl.fresh) vars) e).0
+  fits-procs e = leb-true (n + count) procs (and-true (leb (n + count) procs) (leb (m + fresh) vars) e).0
 
-  pub fits-vars : fits_in procs vars n m pl ≡ true → m + pl.fresh ≤ vars
+  pub fits-vars : fits_in procs vars n m count fresh ≡ true → m + fresh ≤ vars
   unfolding fits_in
-  fits-vars e = leb-true (m + pl.fresh) vars (and-true (leb (n + pl.count) procs) (leb (m + pl.fresh) vars) e).1
+  fits-vars e = leb-true (m + fresh) vars (and-true (leb (n + count) procs) (leb (m + fresh) vars) e).1
 
 -- the room of the rules
-pub fits-is : (lim : Limits) (s : State) (pl : Plan) → fits_in lim.procs lim.vars (length s.procs) (length s.vars) pl ≡ fits lim s (delta_of pl)
+pub fits-is : (lim : Limits) (s : State) (pl : Plan) → fits_in lim.procs lim.vars (length s.procs) (length s.vars) pl.count pl.fresh ≡ fits lim s (delta_of pl)
 unfolding fits_in fits
 fits-is lim s pl = rw (delta-new pl, delta-fresh pl)
 
 -- ---- notes
 
-pub taken-past : (k : ℕ) (l : List ℕ) (i : ℕ) → k ≤ i → get_or (take k l) i 0 ≡ 0
-taken-past zero l i h = refl
-taken-past (suc k) [] i h = refl
-taken-past (suc k) (x ∷ l) zero h = absurd (omega arith)
-taken-past (suc k) (x ∷ l) (suc i) h = taken-past k l i (omega arith)
-
-pub noted-is : (x : Process) (k : ℕ) (notes : List ℕ) → length notes ≡ 4 → k ≤ 4 → {a b c d : ℕ}
-    → a ≡ get_or (take k notes) 0 0 → b ≡ get_or (take k notes) 1 0 → c ≡ get_or (take k notes) 2 0 → d ≡ get_or (take k notes) 3 0
-    → ◌≡◌ {A = Process} (record { tag = x.tag; mode = 5; result = x.result; count = k; parent = x.parent; spot = x.spot; notes = a ∷ b ∷ c ∷ d ∷ [] }) (with_notes (take k notes) x)
-unfolding with_notes four_of
-noted-is x k notes e h ea eb ec ed = rw (ea, eb, ec, ed, length-take-le k notes (omega arith))
+-- as many as are counted, in a row's four places
+pub noted-is : (x : Process) (s : Noted) → ◌≡◌ {A = Process} (record { tag = x.tag; mode = 5; result = x.result; count = s.count; parent = x.parent; spot = x.spot; notes = s.notes }) (with_notes (noted_in s) x)
+unfolding with_notes noted_in
+noted-is x s = rw (← s.filled, noted-many s)
 
 -- a report that binds nothing
-pub reports-plain : {mv : Move} (t : Result) (x : Process) (c : Changes) → c.count ≡ 0 → {a : Applied} → a ≡ by_rule mv (reporting_with t x (changes_of c)) → a ≡ by_rule mv (report t x)
-reports-plain t x c e q = rw (none-taken c e) at q
+pub reports-plain : {mv : Move} (t : Result) (x : Process) (c : Changes) → pending c ≡ [] → {a : Applied} → a ≡ by_rule mv (reporting_with t x (pending c)) → a ≡ by_rule mv (report t x)
+reports-plain t x c e q = rw e at q

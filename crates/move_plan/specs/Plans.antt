@@ -1,24 +1,13 @@
 -- What a plan means.
-use Rattle.std.specs.Prelude.{◌≡◌, ◌&&◌, Bool, cond, List, ◌*◌, ◌+◌, ◌<◌, suc, zero, ℕ, leb, get_or, take, Some}
-use Rattle.parlog.specs.Codes.{Mode, mode_code, Tag, tag_code}
+use Rattle.std.specs.Prelude.{Bool, cond, get_or, leb, List, Some, suc, zero, ℕ, ◌&&◌, ◌*◌, ◌+◌, ◌<◌}
+use Rattle.move_plan.specs.declared.Plan.{Plan}
 use Rattle.parlog.specs.Delta.{Delta}
 use Rattle.parlog.specs.Rules.{Applied, by_rule, no_rule}
-use Rattle.parlog.specs.Tables.{new_process, number_code, procs_of, row_size, State, vars_in}
+use Rattle.parlog.specs.Tables.{number_code, procs_of, row_size, State, vars_in}
 use Rattle.parlog.specs.Unify.{change}
 use Rattle.parlog.specs.declared.Change.{Change}
-use Rattle.parlog.specs.declared.Process.{Process}
-use Rattle.parlog.specs.declared.Spot.{Spot}
 use Rattle.parlog.specs.declared.Term.TheVariants.{Const}
-use Rattle.move_plan.specs.declared.Changes.{Changes}
-use Rattle.move_plan.specs.declared.Plan.{Plan}
-
--- what holds for each case whose number is k
-abbrev pub Of : {K A : Type 0} → (K → ℕ) → ℕ → (K → A) → A → Type 0
-Of {K = K} code k f r = (t : K) → code t ≡ k → r ≡ f t
-
--- a new process, by the numbers of its tag and mode
-abbrev pub Born : ℕ → ℕ → ℕ → Spot → Process → Type 0
-Born k j parent z r = (t : Tag) → tag_code t ≡ k → (m : Mode) → mode_code m ≡ j → r ≡ new_process t m parent z
+use Rattle.unify.specs.Pending.{pending}
 
 -- ---- a plan
 
@@ -30,10 +19,6 @@ new_most = 12
 abbrev pub new_size : ℕ
 new_size = new_most * row_size
 
--- the bindings that wait, in order
-unfoldable pub changes_of : Changes → List Change
-changes_of c = take c.count c.list
-
 -- the change of the tables; the new processes wait as rows
 unfoldable pub delta_of : Plan → Delta
 delta_of pl = record {
@@ -41,7 +26,7 @@ delta_of pl = record {
   cut = pl.cut;
   nap = pl.nap;
   new = procs_of pl.rows pl.count;
-  changes = changes_of pl.changes;
+  changes = pending pl.changes;
   fresh = pl.fresh;
 }
 
@@ -49,8 +34,8 @@ unfoldable pub applied_of : Plan → Applied
 applied_of pl = cond pl.acts (by_rule pl.mv (delta_of pl)) no_rule
 
 -- 11 ROOM, by numbers: the limits, the counts
-unfoldable pub fits_in : ℕ → ℕ → ℕ → ℕ → Plan → Bool
-fits_in procs vars n m pl = leb (n + pl.count) procs && leb (m + pl.fresh) vars
+unfoldable pub fits_in : ℕ → ℕ → ℕ → ℕ → ℕ → ℕ → Bool
+fits_in procs vars n m count fresh = leb (n + count) procs && leb (m + fresh) vars
 
 -- Turns 9: the row that a move touches which makes k processes after n
 unfoldable pub touched : ℕ → ℕ → ℕ → ℕ

@@ -1,14 +1,17 @@
 // What a move will do, decided before anything is written, and whether there is room for it.
 #![tactic(auto)]
 
-ghost use Rattle.std.specs.Prelude.{◌≡◌, [], ◌∷◌, ◌*◌, ◌≤◌, ◌<◌, get_or, take};
-ghost use Rattle.parlog.specs.Codes.{kind_code, mode_code, result_code};
+ghost use Rattle.std.specs.Prelude.{◌≡◌, [], ◌∷◌, ◌*◌, ◌≤◌};
 ghost use Rattle.parlog.specs.Delta.{at_block, at_stage, block_spot, guard_spot, literal_spot, making, only, report, reporting_with, try_spot, with_clause, with_mode, with_notes, with_spot, woken};
+ghost use Rattle.parlog.specs.Named.{kind_named, mode_named, result_named, tag_named};
 ghost use Rattle.parlog.specs.Rules.{by_rule, no_rule};
-ghost use Rattle.parlog.specs.Tables.{goal_spot, procs_of};
-ghost use Rattle.move_plan.specs.Plans.{applied_of, Born, changes_of, fits_in, new_most, Of, touched};
+ghost use Rattle.parlog.specs.Tables.{goal_spot, new_process, procs_of};
+ghost use Rattle.unify.specs.Pending.{noted_in, pending};
+ghost use Rattle.move_plan.specs.Plans.{applied_of, fits_in, new_most, touched};
 
-use parlog::{Change, Move, Process, Spot, Term, codes};
+use parlog::cases::{Kind, Mode, Outcome, Tag};
+use parlog::{Move, Process, Spot, codes};
+use unify::{Changes, Noted};
 
 // How many new processes a plan has room for, and the bytes of their rows.
 pub const NEW_MOST: usize = 12;
@@ -19,6 +22,7 @@ pub const NEW_SIZE: usize = NEW_MOST * codes::ROW_SIZE;
 const NO_NOTES: [u16; codes::MOST_NOTES as usize] = [0; codes::MOST_NOTES as usize];
 
 // The goal of the image, with nothing named in it.
+// Kept, its kind by the code: a constant calls no method.
 const THE_GOAL: Spot = Spot {
     kind: codes::THE_GOAL,
     clause: 0,
@@ -30,14 +34,9 @@ const THE_GOAL: Spot = Spot {
     first: 0,
 };
 
-// The bindings that wait, in order.
-#[derive(Clone, Copy)]
-pub struct Changes {
-    pub count: usize,
-    pub list: [Change; codes::MOST_ARITY],
-}
-
-// The new processes wait as rows.
+// What a move does, if one is made: the new processes wait as rows.
+// Kept, the flag: rules that answer `Option<Plan>`, proved and measured, make a run of small steps 1.14 times as long, since a plan has some 400 bytes.
+// Kept, the rows and their count: bytes, as `rows::append` writes them into the lent table, which has its count beside it too.
 #[derive(Clone, Copy)]
 pub struct Plan {
     pub acts: bool,
@@ -54,35 +53,24 @@ pub struct Plan {
 // ---- one process changed
 
 #[tactic(auto, unfolding(parlog::specs::Delta::with_mode))]
-pub fn with_mode(x: Process, mode: u8) -> Process
-    ensures { Of mode_code mode (λ m. with_mode m x) result }
+pub fn with_mode(x: Process, mode: Mode) -> Process
+    ensures { result ≡ with_mode (mode_named mode) x }
 {
-    Process { mode, ..x }
-}
-
-// Note i of the first `count`; past them, 0.
-fn note_at(notes: [u16; codes::MOST_NOTES as usize], count: u8, i: usize) -> u16
-    requires { i < 4 }
-    ensures { result ≡ get_or (take count notes) i 0 }
-{
-    if i < usize::from(count) { notes[i] } else { 0 }
-}
-
-// Suspended, noting the first `count` of these.
-pub fn with_notes(x: Process, count: u8, notes: [u16; codes::MOST_NOTES as usize]) -> Process
-    requires { count ≤ 4 }
-    ensures { result ≡ with_notes (take count notes) x }
-{
-    let kept = [
-        note_at(notes, count, 0),
-        note_at(notes, count, 1),
-        note_at(notes, count, 2),
-        note_at(notes, count, 3),
-    ];
     Process {
-        mode: codes::SUSPENDED,
-        count,
-        notes: kept,
+        mode: mode.number(),
+        ..x
+    }
+}
+
+// Suspended, noting these.
+pub fn with_notes(x: Process, s: Noted) -> Process
+    ensures { result ≡ with_notes (noted_in s) x }
+{
+    let notes = s.notes;
+    Process {
+        mode: Mode::Suspended.number(),
+        count: s.count,
+        notes,
         ..x
     }
 }
@@ -93,7 +81,7 @@ pub fn woken(x: Process) -> Process
     ensures { result ≡ woken x }
 {
     Process {
-        mode: codes::STARTING,
+        mode: Mode::Starting.number(),
         count: 0,
         notes: NO_NOTES,
         ..x
@@ -101,10 +89,14 @@ pub fn woken(x: Process) -> Process
 }
 
 #[tactic(auto, unfolding(parlog::specs::Delta::with_spot))]
-pub fn with_spot(x: Process, mode: u8, z: Spot) -> Process
-    ensures { Of mode_code mode (λ m. with_spot m z x) result }
+pub fn with_spot(x: Process, mode: Mode, z: Spot) -> Process
+    ensures { result ≡ with_spot (mode_named mode) z x }
 {
-    Process { mode, spot: z, ..x }
+    Process {
+        mode: mode.number(),
+        spot: z,
+        ..x
+    }
 }
 
 // ---- places
@@ -187,11 +179,11 @@ pub fn guard_spot(k: u8, v: u16) -> Spot
 }
 
 // A whole goal: the image's, or the guard or committed body of clause k.
-pub fn goal_spot(kind: u8, k: u8, base: u16) -> Spot
-    ensures { Of kind_code kind (λ t. goal_spot t k base) result }
+pub fn goal_spot(kind: Kind, k: u8, base: u16) -> Spot
+    ensures { result ≡ goal_spot (kind_named kind) k base }
 {
     Spot {
-        kind,
+        kind: kind.number(),
         clause: k,
         base,
         ..THE_GOAL
@@ -200,14 +192,14 @@ pub fn goal_spot(kind: u8, k: u8, base: u16) -> Spot
 
 // Kept, no `Default`: four of seven fields are given.
 #[tactic(auto, unfolding(parlog::specs::Tables::new_process))]
-pub fn new_process(tag: u8, mode: u8, parent: usize, z: Spot) -> Process
+pub fn new_process(tag: Tag, mode: Mode, parent: usize, z: Spot) -> Process
     requires { parent ≤ 65535 }
-    ensures { Born tag mode parent z result }
+    ensures { result ≡ new_process (tag_named tag) (mode_named mode) parent z }
 {
     Process {
-        tag,
-        mode,
-        result: codes::NONE,
+        tag: tag.number(),
+        mode: mode.number(),
+        result: Outcome::Nothing.number(),
         count: 0,
         parent: parent as u16,
         spot: z,
@@ -217,20 +209,6 @@ pub fn new_process(tag: u8, mode: u8, parent: usize, z: Spot) -> Process
 
 // ---- plans
 
-// Kept, no `Default`: a `Change` has none, since no term is the first.
-pub fn no_changes() -> Changes
-    ensures { result.count ≡ 0 }
-{
-    let unused = Change {
-        var: 0,
-        to: Term::Const(0),
-    };
-    Changes {
-        count: 0,
-        list: [unused; codes::MOST_ARITY],
-    }
-}
-
 // Kept, each of the three plans names all its fields: one made from another by `..` would set its rows twice.
 
 // No rule applies.
@@ -238,7 +216,7 @@ pub fn none() -> Plan
     ensures { (applied_of result ≡ no_rule) × (result.count ≤ new_most) × (result.changes.count ≡ 0) }
 {
     let z = guard_spot(0, 0);
-    let x = new_process(codes::AND_PAR, codes::DORMANT, 0, z);
+    let x = new_process(Tag::AndPar, Mode::Dormant, 0, z);
     Plan {
         acts: false,
         mv: Move::Ready(0),
@@ -247,7 +225,7 @@ pub fn none() -> Plan
         nap: None,
         count: 0,
         rows: [0; NEW_SIZE],
-        changes: no_changes(),
+        changes: Changes::none(),
         fresh: 0,
     }
 }
@@ -272,7 +250,7 @@ pub fn make(
         nap,
         count,
         rows,
-        changes: no_changes(),
+        changes: Changes::none(),
         fresh,
     }
 }
@@ -301,15 +279,15 @@ pub fn only(mv: Move, x: Process) -> Plan
 }
 
 // The mover reports, and binds these.
-pub fn report_with(mv: Move, res: u8, x: Process, changes: Changes) -> Plan
-    ensures { Of result_code res (λ t. by_rule mv (reporting_with t x (changes_of changes))) (applied_of result) × (result.count ≤ new_most) × (result.changes ≡ changes) × (result.fresh ≡ 0) }
+pub fn report_with(mv: Move, res: Outcome, x: Process, changes: Changes) -> Plan
+    ensures { (applied_of result ≡ by_rule mv (reporting_with (result_named res) x (pending changes))) × (result.count ≤ new_most) × (result.changes ≡ changes) × (result.fresh ≡ 0) }
 {
     Plan {
         acts: true,
         mv,
         me: Process {
-            mode: codes::REPORTING,
-            result: res,
+            mode: Mode::Reporting.number(),
+            result: res.number(),
             ..x
         },
         cut: true,
@@ -321,16 +299,16 @@ pub fn report_with(mv: Move, res: u8, x: Process, changes: Changes) -> Plan
     }
 }
 
-pub fn report(mv: Move, res: u8, x: Process) -> Plan
-    ensures { Of result_code res (λ t. by_rule mv (report t x)) (applied_of result) × (result.count ≤ new_most) × (result.changes.count ≡ 0) }
+pub fn report(mv: Move, res: Outcome, x: Process) -> Plan
+    ensures { (applied_of result ≡ by_rule mv (report (result_named res) x)) × (result.count ≤ new_most) × (result.changes.count ≡ 0) }
 {
-    report_with(mv, res, x, no_changes())
+    report_with(mv, res, x, Changes::none())
 }
 
-// With these limits and counts there is room for what the plan makes.
-pub fn fits(procs: usize, vars: usize, n: usize, m: usize, plan: Plan) -> bool
+// With these limits and counts there is room for so many new processes and variables.
+pub fn fits(procs: usize, vars: usize, n: usize, m: usize, count: usize, fresh: usize) -> bool
     requires { (n ≤ procs) × (m ≤ vars) }
-    ensures { result ≡ fits_in procs vars n m plan }
+    ensures { result ≡ fits_in procs vars n m count fresh }
 {
-    plan.count <= procs - n && plan.fresh <= vars - m
+    count <= procs - n && fresh <= vars - m
 }

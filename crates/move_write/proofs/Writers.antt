@@ -7,7 +7,9 @@ use mathlib.Core.List.{[], ◌++◌, ◌∷◌, append_assoc, append-nil, List}
 use Prim.Native.Nat.{◌+◌, ◌<◌, ◌≤◌, ℕ}
 use lib.Dec.{eqb}
 use lib.ListN.{get_or, length, length-append, length-replicate, length-set, replicate, set, take}
-use lib.Seq.{get_or-set_other, get_or-set_same, set_out, take-suc}
+use Rattle.std.proofs.lemmas.List.{length-take}
+use Rattle.parlog.specs.declared.Term.TheVariants.{Const}
+use lib.Seq.{get_or-take, get_or-set_other, get_or-set_same, set_out, take-suc}
 use borrow.Author.Tests.{eqb-false, eqb-true}
 use native.Mathlib.Omega.{arith}
 use native.Mathlib.Numerals.{add-one}
@@ -20,16 +22,18 @@ use Rattle.parlog.specs.Delta.{apply, asleep, Delta, is_at, row_after, with_mode
 use Rattle.parlog.specs.Scan.{build}
 use Rattle.parlog.specs.Tables.{at, idle, process_at, procs_of, vars_in}
 use Rattle.parlog.specs.Tree.{below}
-use Rattle.parlog.specs.Unify.{changed}
+use Rattle.parlog.specs.Unify.{change, changed}
 use Rattle.parlog.specs.declared.Change.{Change}
 use Rattle.parlog.specs.declared.Process.{Process}
-use Rattle.move_plan.specs.Plans.{changes_of, delta_of, state_in, Within}
+use Rattle.move_plan.specs.Plans.{Binds, delta_of, state_in, Within}
 use Rattle.move_write.specs.Writing.{cut_below, napped, procs_after, slept_at, vars_after}
 use Rattle.move_plan.specs.declared.Plan.{Plan}
 use Rattle.rows.proofs.Tables.{procs-at, procs-length, procs-none, procs-snoc, table-rows, table_same, table-then}
 use Rattle.rows.specs.Rows.{Table}
 use Rattle.tree.proofs.Passing.{slept-at, slept-length}
 use Rattle.tree.specs.Family.{slept_below}
+use Rattle.unify.specs.Pending.{pending}
+use Rattle.unify.specs.declared.waiting.Changes.{Changes}
 use Rattle.vars.proofs.Tables.{cells-rows, cells_same, cells-then, vars-length}
 use Rattle.vars.specs.Cells.{Cells}
 
@@ -177,17 +181,24 @@ module _ (l l1 : List ℕ) (m : ℕ) (cs : List Change) (i : ℕ) (h : i < lengt
       let w' : Cells (length (changed (vars_in l m) (take i cs))) l1 l2 (changed (vars_in l m) (take (i + 1) cs)) = rw so_far (rw s at w) in
       cells-then t w' (omega (arith, so_far, changed-length (vars_in l m) (take (i + 1) cs), vars-length l m))
 
+-- each of those that wait can be bound
+pub within-made : (m : ℕ) (cs : Changes) → Within m cs.count cs.list → (i : ℕ) → i < length (pending cs) → Binds m (get_or (pending cs) i (change 0 (Const 0)))
+unfolding pending
+within-made m cs w i h =
+    let l : i < cs.count = omega (arith, length-take cs.count cs.list) in
+    rw (get_or-take cs.count cs.list i (change 0 (Const 0)) l) (w i l)
+
 pub vars-done : (l l1 l2 : List ℕ) (m : ℕ) (pl : Plan)
     → Cells m l l1 (vars_in l m ++ replicate pl.fresh None)
-    → Cells (m + pl.fresh) l1 l2 (changed (vars_in l1 (m + pl.fresh)) (take pl.changes.count pl.changes.list))
+    → Cells (m + pl.fresh) l1 l2 (changed (vars_in l1 (m + pl.fresh)) (pending pl.changes))
     → Cells m l l2 (vars_after (vars_in l m) (delta_of pl))
-unfolding vars_after delta_of changes_of
+unfolding vars_after delta_of
 vars-done l l1 l2 m pl a b =
     let k : length (vars_in l m ++ replicate pl.fresh None) ≡ m + pl.fresh =
     length-append (vars_in l m) (replicate pl.fresh None) ∙ omega (arith, vars-length l m, length-replicate {A = Option Term} pl.fresh None) in
     let e : vars_in l1 (m + pl.fresh) ≡ vars_in l m ++ replicate pl.fresh None = cells-rows (m + pl.fresh) a k in
-    let j : length (changed (vars_in l m ++ replicate pl.fresh None) (take pl.changes.count pl.changes.list)) ≡ m + pl.fresh =
-    changed-length (vars_in l m ++ replicate pl.fresh None) (take pl.changes.count pl.changes.list) ∙ k in
+    let j : length (changed (vars_in l m ++ replicate pl.fresh None) (pending pl.changes)) ≡ m + pl.fresh =
+    changed-length (vars_in l m ++ replicate pl.fresh None) (pending pl.changes) ∙ k in
     cells-then a (rw k (rw e at b)) (omega (arith, k, j))
 
 -- ---- both tables

@@ -1,18 +1,21 @@
 // Carries a plan out: the one writer of the tables in a move.
 #![tactic(auto)]
 
-ghost use Rattle.std.specs.Prelude.{◌++◌, ◌+◌, ◌*◌, ◌≤◌, ◌<◌, length, take};
+ghost use Rattle.std.specs.Prelude.{◌++◌, ◌+◌, ◌*◌, ◌≤◌, ◌<◌, length};
 ghost use Rattle.parlog.specs.Delta.{apply};
 ghost use Rattle.parlog.specs.Tables.{cell_size, procs_of, row_size, vars_in};
 ghost use Rattle.parlog.specs.Unify.{changed};
 ghost use Rattle.rows.specs.Rows.{Table};
+ghost use Rattle.unify.specs.Pending.{pending};
 ghost use Rattle.tree.specs.Family.{Falls, most_rows};
 ghost use Rattle.vars.specs.Cells.{Cells};
 ghost use Rattle.move_plan.specs.Plans.{delta_of, new_most, state_in, Within};
 ghost use Rattle.move_write.specs.Writing.{cut_below, napped, procs_after, slept_at, vars_after};
 
-use move_plan::{Changes, Plan};
-use parlog::codes;
+use move_plan::Plan;
+use parlog::cases::Mode;
+use rows::Processes;
+use unify::Changes;
 
 // Where `cut` says so, all below p fall asleep.
 fn cut_below(procs: &mut [u8], n: usize, p: usize, cut: bool)
@@ -29,8 +32,12 @@ fn sleep_at(procs: &mut [u8], n: usize, c: usize)
     ensures { Table procs.old procs.new (slept_at (procs_of procs.old n) c) }
 {
     if c < n {
-        let x = rows::get(procs, n, c);
-        let y = move_plan::with_mode(x, codes::DORMANT);
+        let used = Processes {
+            bytes: procs,
+            count: n,
+        };
+        let x = used.get(c);
+        let y = move_plan::with_mode(x, Mode::Dormant);
         rows::put(procs, n, c, y);
     }
 }
@@ -47,22 +54,27 @@ fn nap_at(procs: &mut [u8], n: usize, nap: Option<usize>)
 }
 
 // The first k of these rows follow the first n.
+// Kept, rows and a count: a plan has them so, and `rows::Processes` reads them.
 fn append_all(procs: &mut [u8], n: usize, rows: [u8; move_plan::NEW_SIZE], k: usize)
     requires { ((n + k) * row_size ≤ length procs.old) × (k ≤ new_most) }
     ensures { Table procs.old procs.new (procs_of procs.old n ++ procs_of rows k) }
 {
     for i in 0..k {
-        let x = rows::get(&rows, k, i);
+        let new = Processes {
+            bytes: &rows,
+            count: k,
+        };
+        let x = new.get(i);
         rows::append(procs, n + i, x);
     }
 }
 
 // These changes are bound, in order.
 fn bind_all(vars: &mut [u8], m: usize, changes: Changes)
-    requires { (m * cell_size ≤ length vars.old) × (changes.count ≤ 4) × Within m changes.count changes.list }
-    ensures { Cells m vars.old vars.new (changed (vars_in vars.old m) (take changes.count changes.list)) }
+    requires { (m * cell_size ≤ length vars.old) × Within m changes.count changes.list }
+    ensures { Cells m vars.old vars.new (changed (vars_in vars.old m) (pending changes)) }
 {
-    for c in &changes.list[..changes.count] {
+    for c in changes.made() {
         let v = c.var as usize;
         vars::bind(vars, m, v, c.to);
     }
@@ -81,7 +93,7 @@ fn write_procs(procs: &mut [u8], n: usize, p: usize, plan: Plan)
 }
 
 fn write_vars(vars: &mut [u8], m: usize, plan: Plan)
-    requires { ((m + plan.fresh) * cell_size ≤ length vars.old) × (plan.changes.count ≤ 4) × Within (m + plan.fresh) plan.changes.count plan.changes.list }
+    requires { ((m + plan.fresh) * cell_size ≤ length vars.old) × Within (m + plan.fresh) plan.changes.count plan.changes.list }
     ensures { Cells m vars.old vars.new (vars_after (vars_in vars.old m) (delta_of plan)) }
 {
     vars::grow(vars, m, plan.fresh);
@@ -90,7 +102,7 @@ fn write_vars(vars: &mut [u8], m: usize, plan: Plan)
 
 // Carries a plan out.
 pub fn write(procs: &mut [u8], n: usize, vars: &mut [u8], m: usize, p: usize, plan: Plan)
-    requires { ((n + plan.count) * row_size ≤ length procs.old) × (plan.count ≤ new_most) × (p < n) × Falls (procs_of procs.old n) × ((m + plan.fresh) * cell_size ≤ length vars.old) × (plan.changes.count ≤ 4) × Within (m + plan.fresh) plan.changes.count plan.changes.list × (n ≤ most_rows) }
+    requires { ((n + plan.count) * row_size ≤ length procs.old) × (plan.count ≤ new_most) × (p < n) × Falls (procs_of procs.old n) × ((m + plan.fresh) * cell_size ≤ length vars.old) × Within (m + plan.fresh) plan.changes.count plan.changes.list × (n ≤ most_rows) }
     ensures { Table procs.old procs.new (apply (state_in procs.old n vars.old m) p (delta_of plan)).procs × Cells m vars.old vars.new (apply (state_in procs.old n vars.old m) p (delta_of plan)).vars }
 {
     write_procs(procs, n, p, plan);

@@ -30,6 +30,9 @@ chain-from h (b ∷ x) l = chain-from ((h * 31 + b) % 512) x (mod-lt (h * 31 + b
 pub chain-small : (x : Name) → chain_of x < 512
 chain-small x = chain-from 0 x (omega arith)
 
+-- what shows that a chain's number is an index of the links
+pub ruleset in_links = (chain-small, length-set)
+
 module _ (xs : List Name) (h : ℕ) where
   latest-most : (n : ℕ) → latest xs h n ≤ n
   unfolding latest

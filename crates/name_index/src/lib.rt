@@ -2,6 +2,7 @@
 #![tactic(auto)]
 
 ghost use Rattle.std.specs.Prelude.{◌≡◌, ◌%◌, ◌*◌, ◌+◌, ◌<◌, ◌≤◌, drop, length, take};
+ghost use Rattle.std.proofs.Props.{props};
 ghost use Rattle.name_index.specs.Index.{AddsOne, chain_of, Indexed, Spells};
 ghost use Rattle.read_names.specs.Tables.{names_at};
 ghost use Rattle.text_names.specs.Bytes.{front};
@@ -39,6 +40,7 @@ fn chained(h: usize, b: usize) -> usize
 }
 
 // The name at a place.
+// Kept, that the place is in the text, here and at `add`: the head of crate `read_goal` says why places stay apart from their text.
 pub fn name_at(s: &[u8], at: usize) -> Word
     requires { at ≤ length s.now }
     ensures { Spells s.now at result }
@@ -57,31 +59,40 @@ pub fn name_at(s: &[u8], at: usize) -> Word
     }
 }
 
-// The number of the name at q, which is in a chain, among the first n places; only the contract reads n.
-pub fn find(
-    s: &[u8],
-    places: &[usize],
-    links: &[u16],
-    n: usize,
-    q: usize,
-    chain: usize,
-) -> Option<usize>
-    requires { (q ≤ length s.now) × (chain ≡ chain_of (front (drop q s.now))) × Indexed s.now places.now links.now n }
-    ensures { FoundAt (names_at s.now (take n places.now)) (front (drop q s.now)) result }
-{
-    let mut k = usize::from(links[chain]);
-    while 0 < k {
-        let i = k - 1;
-        let p = read_names::within(s, places[i]);
-        if text_names::same_name(s, p, q) {
-            return Some(i);
+// Names of a text at the first places of a table, each once, with their chains.
+#[derive(Clone, Copy)]
+pub struct Table<'a> {
+    pub text: &'a [u8],
+    pub places: &'a [usize],
+    pub links: &'a [u16],
+    pub count: usize,
+    pub ghost indexed: { Indexed text.now places.now links.now count } by { Prim.hlevel props },
+}
+
+impl<'a> Table<'a> {
+    // The number of the name at q, which is in a chain.
+    // Kept: place and chain apart, here and in `add`: a struct of both would hold the text too, and each function would ask that it is the table's.
+    #[tactic(auto, using(crate::proofs::Chains::in_links))]
+    pub fn find(&self, q: usize, chain: usize) -> Option<usize>
+        requires { (q ≤ length self.now.text.now) × (chain ≡ chain_of (front (drop q self.now.text.now))) }
+        ensures { FoundAt (names_at self.now.text.now (take self.now.count self.now.places.now)) (front (drop q self.now.text.now)) result }
+    {
+        let mut k = usize::from(self.links[chain]);
+        while 0 < k {
+            let i = k - 1;
+            let p = read_names::within(self.text, self.places[i]);
+            if text_names::same_name(self.text, p, q) {
+                return Some(i);
+            }
+            k = usize::from(self.links[CHAINS + i]);
         }
-        k = usize::from(links[CHAINS + i]);
+        None
     }
-    None
 }
 
 // The name at q among them, if it is new and there is room.
+// Kept, two lent rows and a count: they lie in a `take_term::Draft` with a `Reading`, in `take_modes::Tables` with what is known, and in rows of declared_calls, so that each caller would make a struct of them for this one call.
+#[tactic(auto, using(crate::proofs::Chains::in_links))]
 pub fn add(
     s: &[u8],
     places: &mut [usize],
@@ -93,7 +104,13 @@ pub fn add(
     requires { (q ≤ length s.now) × (chain ≡ chain_of (front (drop q s.now))) × Indexed s.now places.old links.old n }
     ensures { AddsOne s.now places.old links.old n (front (drop q s.now)) places.new links.new result }
 {
-    if let Some(number) = find(s, places, links, n, q, chain) {
+    let table = Table {
+        text: s,
+        places,
+        links,
+        count: n,
+    };
+    if let Some(number) = table.find(q, chain) {
         return Added { count: n, number };
     }
     if n < places.len() {

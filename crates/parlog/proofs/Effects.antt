@@ -11,7 +11,8 @@ use lib.ListN.{get_or, length, length-append, length-replicate, get_or-append, r
 use lib.Seq.{ext_get_or, get_or-append-add}
 use borrow.Author.Tests.{eq-eqb, eqb-false, eqb-true, ltb-false, ltb-true, ne_eqb}
 use native.Mathlib.Omega.{arith}
-use Rattle.parlog.proofs.Bools.{not_so, split}
+use Rattle.std.proofs.lemmas.Bool.{false_from_ne_true}
+use Rattle.parlog.proofs.Bools.{split}
 use Rattle.parlog.proofs.Changing.{changed-is, changed-only}
 use Rattle.parlog.proofs.Scans.{build-at, build-length}
 use Rattle.parlog.specs.Delta.{apply, asleep, Delta, is_at, row_after}
@@ -64,7 +65,7 @@ module _ (s : State) (p : ℕ) (d : Delta) where
 
   module _ (Sleeps : ℕ → Type 0) (low : p < length s.procs) (a : Agrees s p d Sleeps) where
     kept_by : (i : ℕ) → i < length s.procs → i ≢ p → (Sleeps i → ⊥) → sleeps_in s p d i ≡ false
-    kept_by i h q n = not_so (sleeps_in s p d i) (λ e. n (a.sleeps i h e))
+    kept_by i h q n = false_from_ne_true (sleeps_in s p d i) (λ e. n (a.sleeps i h e))
 
     slept-by : (i : ℕ) → i < length s.procs → Sleeps i → sleeps_in s p d i ≡ true
     slept-by i h z = split (sleeps_in s p d i) (λ e. e) (λ e. absurd (a.stays i h e z))

@@ -8,7 +8,9 @@ use lib.Dec.{eqb}
 use lib.ListN.{length}
 use borrow.Author.Tests.{eq-eqb, eqb-false, eqb-true, ne_eqb, not-true}
 use native.Mathlib.Omega.{arith}
-use Rattle.parlog.proofs.Bools.{and-true, implies_true, never, not_so, or_right, split, true-and, true_implies}
+use Rattle.std.proofs.lemmas.Option.{none-some}
+use Rattle.std.proofs.lemmas.Bool.{and_from, and_parts, false_from_ne_true, or_right}
+use Rattle.parlog.proofs.Bools.{implies_true, never, split, true_implies}
 use Rattle.parlog.proofs.Scans.{every-at, every-is, highest-at, highest-is, lowest-at, lowest-is, lowest-none, lowest-nothing, some_is, some-true}
 use Rattle.parlog.specs.Codes.{failure, is_mode, is_result, is_tag, mode_code, reporting, Result, result_code, success, tag_code, try_clause}
 use Rattle.parlog.specs.Notions.{above_parent, AllReport, Below, Child, deeper, Hears, is_parent, Latest, LowestReports, me, Nearest, next_below, Reports, SomeReports}
@@ -22,7 +24,7 @@ module _ (s : State) (p : ℕ) where
   pub child-at : (i : ℕ) → i < length s.procs → is_child s.procs p i ≡ true → Child s p i
   unfolding is_child
   child-at i h e =
-      let a = and-true (not (eqb i 0)) (eqb (me s i).parent p) e in
+      let a = and_parts (not (eqb i 0)) (eqb (me s i).parent p) e in
       record { there = h; other = eqb-false i 0 (not-true (eqb i 0) a.0); parent = eqb-true (me s i).parent p a.1 }
 
   pub child-test : {i : ℕ} → Child s p i → is_child s.procs p i ≡ true
@@ -32,7 +34,7 @@ module _ (s : State) (p : ℕ) where
 pub reports-at : (s : State) (c : ℕ) (r : Result) → reports r (me s c) ≡ true → Reports s c r
 unfolding reports
 reports-at s c r e =
-    let a = and-true (is_mode reporting (me s c).mode) (is_result r (me s c).result) e in
+    let a = and_parts (is_mode reporting (me s c).mode) (is_result r (me s c).result) e in
     record { mode = eqb-true (me s c).mode (mode_code reporting) a.0; result = eqb-true (me s c).result (result_code r) a.1 }
 
 pub reports-test : (s : State) (c : ℕ) (r : Result) → Reports s c r → reports r (me s c) ≡ true
@@ -91,7 +93,7 @@ module _ (s : State) (p : ℕ) where
   pub hears-bad : {c : ℕ} → Hears s p c failure → heard s.procs p ≡ bad c
   unfolding heard heard_from
   hears-bad {c} h =
-      rw (latest-is h.latest, not_so (reports success (me s c)) (λ e. not-both s c (reports-at s c success e) h.reports), reports-test s c failure h.reports)
+      rw (latest-is h.latest, false_from_ne_true (reports success (me s c)) (λ e. not-both s c (reports-at s c success e) h.reports), reports-test s c failure h.reports)
 
   -- ---- any child, all children, the lowest
 
@@ -99,14 +101,14 @@ module _ (s : State) (p : ℕ) where
   unfolding any_child child_reports
   any_at r e =
       let (c, h, q) = some-true (child_reports r s.procs p) (length s.procs) e in
-      let a = and-true (is_child s.procs p c) (reports r (me s c)) q in
+      let a = and_parts (is_child s.procs p c) (reports r (me s c)) q in
       record { which = c; child = child-at s p c h a.0; reports = reports-at s c r a.1 }
 
   pub any-test : (r : Result) → SomeReports s p r → any_child r s.procs p ≡ true
   unfolding any_child child_reports
   any-test r q =
       some_is (child_reports r s.procs p) (length s.procs) q.which q.child.there
-      (true-and (is_child s.procs p q.which) (reports r (me s q.which)) (child-test s p q.child) (reports-test s q.which r q.reports))
+      (and_from (is_child s.procs p q.which) (reports r (me s q.which)) (child-test s p q.child) (reports-test s q.which r q.reports))
 
   pub any-not : (r : Result) → any_child r s.procs p ≡ false → SomeReports s p r → ⊥
   any-not r e q = never (sym e ∙ any-test r q)
@@ -124,7 +126,7 @@ module _ (s : State) (p : ℕ) where
 
   -- all succeed: none fails
   pub all-not-any : AllReport s p success → any_child failure s.procs p ≡ false
-  all-not-any q = not_so (any_child failure s.procs p) (λ e. let a = any_at failure e in not-both s a.which (q a.which a.child) a.reports)
+  all-not-any q = false_from_ne_true (any_child failure s.procs p) (λ e. let a = any_at failure e in not-both s a.which (q a.which a.child) a.reports)
 
   -- all fail: none succeeds
   pub all-fail : AllReport s p failure → SomeReports s p success → ⊥
@@ -134,11 +136,11 @@ module _ (s : State) (p : ℕ) where
   unfolding lowest_child child_reports
   lowest-child-at r c e =
       let q = lowest-at (child_reports r s.procs p) (length s.procs) c e in
-      let a = and-true (is_child s.procs p c) (reports r (me s c)) q.passes in
+      let a = and_parts (is_child s.procs p c) (reports r (me s c)) q.passes in
       record {
         child = child-at s p c q.there a.0;
         reports = reports-at s c r a.1;
-        none_lower = λ i d w. q.least i d.there (true-and (is_child s.procs p i) (reports r (me s i)) (child-test s p d) (reports-test s i r w));
+        none_lower = λ i d w. q.least i d.there (and_from (is_child s.procs p i) (reports r (me s i)) (child-test s p d) (reports-test s i r w));
       }
 
   pub lowest-child-is : (r : Result) {c : ℕ} → LowestReports s p c r → lowest_child r s.procs p ≡ Some c
@@ -147,22 +149,22 @@ module _ (s : State) (p : ℕ) where
       lowest-is (child_reports r s.procs p) (length s.procs) c
       (record {
         there = q.child.there;
-        passes = true-and (is_child s.procs p c) (reports r (me s c)) (child-test s p q.child) (reports-test s c r q.reports);
-        least = λ i h e. let a = and-true (is_child s.procs p i) (reports r (me s i)) e in q.none_lower i (child-at s p i h a.0) (reports-at s i r a.1);
+        passes = and_from (is_child s.procs p c) (reports r (me s c)) (child-test s p q.child) (reports-test s c r q.reports);
+        least = λ i h e. let a = and_parts (is_child s.procs p i) (reports r (me s i)) e in q.none_lower i (child-at s p i h a.0) (reports-at s i r a.1);
       })
 
   pub lowest-child-none : (r : Result) → lowest_child r s.procs p ≡ None → SomeReports s p r → ⊥
   unfolding lowest_child child_reports
   lowest-child-none r e q =
       never (sym (lowest-none (child_reports r s.procs p) (length s.procs) q.which e q.child.there)
-      ∙ true-and (is_child s.procs p q.which) (reports r (me s q.which)) (child-test s p q.child) (reports-test s q.which r q.reports))
+      ∙ and_from (is_child s.procs p q.which) (reports r (me s q.which)) (child-test s p q.child) (reports-test s q.which r q.reports))
 
   pub no-lowest-child : (r : Result) → (SomeReports s p r → ⊥) → lowest_child r s.procs p ≡ None
   unfolding lowest_child child_reports
   no-lowest-child r n =
       lowest-nothing (child_reports r s.procs p) (length s.procs)
-      (λ i h. not_so (child_reports r s.procs p i) (λ e.
-      let a = and-true (is_child s.procs p i) (reports r (me s i)) e in n (record { which = i; child = child-at s p i h a.0; reports = reports-at s i r a.1 })))
+      (λ i h. false_from_ne_true (child_reports r s.procs p i) (λ e.
+      let a = and_parts (is_child s.procs p i) (reports r (me s i)) e in n (record { which = i; child = child-at s p i h a.0; reports = reports-at s i r a.1 })))
 
   -- ---- below
 
@@ -170,7 +172,7 @@ module _ (s : State) (p : ℕ) where
   unfolding climb
   climb-below k zero i h e = never e
   climb-below k (suc n) i h e =
-      let a = and-true (not (eqb i 0)) (eqb (me s i).parent p || climb n s.procs p (me s i).parent) e in
+      let a = and_parts (not (eqb i 0)) (eqb (me s i).parent p || climb n s.procs p (me s i).parent) e in
       let o : i ≢ 0 = eqb-false i 0 (not-true (eqb i 0) a.0) in
       split (eqb (me s i).parent p)
       (λ q. next_below (record { there = h; other = o; parent = eqb-true (me s i).parent p q }))
@@ -204,14 +206,11 @@ module _ (s : State) (k : Kin s) where
       rw (← z) (is_parent (record { there = h; other = o; parent = refl }) (eqb-true (me s (me s i).parent).tag (tag_code try_clause) q))
   near-from n i c h o false q back e = above_parent (record { there = h; other = o; parent = refl }) (eqb-false (me s (me s i).parent).tag (tag_code try_clause) q) (back e)
 
-  nothing-at : {X : Type 0} {c : ℕ} → None ≡ Some c → X
-  nothing-at e = let z : ◌≡◌ {A = ℕ} 0 1 = cc in absurd (omega arith)
-
   near_by : (n i c : ℕ) → i < length s.procs → try_above n s.procs i ≡ Some c → Nearest s i c
   unfolding try_above
-  near_by zero i c h e = nothing-at e
+  near_by zero i c h e = absurd (none-some _ e)
   near_by (suc n) i c h e = split (eqb i 0)
-      (λ q. nothing-at (rw q at e))
+      (λ q. absurd (none-some _ (rw q at e)))
       (λ q. let o : i ≢ 0 = eqb-false i 0 q in
       near-from n i c h o (is_tag try_clause (me s (me s i).parent).tag) refl (near_by n (me s i).parent c (omega (arith, k.lower i h o))) (rw q at e))
 

@@ -23,7 +23,6 @@ use Rattle.lay_literal.specs.Fits.{goal_fits}
 use Rattle.lay_literal.specs.Lows.{lows}
 use Rattle.mode_table.specs.Moded.{Moded}
 use Rattle.mode_table.specs.declared.Lines.{Lines}
-use Rattle.name_index.specs.Index.{Indexed}
 use Rattle.parlog.proofs.Bools.{or-none}
 use Rattle.parlog.specs.Load.{after, nothing_read, refusal}
 use Rattle.parlog.specs.declared.Progress.{Progress}
@@ -47,13 +46,6 @@ use Rattle.text_program.specs.Encoded.{relation_bytes}
 use Rattle.text_program.specs.Numbered.{joined}
 use Rattle.text_program.specs.Parsing.{all_of, declared, sourced, unread}
 use Rattle.text_program.specs.Source.{behind_arrow, is_clause, is_mode_line, lines, lines_for, ModeLine, read_body, read_clause, read_mode_line, Said, source_of}
-
--- chains of tables of one size
-pub links-same : {s t u k l : List ℕ} {m n : ℕ} → Indexed s u l n → Indexed s t k m → length u ≡ length t → length l ≡ length k
-links-same f g e =
-    let x = f.size in
-    let y = g.size in
-    omega arith
 
 -- ---- a refusal, or 17
 

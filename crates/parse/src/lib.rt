@@ -2,24 +2,24 @@
 #![tactic(auto)]
 
 ghost use Rattle.std.specs.Prelude.{◌++◌, ◌≡◌, ◌<◌, ◌≤◌, length, Err};
-ghost use Rattle.mode_table.specs.Moded.{Moded};
+ghost use Rattle.mode_table.specs.Held.{lines_in};
 ghost use Rattle.name_index.specs.Index.{Indexed};
 ghost use Rattle.parse.specs.Says.{fitted, ParseSays, Tells};
 ghost use Rattle.parse.specs.Ways.{ask_tested, Behind, stop_as};
-ghost use Rattle.read_names.specs.Tables.{mode_names, modes_from, names_at};
+ghost use Rattle.read_names.specs.Tables.{mode_names, names_at};
 ghost use Rattle.text_names.specs.Entries.{entries};
 ghost use Rattle.text_program.specs.Parsing.{declared, sourced};
 ghost use Rattle.text_program.specs.Source.{source_of};
 
 use lay_text::To;
-use mode_table::Lines;
-use parlog::{Answer, Progress, Refusal, codes};
+use mode_table::Relations;
+use parlog::{Answer, Refusal, codes};
+use take_clause::Next;
+use take_modes::{Modes, Tables};
+use take_term::{Draft, VARIABLES};
 
 // 16, TEXT.
 const TEXT: u8 = 16;
-
-// 17, UNDECLARED.
-const UNDECLARED: u8 = 17;
 
 // Rows on the stack: an image has no more bytes than this.
 const IMAGE: usize = 12800;
@@ -29,9 +29,6 @@ const CONSTANTS: usize = 4385;
 
 // Their chains.
 const CONSTANT_LINKS: usize = name_index::CHAINS + CONSTANTS;
-
-// The chains of relations.
-const RELATION_LINKS: usize = name_index::CHAINS + codes::MOST_RELATIONS;
 
 // How long a row is.
 fn room_of(row: &[u8]) -> usize
@@ -46,14 +43,15 @@ fn room_of(row: &[u8]) -> usize
 fn write(
     image: &mut [u8],
     names: &mut [u8],
-    s: &[u8],
-    m: usize,
+    relations: &Relations,
     bytes: &[u8],
     consts: &[usize],
 ) -> Answer<(usize, usize)>
-    requires { m ≤ length s.now }
-    ensures { Tells (fitted image.old names.old bytes.now (entries (mode_names (modes_from s.now m)) ++ entries (names_at s.now consts.now))) result image.new names.new }
+    requires { relations.now.lines.from ≤ length relations.now.text.now }
+    ensures { Tells (fitted image.old names.old bytes.now (entries (mode_names (lines_in relations.now)) ++ entries (names_at relations.now.text.now consts.now))) result image.new names.new }
 {
+    let s = relations.text;
+    let m = relations.lines.from;
     let i = room_of(image);
     let j = room_of(names);
     let size = room_of(bytes);
@@ -82,7 +80,7 @@ fn test_ask(known: bool, right: bool, fits: bool, at: usize) -> Answer<()>
 {
     if !known {
         return Err(Refusal {
-            number: UNDECLARED,
+            number: text_program::UNDECLARED,
             offset: 0,
         });
     }
@@ -109,60 +107,53 @@ fn stopped(declared: bool, number: u8, at: usize) -> Answer<(usize, usize)>
         return Err(Refusal { number, offset: at });
     }
     Err(Refusal {
-        number: UNDECLARED,
+        number: text_program::UNDECLARED,
         offset: 0,
     })
 }
 
 // ---- the text
 
-// The clauses from a place on and the goal, behind mode lines that were taken.
+// The clauses and the goal, behind mode lines that were taken.
 fn clauses(
     image: &mut [u8],
     names: &mut [u8],
-    s: &[u8],
-    rels: &[usize],
-    arities: &[usize],
-    chains: &[u16],
-    lines: Lines,
-    out: &mut [u8],
-    consts: &mut [usize],
-    links: &mut [u16],
-    begin: usize,
-    at: usize,
-    known: Progress,
+    relations: &Relations,
+    mut draft: Draft<VARIABLES>,
+    modes: Modes,
 ) -> Answer<(usize, usize)>
-    requires { Behind s.now out.old lines begin at known × Indexed s.now consts.old links.old 0 × Moded s.now rels.now arities.now chains.now lines × (length consts.old ≡ 4385) }
-    ensures { Tells (sourced image.old names.old (declared (source_of s.now)) (source_of s.now)) result image.new names.new }
+    requires { Behind relations.now.text.now draft.out.now relations.now.lines modes.rest modes.at modes.known × Indexed relations.now.text.now draft.consts.now draft.links.now 0 × (length draft.consts.now ≡ 4385) }
+    ensures { Tells (sourced image.old names.old (declared (source_of relations.now.text.now)) (source_of relations.now.text.now)) result image.new names.new }
 {
-    let r = take_text::clause_lines(
-        s, rels, arities, chains, lines, out, consts, links, begin, 0, at, known,
-    );
+    let s = relations.text;
+    let first = Next {
+        from: modes.rest,
+        at: modes.at,
+        consts: 0,
+    };
+    let r = take_text::clause_lines(relations, &mut draft, first, modes.known);
     if r.number != 0 {
         let behind = declared_calls::declared(
             s,
-            rels,
-            chains,
-            lines.from,
-            lines.count,
+            relations.places,
+            relations.links,
+            relations.lines.from,
+            relations.lines.count,
             r.end,
             r.left,
         );
         return stopped(r.declared & behind, r.number, r.at);
     }
     let q = read_clause::behind_arrow(s, r.end);
-    let a = take_clause::ask(
-        s, rels, arities, chains, lines, out, consts, links, q, r.at, r.consts,
-    );
+    let last = Next {
+        from: q,
+        at: r.at,
+        consts: r.consts,
+    };
+    let a = take_clause::ask(relations, &mut draft, last);
     test_ask(r.declared & a.declared, a.right, a.fits, r.at)?;
-    write(
-        image,
-        names,
-        s,
-        lines.from,
-        &out[..a.at],
-        &consts[..a.consts],
-    )
+    let Draft { out, consts, .. } = draft;
+    write(image, names, relations, &out[..a.at], &consts[..a.consts])
 }
 
 // A text that is spelled right.
@@ -173,30 +164,33 @@ fn spelled(image: &mut [u8], names: &mut [u8], s: &[u8]) -> Answer<(usize, usize
     let mut out = [0u8; IMAGE];
     let mut consts = [0; CONSTANTS];
     let mut links = [0u16; CONSTANT_LINKS];
-    let mut rels = [0; codes::MOST_RELATIONS];
-    let mut arities = [0; codes::MOST_RELATIONS];
-    let mut chains = [0u16; RELATION_LINKS];
-    match take_modes::mode_lines(s, m, &mut out, &mut rels, &mut arities, &mut chains) {
+    let mut tables = Tables {
+        places: [0; codes::MOST_RELATIONS],
+        arities: [0; codes::MOST_RELATIONS],
+        links: [0; take_modes::LINKS],
+    };
+    match take_modes::mode_lines(s, m, &mut out, &mut tables) {
         Err(refused) => {
             // No constant is numbered here, so that their table is free for the names of relations.
             let behind = declared_calls::declared_behind(s, m, &mut consts, &mut links);
             stopped(behind, refused.number, refused.offset)
         }
-        Ok(t) => clauses(
-            image,
-            names,
-            s,
-            &rels,
-            &arities,
-            &chains,
-            t.lines,
-            &mut out,
-            &mut consts,
-            &mut links,
-            t.rest,
-            t.at,
-            t.known,
-        ),
+        Ok(modes) => {
+            let relations = Relations {
+                text: s,
+                places: &tables.places,
+                arities: &tables.arities,
+                links: &tables.links,
+                lines: modes.lines,
+            };
+            let draft = Draft {
+                out: &mut out,
+                consts: &mut consts,
+                links: &mut links,
+                vars: [0; VARIABLES],
+            };
+            clauses(image, names, &relations, draft, modes)
+        }
     }
 }
 

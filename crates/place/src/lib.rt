@@ -25,6 +25,8 @@ pub fn word_at(s: &[u8], i: usize) -> usize
     }
 }
 
+// Kept, pairs with and without a test: the load reads what BODY has passed by byte_in, word_in and term_in, which ask that the bytes are there, and all else reads by byte_at, word_at and term_at, which ask nothing.
+
 // The same, of bytes that are there: no test.
 pub fn byte_in(s: &[u8], i: usize) -> usize
     requires { i < length s.now }
@@ -41,7 +43,7 @@ pub fn word_in(s: &[u8], i: usize) -> usize
     usize::from(u16::from_le_bytes([s[i], s[i + 1]]))
 }
 
-// The term that a number is.
+// The term that a number is. Kept, no `From`: it would be the same match, in crate parlog, which has the type.
 fn term_of(w: usize) -> Term
     requires { w ≤ 65535 }
     ensures { (result ≡ term_of w) × (number_of result ≤ 32767) }
@@ -71,6 +73,7 @@ pub fn term_in(s: &[u8], at: usize) -> Term
 }
 
 // The place after n literals.
+// Kept, walks of literals and of stages here, in load_body and in load_names: one for all would take its step as a closure, which may be called up to a bound of its own alone. This one has an end for all bytes, that of load_body stops at a fault, and that of load_names reads without a test of the length.
 pub fn literals_end(s: &[u8], n: usize, from: usize) -> usize
     requires { (n ≤ 255) × (from ≤ 1073741824) }
     ensures { (result ≡ literals_end s.now n from) × (result ≤ from + 512 * n) }
@@ -83,6 +86,7 @@ pub fn literals_end(s: &[u8], n: usize, from: usize) -> usize
 }
 
 // The place after a stage: at most 130,561 bytes on.
+// Kept, beside goal_end: one for both would take the walk behind the count as a closure, and be no shorter.
 pub fn stage_end(s: &[u8], at: usize) -> usize
     requires { at ≤ 536870912 }
     ensures { (result ≡ stage_end s.now at) × (result ≤ at + 130561) }

@@ -12,9 +12,6 @@ use lay_text::{To, Writer};
 use parlog::{Answer, Refusal, codes};
 use write_goal::Source;
 
-// 17, UNDECLARED.
-const UNDECLARED: u8 = 17;
-
 // A refusal without a place.
 fn unwritten(number: u8) -> Answer<usize>
     ensures { result ≡ Err (refusal number 0) }
@@ -44,7 +41,7 @@ fn accepted<'a>(
     write_text::lines(&mut measured, &source, c);
     let To { at, named } = measured.to;
     if !named {
-        return unwritten(UNDECLARED);
+        return unwritten(text_program::UNDECLARED);
     }
     if text.len() < at {
         return unwritten(codes::ROOM);

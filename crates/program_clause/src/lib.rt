@@ -1,15 +1,16 @@
 // The records of an image, read where they stand: modes of relations, fields of clauses. Total, with the definitions' defaults past the end.
 #![tactic(auto)]
 
-ghost use Rattle.program_index.specs.Indexed.{Indexed};
+ghost use Rattle.program_index.specs.Images.{program_in};
 ghost use Rattle.std.specs.Prelude.{◌≡◌, [], ◌+◌, ◌≤◌, ◌&&◌, cond, eqb, length, get_or};
 ghost use Rattle.parlog.specs.declared.Term.TheVariants.{Const};
 ghost use Rattle.parlog.specs.Scan.{list_of, those};
 ghost use Rattle.parlog.specs.Image.{byte_at, term_at, term_end, mode_end, record_end};
-ghost use Rattle.parlog.specs.Program.{modes_of, program_of, clause_at, modes_at, vars_of};
+ghost use Rattle.parlog.specs.Program.{modes_of, clause_at, modes_at, vars_of};
 ghost use Rattle.program_clause.specs.Parts.{is_out};
 
 use parlog::{Term, codes};
+use program_index::Image;
 
 // ---- relations
 
@@ -21,21 +22,14 @@ pub struct Row {
 }
 
 // The modes of relation q.
-pub fn modes_of(
-    s: &[u8],
-    rels: usize,
-    clauses: usize,
-    ix: &[u16; program_index::SIZE],
-    q: usize,
-) -> Row
-    requires { (rels ≤ 32) × (clauses ≤ 64) × Indexed s.now rels clauses ix.now }
-    ensures { (list_of (byte_at s.now) mode_end result.n result.at ≡ get_or (list_of (modes_of s.now) (record_end s.now) rels 0) q []) × (result.n ≤ 255) × (result.at ≤ 16777216) }
+pub fn modes_of(image: &Image, q: usize) -> Row
+    ensures { (list_of (byte_at image.now.bytes.now) mode_end result.n result.at ≡ get_or (list_of (modes_of image.now.bytes.now) (record_end image.now.bytes.now) image.now.relations 0) q []) × (result.n ≤ 255) × (result.at ≤ 16777216) }
 {
-    if rels <= q {
+    if image.relations <= q {
         return Row { n: 0, at: 0 };
     }
-    let rec = program_index::record_at(s, rels, clauses, ix, q);
-    let n = place::byte_at(s, rec + codes::RELATION_ARITY);
+    let rec = image.record_at(q);
+    let n = place::byte_at(image.bytes, rec + codes::RELATION_ARITY);
     Row {
         n,
         at: rec + codes::RELATION_MODES,
@@ -43,39 +37,24 @@ pub fn modes_of(
 }
 
 // The number of arguments of relation q.
-pub fn mode_count(
-    s: &[u8],
-    rels: usize,
-    clauses: usize,
-    ix: &[u16; program_index::SIZE],
-    q: usize,
-) -> usize
-    requires { (rels ≤ 32) × (clauses ≤ 64) × Indexed s.now rels clauses ix.now }
-    ensures { (result ≡ length (modes_at (program_of s.now rels clauses) q)) × (result ≤ 255) }
+pub fn mode_count(image: &Image, q: usize) -> usize
+    ensures { (result ≡ length (modes_at (program_in image.now) q)) × (result ≤ 255) }
 {
-    let ms = modes_of(s, rels, clauses, ix, q);
+    let ms = modes_of(image, q);
     ms.n
 }
 
 // The mode of its argument i.
-pub fn mode_of(
-    s: &[u8],
-    rels: usize,
-    clauses: usize,
-    ix: &[u16; program_index::SIZE],
-    q: usize,
-    i: usize,
-) -> usize
-    requires { (rels ≤ 32) × (clauses ≤ 64) × Indexed s.now rels clauses ix.now }
-    ensures { (result ≡ get_or (modes_at (program_of s.now rels clauses) q) i 0) × (result ≤ 255) }
+pub fn mode_of(image: &Image, q: usize, i: usize) -> usize
+    ensures { (result ≡ get_or (modes_at (program_in image.now) q) i 0) × (result ≤ 255) }
 {
-    let ms = modes_of(s, rels, clauses, ix, q);
+    let ms = modes_of(image, q);
     let n = ms.n;
     let at = ms.at;
     if n <= i {
         return 0;
     }
-    place::byte_at(s, at + i)
+    place::byte_at(image.bytes, at + i)
 }
 
 // ---- scans by number
@@ -121,57 +100,36 @@ pub fn outs_of(s: &[u8], n: usize, at: usize, j: usize) -> Outs
 // ---- the fields of clause k
 
 // The relation; that of equality past the end.
-// Kept apart from `clause_vars`: one function for both would take the field and the default beside these five, and call no less.
-pub fn clause_relation(
-    s: &[u8],
-    rels: usize,
-    clauses: usize,
-    ix: &[u16; program_index::SIZE],
-    k: usize,
-) -> usize
-    requires { (rels ≤ 32) × (clauses ≤ 64) × Indexed s.now rels clauses ix.now }
-    ensures { (result ≡ (clause_at (program_of s.now rels clauses) k).rel) × (result ≤ 255) }
+// Kept apart from `clause_vars`: one function for both would take the field and the default beside these two, and call no less.
+pub fn clause_relation(image: &Image, k: usize) -> usize
+    ensures { (result ≡ (clause_at (program_in image.now) k).rel) × (result ≤ 255) }
 {
-    if clauses <= k {
+    if image.clauses <= k {
         return codes::EQUALITY;
     }
-    let at = program_index::record_at(s, rels, clauses, ix, rels + k);
-    place::byte_at(s, at + codes::CLAUSE_RELATION)
+    let at = image.record_at(image.relations + k);
+    place::byte_at(image.bytes, at + codes::CLAUSE_RELATION)
 }
 
 // The number of its own variables.
-pub fn clause_vars(
-    s: &[u8],
-    rels: usize,
-    clauses: usize,
-    ix: &[u16; program_index::SIZE],
-    k: usize,
-) -> usize
-    requires { (rels ≤ 32) × (clauses ≤ 64) × Indexed s.now rels clauses ix.now }
-    ensures { (result ≡ (clause_at (program_of s.now rels clauses) k).vars) × (result ≤ 255) }
+pub fn clause_vars(image: &Image, k: usize) -> usize
+    ensures { (result ≡ (clause_at (program_in image.now) k).vars) × (result ≤ 255) }
 {
-    if clauses <= k {
+    if image.clauses <= k {
         return 0;
     }
-    let at = program_index::record_at(s, rels, clauses, ix, rels + k);
-    place::byte_at(s, at + codes::CLAUSE_VARS)
+    let at = image.record_at(image.relations + k);
+    place::byte_at(image.bytes, at + codes::CLAUSE_VARS)
 }
 
 // The new variables of clause k: its own, and one for each output argument.
-pub fn vars_of(
-    s: &[u8],
-    rels: usize,
-    clauses: usize,
-    ix: &[u16; program_index::SIZE],
-    k: usize,
-) -> usize
-    requires { (rels ≤ 32) × (clauses ≤ 64) × Indexed s.now rels clauses ix.now }
-    ensures { (result ≡ vars_of (program_of s.now rels clauses) k) × (result ≤ 510) }
+pub fn vars_of(image: &Image, k: usize) -> usize
+    ensures { (result ≡ vars_of (program_in image.now) k) × (result ≤ 510) }
 {
-    if clauses <= k {
+    if image.clauses <= k {
         return 0;
     }
-    program_index::vars_at(s, rels, clauses, ix, k)
+    image.vars_at(k)
 }
 
 // Term k of n terms at a place.
@@ -186,32 +144,23 @@ pub fn term_of(s: &[u8], n: usize, at: usize, k: usize) -> Term
 }
 
 // Head term i.
-pub fn head_term(
-    s: &[u8],
-    rels: usize,
-    clauses: usize,
-    ix: &[u16; program_index::SIZE],
-    k: usize,
-    i: usize,
-) -> Term
-    requires { (rels ≤ 32) × (clauses ≤ 64) × Indexed s.now rels clauses ix.now }
-    ensures { result ≡ get_or (clause_at (program_of s.now rels clauses) k).head i (Const 0) }
+pub fn head_term(image: &Image, k: usize, i: usize) -> Term
+    ensures { result ≡ get_or (clause_at (program_in image.now) k).head i (Const 0) }
 {
-    if clauses <= k {
+    if image.clauses <= k {
         return Term::Const(0);
     }
-    let at = program_index::record_at(s, rels, clauses, ix, rels + k);
-    let n = place::byte_at(s, at + codes::CLAUSE_ARITY);
-    term_of(s, n, at + codes::CLAUSE_HEAD, i)
+    let at = image.record_at(image.relations + k);
+    let n = place::byte_at(image.bytes, at + codes::CLAUSE_ARITY);
+    term_of(image.bytes, n, at + codes::CLAUSE_HEAD, i)
 }
 
 // ---- the goal's record
 
 // The number of the goal's variables.
-pub fn goal_vars(s: &[u8], rels: usize, clauses: usize, ix: &[u16; program_index::SIZE]) -> usize
-    requires { (rels ≤ 32) × (clauses ≤ 64) × Indexed s.now rels clauses ix.now }
-    ensures { (result ≡ (program_of s.now rels clauses).goal_vars) × (result ≤ 255) }
+pub fn goal_vars(image: &Image) -> usize
+    ensures { (result ≡ (program_in image.now).goal_vars) × (result ≤ 255) }
 {
-    let at = program_index::record_at(s, rels, clauses, ix, rels + clauses);
-    place::byte_at(s, at + codes::GOAL_VARS)
+    let at = image.record_at(image.relations + image.clauses);
+    place::byte_at(image.bytes, at + codes::GOAL_VARS)
 }

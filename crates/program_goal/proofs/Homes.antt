@@ -1,8 +1,8 @@
 -- Where the goals of a program stand, by kind and clause: one law for each way through `goal_home`.
-use mathlib.Core.Path.{◌∙◌, ◌≡◌, ap, refl, sym}
-use mathlib.Core.Bool.{◌&&◌, ◌||◌, Bool, cond, false, not, true}
-use mathlib.Core.List.{[], ◌∷◌, List}
-use Prim.Native.Nat.{◌+◌, ◌<◌, ◌≤◌, suc, zero, ℕ}
+use mathlib.Core.Path.{ap, refl, sym, ◌∙◌, ◌≡◌}
+use mathlib.Core.Bool.{Bool, cond, false, not, true, ◌&&◌, ◌||◌}
+use mathlib.Core.List.{[], List, ◌∷◌}
+use Prim.Native.Nat.{suc, zero, ℕ, ◌+◌, ◌<◌, ◌≤◌}
 use lib.Dec.{eqb, leb, ltb}
 use lib.ListN.{length}
 use borrow.Author.Tests.{eqb-false, eqb-true, le-ltb, leb-false, leb-true, lt-ltb, ltb-true, ne_eqb, not-false}
@@ -10,7 +10,7 @@ use native.Mathlib.Omega.{arith}
 use native.Mathlib.Nat.{not-suc-le-zero}
 use Rattle.parlog.proofs.Along.{list_length}
 use Rattle.parlog.proofs.Bools.{and-true, or-false, split}
-use Rattle.parlog.specs.Codes.{kind_of, tag_code}
+use Rattle.parlog.specs.Codes.{and_par, kind_of, Tag}
 use Rattle.parlog.specs.Image.{body_at, byte_at, guard_at, record_at, stage_end}
 use Rattle.parlog.specs.Program.{before, body_tag, Clause, clause_at, clause_of, committed_body, committed_by, goal_by, goal_of, is_split, Literal, modes_at, no_clause, out_count, outputs, Program, program_of, split_by, stage_of, tag_of_goal, vars_of}
 use Rattle.parlog.specs.Scan.{list_of}
@@ -215,10 +215,10 @@ module _ (pr : Program) (k : ℕ) {b : Bool} (eb : b ≡ split_by (kind_of 2) pr
   unfolding split_by kind_of
   same-split = sym eb
 
-  pub body-apart : b ≡ true → 0 ≡ tag_code (body_tag (is_split pr (clause_at pr k)) (committed_body pr (clause_at pr k)))
+  pub body-apart : b ≡ true → and_par ≡ body_tag (is_split pr (clause_at pr k)) (committed_body pr (clause_at pr k))
   unfolding body_tag
   body-apart e = rw (same-split, e)
 
-  pub body-whole : b ≡ false → {t : ℕ} → t ≡ tag_code (tag_of_goal (goal_by (kind_of 2) pr k)) → t ≡ tag_code (body_tag (is_split pr (clause_at pr k)) (committed_body pr (clause_at pr k)))
+  pub body-whole : b ≡ false → {t : Tag} → t ≡ tag_of_goal (goal_by (kind_of 2) pr k) → t ≡ body_tag (is_split pr (clause_at pr k)) (committed_body pr (clause_at pr k))
   unfolding body_tag goal_by kind_of
   body-whole e et = rw (same-split, e) et

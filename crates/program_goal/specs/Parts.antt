@@ -1,6 +1,6 @@
 -- A literal as the reads hand it on, and a goal where it stands.
-use Rattle.std.specs.Prelude.{◌&&◌, Bool, cond, false, true, [], ◌∷◌, List, ◌+◌, ◌≤◌, suc, zero, ℕ, eqb, ltb, get_or, length}
-use Rattle.parlog.specs.Codes.{equate, or_par, tag_code}
+use Rattle.std.specs.Prelude.{[], Bool, cond, eqb, false, get_or, length, List, ltb, suc, true, zero, ℕ, ◌&&◌, ◌+◌, ◌∷◌, ◌≤◌}
+use Rattle.parlog.specs.Codes.{equate, or_par, Tag}
 use Rattle.parlog.specs.Image.{byte_at, equality, mode_end, record_end, stage_end, term_at, term_end}
 use Rattle.parlog.specs.Program.{before, clause_at, Goal, Literal, modes_at, modes_of, out_count, outputs, Program, stage_of}
 use Rattle.parlog.specs.Scan.{list_of}
@@ -47,5 +47,5 @@ abbrev pub Near : Home → Type 0
 Near h = (h.stages ≤ 255) × (h.at ≤ 134217728) × (h.clause ≤ 8388608)
 
 -- the tag of a literal of relation rel
-unfoldable pub relation_tag : ℕ → ℕ
-relation_tag rel = cond (eqb rel equality) (tag_code equate) (tag_code or_par)
+unfoldable pub relation_tag : ℕ → Tag
+relation_tag rel = cond (eqb rel equality) equate or_par

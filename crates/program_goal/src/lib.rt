@@ -1,15 +1,18 @@
 // The goals of an image, their stages and literals, read where they stand, and the tags that they call for.
 #![tactic(auto)]
 
-ghost use Rattle.program_index.specs.Indexed.{Indexed};
+ghost use Rattle.program_index.specs.Images.{program_in};
 ghost use Rattle.std.specs.Prelude.{◌≡◌, cond, [], ◌+◌, ◌*◌, ◌≤◌, ◌<◌, eqb, length, get_or};
-ghost use Rattle.parlog.specs.Codes.{kind_of, tag_code};
+ghost use Rattle.parlog.specs.Codes.{kind_of};
 ghost use Rattle.parlog.specs.Image.{body_at, byte_at, guard_at, record_at, term_at};
-ghost use Rattle.parlog.specs.Program.{no_literal, equation, literal_of, program_of, goal_by, stage_at, literal_at, tag_of_literal, tag_of_stage, tag_of_goal, body_tag, clause_at, committed_body, is_split, split_by};
+ghost use Rattle.parlog.specs.Named.{tag_named};
+ghost use Rattle.parlog.specs.Program.{no_literal, equation, literal_of, goal_by, stage_at, literal_at, tag_of_literal, tag_of_stage, tag_of_goal, body_tag, clause_at, committed_body, is_split, split_by};
 ghost use Rattle.program_goal.specs.Parts.{shown, front, goal_in, Near, stages_of, relation_tag, splits_with};
 
+use parlog::cases::Tag;
 use parlog::{Spot, Term, codes};
 use program_clause::Outs;
+use program_index::Image;
 
 // A literal: its relation, its arity, and the arguments that it may have, those past its arity 0.
 #[derive(Clone, Copy)]
@@ -86,6 +89,7 @@ fn equation(t: Term, v: usize) -> Lit
 // ---- where a goal stands
 
 // The stages of a goal: how many, and where; for a committed body also its clause, whose output equations come first.
+// Kept, the bounds of its places (`Near`) in each contract: the laws of where a goal stands (`home_by`, `home-clause` and others in proofs/Homes) make such places of any size, and were not proved with a bound as a part.
 // Kept, a flag beside the clause: `literal_at` reads the clause where j is the number of an equation, which says that there is one, and would open an Option there again.
 #[derive(Clone, Copy)]
 pub struct Home {
@@ -97,63 +101,39 @@ pub struct Home {
 
 // The place of the guard of clause k, whose record stands at a place, or of its body.
 // Kept, by number, like `goal_home`: the kind is a raw number of a row, and each byte has a meaning (docs/ARCHITECTURE.md, of `kind_of`).
-fn part_place(
-    s: &[u8],
-    rels: usize,
-    clauses: usize,
-    ix: &[u16; program_index::SIZE],
-    k: usize,
-    clause: usize,
-    kind: u8,
-) -> usize
-    requires { (rels ≤ 32) × (clauses ≤ 64) × (k < clauses) × (clause ≡ record_at s.now (rels + k)) × (clause ≤ 65535) × Indexed s.now rels clauses ix.now }
-    ensures { (result ≡ cond (eqb kind 1) (guard_at s.now clause) (body_at s.now clause)) × (result ≤ 67108864) }
+fn part_place(image: &Image, k: usize, clause: usize, kind: u8) -> usize
+    requires { (k < image.now.clauses) × (clause ≡ record_at image.now.bytes.now (image.now.relations + k)) × (clause ≤ 65535) }
+    ensures { (result ≡ cond (eqb kind 1) (guard_at image.now.bytes.now clause) (body_at image.now.bytes.now clause)) × (result ≤ 67108864) }
 {
     if kind == codes::THE_GUARD {
-        let arity = place::byte_at(s, clause + codes::CLAUSE_ARITY);
+        let arity = place::byte_at(image.bytes, clause + codes::CLAUSE_ARITY);
         return clause + codes::CLAUSE_HEAD + codes::TERM_SIZE * arity;
     }
-    program_index::body_at(s, rels, clauses, ix, k)
+    image.body_at(k)
 }
 
 // Clause k, whose record stands at a place, has an output argument, and there is more than one stage.
-fn splits(
-    s: &[u8],
-    rels: usize,
-    clauses: usize,
-    ix: &[u16; program_index::SIZE],
-    k: usize,
-    clause: usize,
-    stages: usize,
-) -> bool
-    requires { (rels ≤ 32) × (clauses ≤ 64) × (k < clauses) × (clause ≡ record_at s.now (rels + k)) × (clause ≤ 65535) × Indexed s.now rels clauses ix.now }
-    ensures { result ≡ splits_with (program_of s.now rels clauses) k stages }
+fn splits(image: &Image, k: usize, clause: usize, stages: usize) -> bool
+    requires { (k < image.now.clauses) × (clause ≡ record_at image.now.bytes.now (image.now.relations + k)) × (clause ≤ 65535) }
+    ensures { result ≡ splits_with (program_in image.now) k stages }
 {
-    let vars = program_index::vars_at(s, rels, clauses, ix, k);
-    let own = place::byte_at(s, clause + codes::CLAUSE_VARS);
+    let vars = image.vars_at(k);
+    let own = place::byte_at(image.bytes, clause + codes::CLAUSE_VARS);
     (own < vars) & (1 < stages)
 }
 
 // The goal that kind and k name is the equations of a split clause.
-pub fn split_by(
-    s: &[u8],
-    rels: usize,
-    clauses: usize,
-    ix: &[u16; program_index::SIZE],
-    kind: u8,
-    k: u8,
-) -> bool
-    requires { (rels ≤ 32) × (clauses ≤ 64) × Indexed s.now rels clauses ix.now }
-    ensures { result ≡ split_by (kind_of kind) (program_of s.now rels clauses) k }
+pub fn split_by(image: &Image, kind: u8, k: u8) -> bool
+    ensures { result ≡ split_by (kind_of kind) (program_in image.now) k }
 {
     let number = k as usize;
-    if (kind != codes::THE_BODY) | (clauses <= number) {
+    if (kind != codes::THE_BODY) | (image.clauses <= number) {
         return false;
     }
-    let clause = program_index::record_at(s, rels, clauses, ix, rels + number);
-    let at = program_index::body_at(s, rels, clauses, ix, number);
-    let stages = place::byte_at(s, at);
-    splits(s, rels, clauses, ix, number, clause, stages)
+    let clause = image.record_at(image.relations + number);
+    let at = image.body_at(number);
+    let stages = place::byte_at(image.bytes, at);
+    splits(image, number, clause, stages)
 }
 
 // The stages that stand behind the equations: none where the body runs beside them.
@@ -164,20 +144,12 @@ fn stages_left(apart: bool, stages: usize) -> usize
 }
 
 // The goal that kind and k name: the image's goal, the guard of clause k, its committed body, or its body as it is written.
-fn goal_home(
-    s: &[u8],
-    rels: usize,
-    clauses: usize,
-    ix: &[u16; program_index::SIZE],
-    kind: u8,
-    k: u8,
-) -> Home
-    requires { (rels ≤ 32) × (clauses ≤ 64) × Indexed s.now rels clauses ix.now }
-    ensures { (goal_by (kind_of kind) (program_of s.now rels clauses) k ≡ goal_in s.now rels result) × Near result }
+fn goal_home(image: &Image, kind: u8, k: u8) -> Home
+    ensures { (goal_by (kind_of kind) (program_in image.now) k ≡ goal_in image.now.bytes.now image.now.relations result) × Near result }
 {
     if kind == codes::THE_GOAL {
-        let at = program_index::record_at(s, rels, clauses, ix, rels + clauses) + codes::GOAL_AT;
-        let stages = place::byte_at(s, at);
+        let at = image.record_at(image.relations + image.clauses) + codes::GOAL_AT;
+        let stages = place::byte_at(image.bytes, at);
         return Home {
             stages,
             at: at + 1,
@@ -186,7 +158,7 @@ fn goal_home(
         };
     }
     let number = k as usize;
-    if clauses <= number {
+    if image.clauses <= number {
         return Home {
             stages: 0,
             at: 0,
@@ -194,11 +166,11 @@ fn goal_home(
             clause: 0,
         };
     }
-    let clause = program_index::record_at(s, rels, clauses, ix, rels + number);
-    let at = part_place(s, rels, clauses, ix, number, clause, kind);
-    let stages = place::byte_at(s, at);
+    let clause = image.record_at(image.relations + number);
+    let at = part_place(image, number, clause, kind);
+    let stages = place::byte_at(image.bytes, at);
     let body = kind == codes::THE_BODY;
-    let apart = body & splits(s, rels, clauses, ix, number, clause, stages);
+    let apart = body & splits(image, number, clause, stages);
     Home {
         stages: stages_left(apart, stages),
         at: at + 1,
@@ -208,17 +180,9 @@ fn goal_home(
 }
 
 // The output equations that come before stage i: how many, and the number of the argument of equation j.
-fn outs_before(
-    s: &[u8],
-    rels: usize,
-    clauses: usize,
-    ix: &[u16; program_index::SIZE],
-    h: Home,
-    i: usize,
-    j: usize,
-) -> Outs
-    requires { (rels ≤ 32) × (clauses ≤ 64) × Near h × Indexed s.now rels clauses ix.now }
-    ensures { (result.count ≡ length (front h.body i s.now rels h.clause)) × ((j < result.count) → equation (term_at s.now (h.clause + 8 + 2 * result.number)) (byte_at s.now (h.clause + 7) + j) ≡ get_or (front h.body i s.now rels h.clause) j no_literal) × (result.count ≤ 255) × (result.number ≤ 255) }
+fn outs_before(image: &Image, h: Home, i: usize, j: usize) -> Outs
+    requires { Near h }
+    ensures { (result.count ≡ length (front h.body i image.now.bytes.now image.now.relations h.clause)) × ((j < result.count) → equation (term_at image.now.bytes.now (h.clause + 8 + 2 * result.number)) (byte_at image.now.bytes.now (h.clause + 7) + j) ≡ get_or (front h.body i image.now.bytes.now image.now.relations h.clause) j no_literal) × (result.count ≤ 255) × (result.number ≤ 255) }
 {
     let clause = h.clause;
     if !(h.body & (i == 0)) {
@@ -227,62 +191,50 @@ fn outs_before(
             number: 0,
         };
     }
-    let q = place::byte_at(s, clause + codes::CLAUSE_RELATION);
-    let m = place::byte_at(s, clause + codes::CLAUSE_ARITY);
-    let ms = program_clause::modes_of(s, rels, clauses, ix, q);
-    program_clause::outs_of(s, m.min(ms.n), ms.at, j)
+    let q = place::byte_at(image.bytes, clause + codes::CLAUSE_RELATION);
+    let m = place::byte_at(image.bytes, clause + codes::CLAUSE_ARITY);
+    let ms = program_clause::modes_of(image, q);
+    program_clause::outs_of(image.bytes, m.min(ms.n), ms.at, j)
 }
 
 // ---- reads of a goal where it stands
 
 // Literal j of its stage i.
-fn literal_at(
-    s: &[u8],
-    rels: usize,
-    clauses: usize,
-    ix: &[u16; program_index::SIZE],
-    h: Home,
-    i: usize,
-    j: usize,
-) -> Lit
-    requires { (rels ≤ 32) × (clauses ≤ 64) × Near h × Indexed s.now rels clauses ix.now }
-    ensures { (result ≡ shown (get_or (get_or (goal_in s.now rels h) i []) j no_literal)) × (result.rel ≤ 255) }
+fn literal_at(image: &Image, h: Home, i: usize, j: usize) -> Lit
+    requires { Near h }
+    ensures { (result ≡ shown (get_or (get_or (goal_in image.now.bytes.now image.now.relations h) i []) j no_literal)) × (result.rel ≤ 255) }
 {
-    let outs = outs_before(s, rels, clauses, ix, h, i, j);
+    let outs = outs_before(image, h, i, j);
     let count = outs.count;
     let number = outs.number;
     let clause = h.clause;
     if j < count {
-        let t = place::term_at(s, clause + codes::CLAUSE_HEAD + codes::TERM_SIZE * number);
-        let v = place::byte_at(s, clause + codes::CLAUSE_VARS);
+        let t = place::term_at(
+            image.bytes,
+            clause + codes::CLAUSE_HEAD + codes::TERM_SIZE * number,
+        );
+        let v = place::byte_at(image.bytes, clause + codes::CLAUSE_VARS);
         return equation(t, v + j);
     }
     let stages = h.stages;
     let at = h.at;
-    literal_in(s, stages, at, i, j - count)
+    literal_in(image.bytes, stages, at, i, j - count)
 }
 
 // The number of literals of its stage i.
-fn stage_size_at(
-    s: &[u8],
-    rels: usize,
-    clauses: usize,
-    ix: &[u16; program_index::SIZE],
-    h: Home,
-    i: usize,
-) -> usize
-    requires { (rels ≤ 32) × (clauses ≤ 64) × Near h × Indexed s.now rels clauses ix.now }
-    ensures { (result ≡ length (get_or (goal_in s.now rels h) i [])) × (result ≤ 510) }
+fn stage_size_at(image: &Image, h: Home, i: usize) -> usize
+    requires { Near h }
+    ensures { (result ≡ length (get_or (goal_in image.now.bytes.now image.now.relations h) i [])) × (result ≤ 510) }
 {
-    let outs = outs_before(s, rels, clauses, ix, h, i, 0);
+    let outs = outs_before(image, h, i, 0);
     let count = outs.count;
     let stages = h.stages;
     let at = h.at;
     if stages <= i {
         return count;
     }
-    let st = place::stages_end(s, i, at);
-    count + place::byte_at(s, st)
+    let st = place::stages_end(image.bytes, i, at);
+    count + place::byte_at(image.bytes, st)
 }
 
 // A stage's size and the relation of one of its literals, that of equality past the end.
@@ -293,19 +245,11 @@ pub struct Call {
 }
 
 // Both for its stage i and literal j there.
-fn called_at(
-    s: &[u8],
-    rels: usize,
-    clauses: usize,
-    ix: &[u16; program_index::SIZE],
-    h: Home,
-    i: usize,
-    j: usize,
-) -> Call
-    requires { (rels ≤ 32) × (clauses ≤ 64) × Near h × (j ≤ 255) × Indexed s.now rels clauses ix.now }
-    ensures { (result.size ≡ length (get_or (goal_in s.now rels h) i [])) × (result.rel ≡ (get_or (get_or (goal_in s.now rels h) i []) j no_literal).rel) × (result.size ≤ 510) × (result.rel ≤ 255) }
+fn called_at(image: &Image, h: Home, i: usize, j: usize) -> Call
+    requires { Near h × (j ≤ 255) }
+    ensures { (result.size ≡ length (get_or (goal_in image.now.bytes.now image.now.relations h) i [])) × (result.rel ≡ (get_or (get_or (goal_in image.now.bytes.now image.now.relations h) i []) j no_literal).rel) × (result.size ≤ 510) × (result.rel ≤ 255) }
 {
-    let outs = outs_before(s, rels, clauses, ix, h, i, j);
+    let outs = outs_before(image, h, i, j);
     let count = outs.count;
     let stages = h.stages;
     let at = h.at;
@@ -315,67 +259,54 @@ fn called_at(
             rel: codes::EQUALITY,
         };
     }
-    let st = place::stages_end(s, i, at);
-    let size = count + place::byte_at(s, st);
+    let st = place::stages_end(image.bytes, i, at);
+    let size = count + place::byte_at(image.bytes, st);
     if (j < count) | (size <= j) {
         return Call {
             size,
             rel: codes::EQUALITY,
         };
     }
-    let l = place::literals_end(s, j - count, st + 1);
-    let rel = place::byte_at(s, l);
+    let l = place::literals_end(image.bytes, j - count, st + 1);
+    let rel = place::byte_at(image.bytes, l);
     Call { size, rel }
 }
 
 // The number of its stages.
-fn goal_size_at(
-    s: &[u8],
-    rels: usize,
-    clauses: usize,
-    ix: &[u16; program_index::SIZE],
-    h: Home,
-) -> usize
-    requires { (rels ≤ 32) × (clauses ≤ 64) × Near h × Indexed s.now rels clauses ix.now }
-    ensures { (result ≡ length (goal_in s.now rels h)) × (result ≤ 255) }
+fn goal_size_at(image: &Image, h: Home) -> usize
+    requires { Near h }
+    ensures { (result ≡ length (goal_in image.now.bytes.now image.now.relations h)) × (result ≤ 255) }
 {
     let stages = h.stages;
     if stages != 0 {
         return stages;
     }
-    let outs = outs_before(s, rels, clauses, ix, h, 0, 0);
+    let outs = outs_before(image, h, 0, 0);
     let count = outs.count;
     if count == 0 { 0 } else { 1 }
 }
 
 // The tag of a literal of relation rel.
-fn relation_tag(rel: usize) -> u8
-    ensures { (result ≡ relation_tag rel) × (result ≤ 8) }
+fn relation_tag(rel: usize) -> Tag
+    ensures { tag_named result ≡ relation_tag rel }
 {
     if rel == codes::EQUALITY {
-        codes::EQUATE
+        Tag::Equate
     } else {
-        codes::OR_PAR
+        Tag::OrPar
     }
 }
 
 // The tag of its stage i.
-fn stage_tag(
-    s: &[u8],
-    rels: usize,
-    clauses: usize,
-    ix: &[u16; program_index::SIZE],
-    h: Home,
-    i: usize,
-) -> u8
-    requires { (rels ≤ 32) × (clauses ≤ 64) × Near h × Indexed s.now rels clauses ix.now }
-    ensures { (result ≡ tag_code (tag_of_stage (get_or (goal_in s.now rels h) i []))) × (result ≤ 8) }
+fn stage_tag(image: &Image, h: Home, i: usize) -> Tag
+    requires { Near h }
+    ensures { tag_named result ≡ tag_of_stage (get_or (goal_in image.now.bytes.now image.now.relations h) i []) }
 {
-    let n = stage_size_at(s, rels, clauses, ix, h, i);
+    let n = stage_size_at(image, h, i);
     if n != 1 {
-        return codes::AND_PAR;
+        return Tag::AndPar;
     }
-    let l = literal_at(s, rels, clauses, ix, h, i, 0);
+    let l = literal_at(image, h, i, 0);
     let rel = l.rel;
     relation_tag(rel)
 }
@@ -383,142 +314,76 @@ fn stage_tag(
 // ---- goals by kind and clause
 
 // The number of stages of the goal that kind and k name.
-pub fn goal_size(
-    s: &[u8],
-    rels: usize,
-    clauses: usize,
-    ix: &[u16; program_index::SIZE],
-    kind: u8,
-    k: u8,
-) -> usize
-    requires { (rels ≤ 32) × (clauses ≤ 64) × Indexed s.now rels clauses ix.now }
-    ensures { (result ≡ length (goal_by (kind_of kind) (program_of s.now rels clauses) k)) × (result ≤ 255) }
+pub fn goal_size(image: &Image, kind: u8, k: u8) -> usize
+    ensures { (result ≡ length (goal_by (kind_of kind) (program_in image.now) k)) × (result ≤ 255) }
 {
-    let h = goal_home(s, rels, clauses, ix, kind, k);
-    goal_size_at(s, rels, clauses, ix, h)
+    let h = goal_home(image, kind, k);
+    goal_size_at(image, h)
 }
 
 // The tag of that goal.
-pub fn tag_of_goal(
-    s: &[u8],
-    rels: usize,
-    clauses: usize,
-    ix: &[u16; program_index::SIZE],
-    kind: u8,
-    k: u8,
-) -> u8
-    requires { (rels ≤ 32) × (clauses ≤ 64) × Indexed s.now rels clauses ix.now }
-    ensures { (result ≡ tag_code (tag_of_goal (goal_by (kind_of kind) (program_of s.now rels clauses) k))) × (result ≤ 8) }
+pub fn tag_of_goal(image: &Image, kind: u8, k: u8) -> Tag
+    ensures { tag_named result ≡ tag_of_goal (goal_by (kind_of kind) (program_in image.now) k) }
 {
-    let h = goal_home(s, rels, clauses, ix, kind, k);
-    let n = goal_size_at(s, rels, clauses, ix, h);
+    let h = goal_home(image, kind, k);
+    let n = goal_size_at(image, h);
     if n != 1 {
-        return codes::AND_SEQ;
+        return Tag::AndSeq;
     }
-    stage_tag(s, rels, clauses, ix, h, 0)
+    stage_tag(image, h, 0)
 }
 
 // The tag of a process for the committed body of clause k.
-pub fn tag_of_body(
-    s: &[u8],
-    rels: usize,
-    clauses: usize,
-    ix: &[u16; program_index::SIZE],
-    k: u8,
-) -> u8
-    requires { (rels ≤ 32) × (clauses ≤ 64) × Indexed s.now rels clauses ix.now }
-    ensures { (result ≡ tag_code (body_tag (is_split (program_of s.now rels clauses) (clause_at (program_of s.now rels clauses) k)) (committed_body (program_of s.now rels clauses) (clause_at (program_of s.now rels clauses) k)))) × (result ≤ 8) }
+pub fn tag_of_body(image: &Image, k: u8) -> Tag
+    ensures { tag_named result ≡ body_tag (is_split (program_in image.now) (clause_at (program_in image.now) k)) (committed_body (program_in image.now) (clause_at (program_in image.now) k)) }
 {
-    if split_by(s, rels, clauses, ix, codes::THE_BODY, k) {
-        return codes::AND_PAR;
+    if split_by(image, codes::THE_BODY, k) {
+        return Tag::AndPar;
     }
-    tag_of_goal(s, rels, clauses, ix, codes::THE_BODY, k)
+    tag_of_goal(image, codes::THE_BODY, k)
 }
 
 // ---- the stage and the literal that a process names
 
 // The number of literals of the stage.
-pub fn stage_size(
-    s: &[u8],
-    rels: usize,
-    clauses: usize,
-    ix: &[u16; program_index::SIZE],
-    z: Spot,
-) -> usize
-    requires { (rels ≤ 32) × (clauses ≤ 64) × Indexed s.now rels clauses ix.now }
-    ensures { (result ≡ length (stage_at (program_of s.now rels clauses) z)) × (result ≤ 510) }
+pub fn stage_size(image: &Image, z: Spot) -> usize
+    ensures { (result ≡ length (stage_at (program_in image.now) z)) × (result ≤ 510) }
 {
-    let h = goal_home(s, rels, clauses, ix, z.kind, z.clause);
-    stage_size_at(s, rels, clauses, ix, h, z.stage as usize)
+    let h = goal_home(image, z.kind, z.clause);
+    stage_size_at(image, h, z.stage as usize)
 }
 
 // That number, and the relation of the literal. The table rules alone ask this, of every row: with one caller it is compiled into their loop.
-pub fn called(
-    s: &[u8],
-    rels: usize,
-    clauses: usize,
-    ix: &[u16; program_index::SIZE],
-    z: Spot,
-) -> Call
-    requires { (rels ≤ 32) × (clauses ≤ 64) × Indexed s.now rels clauses ix.now }
-    ensures { (result.size ≡ length (stage_at (program_of s.now rels clauses) z)) × (result.rel ≡ (literal_at (program_of s.now rels clauses) z).rel) × (result.rel ≤ 255) }
+pub fn called(image: &Image, z: Spot) -> Call
+    ensures { (result.size ≡ length (stage_at (program_in image.now) z)) × (result.rel ≡ (literal_at (program_in image.now) z).rel) × (result.rel ≤ 255) }
 {
-    let h = goal_home(s, rels, clauses, ix, z.kind, z.clause);
+    let h = goal_home(image, z.kind, z.clause);
     let stage = z.stage as usize;
     let literal = z.literal as usize;
-    called_at(s, rels, clauses, ix, h, stage, literal)
+    called_at(image, h, stage, literal)
 }
 
 // The tag of the stage.
-pub fn tag_of_stage(
-    s: &[u8],
-    rels: usize,
-    clauses: usize,
-    ix: &[u16; program_index::SIZE],
-    z: Spot,
-) -> u8
-    requires { (rels ≤ 32) × (clauses ≤ 64) × Indexed s.now rels clauses ix.now }
-    ensures { (result ≡ tag_code (tag_of_stage (stage_at (program_of s.now rels clauses) z))) × (result ≤ 8) }
+pub fn tag_of_stage(image: &Image, z: Spot) -> Tag
+    ensures { tag_named result ≡ tag_of_stage (stage_at (program_in image.now) z) }
 {
-    let h = goal_home(s, rels, clauses, ix, z.kind, z.clause);
-    stage_tag(s, rels, clauses, ix, h, z.stage as usize)
+    let h = goal_home(image, z.kind, z.clause);
+    stage_tag(image, h, z.stage as usize)
 }
 
 // The literal.
-pub fn literal(
-    s: &[u8],
-    rels: usize,
-    clauses: usize,
-    ix: &[u16; program_index::SIZE],
-    z: Spot,
-) -> Lit
-    requires { (rels ≤ 32) × (clauses ≤ 64) × Indexed s.now rels clauses ix.now }
-    ensures { (result ≡ shown (literal_at (program_of s.now rels clauses) z)) × (result.rel ≤ 255) }
+pub fn literal(image: &Image, z: Spot) -> Lit
+    ensures { (result ≡ shown (literal_at (program_in image.now) z)) × (result.rel ≤ 255) }
 {
-    let h = goal_home(s, rels, clauses, ix, z.kind, z.clause);
-    literal_at(
-        s,
-        rels,
-        clauses,
-        ix,
-        h,
-        z.stage as usize,
-        z.literal as usize,
-    )
+    let h = goal_home(image, z.kind, z.clause);
+    literal_at(image, h, z.stage as usize, z.literal as usize)
 }
 
 // The tag of the literal.
-pub fn tag_of_literal(
-    s: &[u8],
-    rels: usize,
-    clauses: usize,
-    ix: &[u16; program_index::SIZE],
-    z: Spot,
-) -> u8
-    requires { (rels ≤ 32) × (clauses ≤ 64) × Indexed s.now rels clauses ix.now }
-    ensures { (result ≡ tag_code (tag_of_literal (literal_at (program_of s.now rels clauses) z))) × (result ≤ 8) }
+pub fn tag_of_literal(image: &Image, z: Spot) -> Tag
+    ensures { tag_named result ≡ tag_of_literal (literal_at (program_in image.now) z) }
 {
-    let l = literal(s, rels, clauses, ix, z);
+    let l = literal(image, z);
     let rel = l.rel;
     relation_tag(rel)
 }

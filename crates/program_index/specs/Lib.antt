@@ -1,2 +1,3 @@
 -- What the index of an image holds.
 pub mod Indexed
+pub mod Images

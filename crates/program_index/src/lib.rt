@@ -2,10 +2,12 @@
 #![tactic(auto)]
 
 ghost use Rattle.std.specs.Prelude.{◌≡◌, ◌+◌, ◌≤◌, ◌<◌};
+ghost use Rattle.std.proofs.Props.{props};
 ghost use Rattle.parlog.specs.Image.{body_at, record_at};
-ghost use Rattle.parlog.specs.Program.{block_count, program_of, vars_of};
+ghost use Rattle.parlog.specs.Program.{block_count, vars_of};
 ghost use Rattle.program_index.specs.Indexed.{Behind, Early, Indexed};
 
+// Kept, six parts in one row of words: the definition `Indexed` reads them by these places in one list.
 // ---- its parts: a word for each record from 0 on, then a word for each clause, then a word for each relation
 
 // The number of new variables of a clause.
@@ -26,53 +28,70 @@ pub const BEHIND: usize = 289;
 // All in all.
 pub const SIZE: usize = 321;
 
-// ---- its reads
-// Kept, one for each part: a line that is called has no shorter form, and each promises another thing of the program.
+// ---- the image with it
 
-// Where record k begins.
-pub fn record_at(s: &[u8], rels: usize, clauses: usize, ix: &[u16; SIZE], k: usize) -> usize
-    requires { (rels ≤ 32) × (clauses ≤ 64) × (k ≤ rels + clauses) × Indexed s.now rels clauses ix.now }
-    ensures { (result ≡ record_at s.now k) × (result ≤ 65535) }
-{
-    usize::from(ix[k])
+// An accepted image: its bytes, how many relations and clauses it has, and the index that tells where each stands.
+#[derive(Clone, Copy)]
+pub struct Image<'a> {
+    pub bytes: &'a [u8],
+    pub relations: usize,
+    pub clauses: usize,
+    pub index: &'a [u16; SIZE],
+    pub ghost few_relations: { relations ≤ 32 },
+    pub ghost few_clauses: { clauses ≤ 64 },
+    pub ghost indexed: { Indexed bytes.now relations clauses index.now } by { Prim.hlevel props },
 }
 
-// The new variables of clause k.
-pub fn vars_at(s: &[u8], rels: usize, clauses: usize, ix: &[u16; SIZE], k: usize) -> usize
-    requires { (rels ≤ 32) × (clauses ≤ 64) × (k < clauses) × Indexed s.now rels clauses ix.now }
-    ensures { (result ≡ vars_of (program_of s.now rels clauses) k) × (result ≤ 510) }
-{
-    usize::from(ix[VARS + k])
-}
+// Kept, a read for each part: a line that is called has no shorter form, and each promises another thing of the program.
+// Kept, that the record, clause or relation is there, with each read: the number is the caller's, and a value of image and number would be made for each read.
+impl<'a> Image<'a> {
+    ghost use Rattle.program_index.specs.Images.{program_in};
 
-// Where the body of clause k begins.
-pub fn body_at(s: &[u8], rels: usize, clauses: usize, ix: &[u16; SIZE], k: usize) -> usize
-    requires { (rels ≤ 32) × (clauses ≤ 64) × (k < clauses) × Indexed s.now rels clauses ix.now }
-    ensures { (result ≡ body_at s.now (record_at s.now (rels + k))) × (result ≤ 65535) }
-{
-    usize::from(ix[BODIES + k])
-}
+    // Where record k begins.
+    pub fn record_at(&self, k: usize) -> usize
+        requires { k ≤ self.now.relations + self.now.clauses }
+        ensures { (result ≡ record_at self.now.bytes.now k) × (result ≤ 65535) }
+    {
+        usize::from(self.index[k])
+    }
 
-// The blocks of relation q.
-pub fn blocks_of(s: &[u8], rels: usize, clauses: usize, ix: &[u16; SIZE], q: usize) -> usize
-    requires { (rels ≤ 32) × (clauses ≤ 64) × (q < rels) × Indexed s.now rels clauses ix.now }
-    ensures { (result ≡ block_count (program_of s.now rels clauses) q) × (result ≤ 64) }
-{
-    usize::from(ix[BLOCKS + q])
-}
+    // The new variables of clause k.
+    pub fn vars_at(&self, k: usize) -> usize
+        requires { k < self.now.clauses }
+        ensures { (result ≡ vars_of (program_in self.now) k) × (result ≤ 510) }
+    {
+        usize::from(self.index[VARS + k])
+    }
 
-// No clause before this one is of relation q.
-pub fn first_of(s: &[u8], rels: usize, clauses: usize, ix: &[u16; SIZE], q: usize) -> usize
-    requires { (rels ≤ 32) × (clauses ≤ 64) × (q < rels) × Indexed s.now rels clauses ix.now }
-    ensures { Early (program_of s.now rels clauses) q result × (result ≤ clauses) }
-{
-    usize::from(ix[FIRST + q])
-}
+    // Where the body of clause k begins.
+    pub fn body_at(&self, k: usize) -> usize
+        requires { k < self.now.clauses }
+        ensures { (result ≡ body_at self.now.bytes.now (record_at self.now.bytes.now (self.now.relations + k))) × (result ≤ 65535) }
+    {
+        usize::from(self.index[BODIES + k])
+    }
 
-// No clause from this one on is of relation q.
-pub fn behind_of(s: &[u8], rels: usize, clauses: usize, ix: &[u16; SIZE], q: usize) -> usize
-    requires { (rels ≤ 32) × (clauses ≤ 64) × (q < rels) × Indexed s.now rels clauses ix.now }
-    ensures { Behind (program_of s.now rels clauses) q clauses result × (result ≤ clauses) }
-{
-    usize::from(ix[BEHIND + q])
+    // The blocks of relation q.
+    pub fn blocks_of(&self, q: usize) -> usize
+        requires { q < self.now.relations }
+        ensures { (result ≡ block_count (program_in self.now) q) × (result ≤ 64) }
+    {
+        usize::from(self.index[BLOCKS + q])
+    }
+
+    // No clause before this one is of relation q.
+    pub fn first_of(&self, q: usize) -> usize
+        requires { q < self.now.relations }
+        ensures { Early (program_in self.now) q result × (result ≤ self.now.clauses) }
+    {
+        usize::from(self.index[FIRST + q])
+    }
+
+    // No clause from this one on is of relation q.
+    pub fn behind_of(&self, q: usize) -> usize
+        requires { q < self.now.relations }
+        ensures { Behind (program_in self.now) q self.now.clauses result × (result ≤ self.now.clauses) }
+    {
+        usize::from(self.index[BEHIND + q])
+    }
 }

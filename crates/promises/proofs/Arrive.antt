@@ -15,7 +15,7 @@ use Rattle.parlog.specs.Limits.{Limits, Usable}
 use Rattle.parlog.specs.Program.{Program, program_of}
 use Rattle.parlog.specs.TableRules.{full_size}
 use Rattle.parlog.specs.Tables.{cell_size, fresh, fresh_tables, head_size, Lent, lent, put_tables, row_size, started_lent, Tables, tables_in, zeros}
-use Rattle.promises.proofs.Demand2.{begun-at, demand-2-start, goal-few}
+use Rattle.promises.proofs.Demand2.{begun-at, goal-few}
 use Rattle.promises.proofs.Entry.{let-ok, let-tables}
 use Rattle.promises.proofs.Keeping.{Goes, goes_none, goes-run, goes_step, goes-supply, goes_then, goes_twice, kept-start, later-by}
 use Rattle.promises.specs.Reach.{Came, from_start, Later}
@@ -100,7 +100,3 @@ module _ (lim : Limits) (s : List ℕ) (r c : ℕ) where
       let b = begun-at lim usable s l w l' meets z e in
       let t : put_tables l' (tables_in l') ≡ l' = rw (b.0, b.1) (started-twice lim usable pr (goal-few s e)) in
       arrive-later (record { enters = kept-start lim usable s l w l' meets z right; same = t; reached = rw b.0 at_start }) k
-
--- and the image of what came was accepted
-pub came-accepted : (lim : Limits) → Usable lim → (s : List ℕ) {l : Lent} → Came lim s l → (r : ℕ) × (c : ℕ) × RightImage s r c
-came-accepted lim usable s (from_start {l} {l'} {w = w} meets z k) = let b = demand-2-start lim usable s l w l' meets z in (b.relations, b.clauses, b.image)

@@ -9,7 +9,7 @@ use lib.ListN.{replicate}
 use native.Mathlib.Omega.{arith}
 use Rattle.entry.proofs.Held.{count-procs, same-lent, tables-state}
 use Rattle.parlog.proofs.Able.{wakes-exactly}
-use Rattle.parlog.proofs.Bools.{not_so}
+use Rattle.std.proofs.lemmas.Bool.{false_from_ne_true}
 use Rattle.parlog.proofs.Fair.{served-kept}
 use Rattle.parlog.proofs.Steps.{step-made, turn-made}
 use Rattle.parlog.proofs.Stuck.{deadlock, ended-all}
@@ -173,7 +173,7 @@ demand-3a-kept lim s l {r} {c} i b p m f = bounded lim s r c p (record { enters 
 stuck : (lim : Limits) (s : List ℕ) (r c : ℕ) (l : Lent) → Arrived lim s r c l → ((p : ℕ) → CanMove (program_of s r c) (state_in l) p → ⊥) → (GoalEnded l → ⊥) → Deadlock (state_in l)
 stuck lim s r c l a n g =
     let ok = tables-state lim (program_of s r c) (tables_in l) (let-ok lim s l a.enters) in
-    deadlock lim (program_of s r c) a.reached (λ p h. not_so (can_move (program_of s r c) (state_in l) p) (λ q. n p (can-move lim (program_of s r c) (state_in l) ok p q))) g
+    deadlock lim (program_of s r c) a.reached (λ p h. false_from_ne_true (can_move (program_of s r c) (state_in l) p) (λ q. n p (can-move lim (program_of s r c) (state_in l) ok p q))) g
 
 -- ---- from bytes that came
 

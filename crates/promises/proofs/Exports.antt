@@ -6,17 +6,11 @@ use Rattle.parlog.proofs.Limits.{small-usable}
 use Rattle.parlog.specs.Limits.{small}
 use Rattle.parlog.specs.Program.{program_of}
 use Rattle.parlog.specs.Tables.{Lent}
-use Rattle.promises.proofs.Demand2.{demand-2-start}
 use Rattle.promises.proofs.Demand3.{demand-3a}
 use Rattle.promises.proofs.Gone.{night-same}
-use Rattle.promises.specs.Outcomes.{refusal_in, StartMeets}
-use Rattle.promises.specs.Reach.{Begins, Came, Follow, Night, ServedBy}
+use Rattle.promises.specs.Reach.{Came, Follow, Night, ServedBy}
 use Rattle.promises.specs.Refusals.{CanMove, state_in}
 use Rattle.refusals.specs.Right.{RightImage}
-
--- a start that is not refused leaves a fresh start
-pub small-start : (s : List ℕ) (l : Lent) (w : ℕ) (l' : Lent) → StartMeets small s l w l' → refusal_in w ≡ 0 → Begins small s l'
-small-start s l w l' meets z = demand-2-start small small-usable s l w l' meets z
 
 -- a process that can move has moved within the next 512 turn steps made, or is dormant first
 pub small-bound : (s : List ℕ) (l : Lent) → Came small s l → {r c : ℕ} → RightImage s r c → (p : ℕ) → CanMove (program_of s r c) (state_in l) p

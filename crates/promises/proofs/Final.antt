@@ -12,7 +12,8 @@ use borrow.Author.Tests.{eqb-false, eqb-true, le-leb, leb-true}
 use native.Mathlib.Omega.{arith}
 use Rattle.entry.proofs.Held.{tables-state}
 use Rattle.parlog.proofs.Assume.{assume-counts}
-use Rattle.parlog.proofs.Bools.{and-true, never, not_so, or-false, split, true-and}
+use Rattle.std.proofs.lemmas.Bool.{and_parts, false_from_ne_true, or_parts, and_from}
+use Rattle.parlog.proofs.Bools.{never, split}
 use Rattle.parlog.proofs.Coded.{code-mode}
 use Rattle.parlog.proofs.Effects.{apply-count, apply-other, apply-vars, changed-length, sleeps_in}
 use Rattle.parlog.proofs.Fine.{below-child, child-back, child-forth, Fine, fine}
@@ -217,7 +218,7 @@ module _ (lim : Limits) (pr : Program) (s : State) (ok : state_ok lim pr s ≡ t
         move = m;
         delta = d;
         rule = e;
-        no_room = not_so (fits lim s d) (λ f. let y : with_room lim s (by_rule m d) ≡ room = sym (ap (with_room lim s) e) ∙ (unfold move in z) in let v : moved m d ≡ room = rw f at y in let w : ◌≡◌ {A = ℕ} 0 1 = cc in omega arith);
+        no_room = false_from_ne_true (fits lim s d) (λ f. let y : with_room lim s (by_rule m d) ≡ room = sym (ap (with_room lim s) e) ∙ (unfold move in z) in let v : moved m d ≡ room = rw f at y in let w : ◌≡◌ {A = ℕ} 0 1 = cc in omega arith);
       }
 
   in-full : Full lim pr s p → LacksRoom lim pr s p
@@ -228,17 +229,17 @@ fits-less : (lim : Limits) (s u : State) (d e : Delta) → length s.procs ≤ le
     → fits lim u e ≡ true → fits lim s d ≡ true
 unfolding fits
 fits-less lim s u d e h g n f k =
-    let a = and-true (leb (length u.procs + length e.new) lim.procs) (leb (length u.vars + e.fresh) lim.vars) k in
+    let a = and_parts (leb (length u.procs + length e.new) lim.procs) (leb (length u.vars + e.fresh) lim.vars) k in
     let x = leb-true (length u.procs + length e.new) lim.procs a.0 in
     let y = leb-true (length u.vars + e.fresh) lim.vars a.1 in
-    true-and (leb (length s.procs + length d.new) lim.procs) (leb (length s.vars + d.fresh) lim.vars)
+    and_from (leb (length s.procs + length d.new) lim.procs) (leb (length s.vars + d.fresh) lim.vars)
     (le-leb (length s.procs + length d.new) lim.procs (omega arith)) (le-leb (length s.vars + d.fresh) lim.vars (omega arith))
 
 fits-none : (lim : Limits) (pr : Program) (s : State) → state_ok lim pr s ≡ true → (d : Delta) → length d.new ≡ 0 → d.fresh ≡ 0 → fits lim s d ≡ true
 unfolding fits
 fits-none lim pr s ok d n f =
     let c = assume-counts lim pr s ok in
-    true-and (leb (length s.procs + length d.new) lim.procs) (leb (length s.vars + d.fresh) lim.vars)
+    and_from (leb (length s.procs + length d.new) lim.procs) (leb (length s.vars + d.fresh) lim.vars)
     (le-leb (length s.procs + length d.new) lim.procs (omega (arith, c.1))) (le-leb (length s.vars + d.fresh) lim.vars (omega (arith, c.3)))
 
 -- where the row is the same and what is heard is heard, a rule without room stays one
@@ -258,7 +259,7 @@ module _ (lim : Limits) (pr : Program) (s u : State) (ok : state_ok lim pr s ≡
   full_by (by_rule m d) (by_rule v j) e g (the_same n f) q =
       let z : by_rule m d ≡ by_rule q.move q.delta = sym e ∙ q.rule in
       let k : d ≡ q.delta = cc in
-      record { move = v; delta = j; rule = g; no_room = not_so (fits lim u j) (λ y. never (sym q.no_room ∙ rw (← k) (fits-less lim s u d j procs vars n f y))) }
+      record { move = v; delta = j; rule = g; no_room = false_from_ne_true (fits lim u j) (λ y. never (sym q.no_room ∙ rw (← k) (fits-less lim s u d j procs vars n f y))) }
 
   full-on : Full lim pr s p → Full lim pr u p
   unfolding rule_of
@@ -291,12 +292,12 @@ module _ (pr : Program) (s : State) (kin : Kin s) (q : ℕ) (m : Move) (d : Delt
     -- the mover's sleeping child is none of p's
     other-nap : (k : ℕ) → Child s p k → (f : Option ℕ) → d.nap ≡ f → is_at f k ≡ false
     other-nap k ch None w = refl
-    other-nap k ch (Some x) w = not_so (eqb k x) (λ t. n (sym ch.parent ∙ rw (← eqb-true k x t) at (fi.napped x w).0.parent))
+    other-nap k ch (Some x) w = false_from_ne_true (eqb k x) (λ t. n (sym ch.parent ∙ rw (← eqb-true k x t) at (fi.napped x w).0.parent))
 
     child-on : {k : ℕ} {r : Result} → Hears s p k r → me next k ≡ me s k
     child-on {k} h =
         let ch = h.latest.child in
-        let a = or-false (d.cut && below s.procs q p) (is_at d.nap p) awake in
+        let a = or_parts (d.cut && below s.procs q p) (is_at d.nap p) awake in
         apply-other s q d k ch.there (λ z. ch.other (z ∙ reporter-zero pr s q can-q (rw z at h.reports.mode)))
         ∙ rw (below-child s kin p q ch n, a.0, other-nap k ch d.nap refl)
 

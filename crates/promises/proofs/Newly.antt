@@ -12,13 +12,13 @@ use borrow.Author.Tests.{eqb-false, ltb-true}
 use native.Mathlib.Omega.{arith}
 use native.Mathlib.Nat.{add-zero, not-suc-le-zero}
 use Rattle.parlog.proofs.Bindings.{change_in, changes_in}
-use Rattle.parlog.proofs.Bools.{and-true, never}
-use Rattle.parlog.proofs.Decided.{decide-binds, Tells}
+use Rattle.std.proofs.lemmas.Bool.{and_parts}
+use Rattle.parlog.proofs.Decided.{decide-binds}
 use Rattle.parlog.proofs.Good.{Good, state-good}
 use Rattle.parlog.proofs.Matched.{matches-complete, matches-sound}
 use Rattle.parlog.proofs.Moves.{safe-rule}
 use Rattle.parlog.proofs.Placed.{literal-is, literal-only}
-use Rattle.parlog.proofs.Stays.{more-free}
+use Rattle.parlog.proofs.Stays.{more-free, tells-itself}
 use Rattle.parlog.proofs.Unified.{unify-complete}
 use Rattle.parlog.proofs.Values.{Falling}
 use Rattle.parlog.specs.Codes.{and_par, and_seq, dormant, equate, failure, guard_eval, input_match, is_tag, Mode, mode_of, or_par, or_search, ready, reporting, seq_search, starting, success, suspended, Tag, tag_of, try_clause, waiting}
@@ -49,12 +49,8 @@ data Lists (pr : Program) (s : State) (p : ℕ) : Applied → Type 0 where
   lists-binds : {m : Move} (y : Process) {cs : List Change} → BindsBy pr s p m cs → Lists pr s p (by_rule m (reporting_with success y cs))
   lists-other : {m : Move} {d : Delta} → d.changes ≡ [] → rule_number m ≢ 26 → rule_number m ≢ 33 → Lists pr s p (by_rule m d)
 
--- a test tells that it holds
-itself : (held : ℕ → Bool) → Tells held (λ v. held v ≡ true)
-itself held = record { holds = λ v e. e; fails-to = λ v e h. never (sym e ∙ h) }
-
 unifies : (vs : List (Option Term)) → Falling vs → (es : List Pair) (held : ℕ → Bool) (cs : List Change) → decide vs es held ≡ binds cs → Unifies vs es cs
-unifies vs fall es held cs e = (decide-binds vs fall es held (λ v. held v ≡ true) (itself held) cs e).0
+unifies vs fall es held cs e = (decide-binds vs fall es held (λ v. held v ≡ true) (tells-itself held) cs e).0
 
 module _ (pr : Program) (s : State) (g : Good s) (p : ℕ) where
   abbrev x : Process
@@ -252,8 +248,8 @@ under_of : (n : ℕ) (cs : List Change) → changes_in n cs ≡ true → Under n
 unfolding all_of
 under_of n [] e = tt
 under_of n (c ∷ cs) e =
-    let a = and-true (change_in n c) (changes_in n cs) e in
-    (ltb-true c.var n (and-true (ltb c.var n) _ a.0).0, under_of n cs a.1)
+    let a = and_parts (change_in n c) (changes_in n cs) e in
+    (ltb-true c.var n (and_parts (ltb c.var n) _ a.0).0, under_of n cs a.1)
 
 -- nothing is bound by new variables
 more-none : (vs : List (Option Term)) (n : ℕ) → NewlyBound vs (vs ++ replicate n None) []

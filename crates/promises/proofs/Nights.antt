@@ -11,7 +11,8 @@ use lib.Seq.{take-append_seam}
 use borrow.Author.Tests.{eq-eqb, eqb-false, eqb-true, lt-ltb, ltb-false, ltb-true, ne_eqb}
 use native.Mathlib.Omega.{arith}
 use Rattle.entry.proofs.Held.{same-lent}
-use Rattle.parlog.proofs.Bools.{and-true, split, true-and}
+use Rattle.std.proofs.lemmas.Bool.{and_parts, and_from}
+use Rattle.parlog.proofs.Bools.{split}
 use Rattle.parlog.specs.Limits.{Limits}
 use Rattle.parlog.specs.Load.{load_of, refusal}
 use Rattle.parlog.specs.Numbers.{refused_as, word}
@@ -133,9 +134,9 @@ module _ (lim : Limits) (pr : Program) (l : Lent) (x : List ℕ) (a b : ℕ) whe
   resumable-facts : resumable lim pr l x a b ≡ true → Resumes lim pr l x a b
   unfolding resumable counts_agree
   resumable-facts t =
-      let p = and-true (full_size lim l) ((eqb (proc_count (head_in x)) a && eqb (var_count (head_in x)) b) && lent_ok lim pr (resumed_lent lim x a b)) t in
-      let q = and-true (eqb (proc_count (head_in x)) a && eqb (var_count (head_in x)) b) (lent_ok lim pr (resumed_lent lim x a b)) p.1 in
-      let z = and-true (eqb (proc_count (head_in x)) a) (eqb (var_count (head_in x)) b) q.0 in
+      let p = and_parts (full_size lim l) ((eqb (proc_count (head_in x)) a && eqb (var_count (head_in x)) b) && lent_ok lim pr (resumed_lent lim x a b)) t in
+      let q = and_parts (eqb (proc_count (head_in x)) a && eqb (var_count (head_in x)) b) (lent_ok lim pr (resumed_lent lim x a b)) p.1 in
+      let z = and_parts (eqb (proc_count (head_in x)) a) (eqb (var_count (head_in x)) b) q.0 in
       record {
         sizes = (sizes-exactly lim l).0 p.0;
         processes = eqb-true (proc_count (head_in x)) a z.0;
@@ -150,8 +151,8 @@ module _ (lim : Limits) (pr : Program) (l : Lent) (x : List ℕ) (a b : ℕ) whe
       let p = eq-eqb (proc_count (head_in x)) a f.processes in
       let q = eq-eqb (var_count (head_in x)) b f.variables in
       let o = (lent-exactly lim pr (resumed_lent lim x a b)).1 f.ruled in
-      true-and (full_size lim l) ((eqb (proc_count (head_in x)) a && eqb (var_count (head_in x)) b) && lent_ok lim pr (resumed_lent lim x a b)) s
-      (true-and (eqb (proc_count (head_in x)) a && eqb (var_count (head_in x)) b) (lent_ok lim pr (resumed_lent lim x a b)) (true-and (eqb (proc_count (head_in x)) a) (eqb (var_count (head_in x)) b) p q) o)
+      and_from (full_size lim l) ((eqb (proc_count (head_in x)) a && eqb (var_count (head_in x)) b) && lent_ok lim pr (resumed_lent lim x a b)) s
+      (and_from (eqb (proc_count (head_in x)) a && eqb (var_count (head_in x)) b) (lent_ok lim pr (resumed_lent lim x a b)) (and_from (eqb (proc_count (head_in x)) a) (eqb (var_count (head_in x)) b) p q) o)
 
   resumable-exactly : Decides (resumable lim pr l x a b) (Resumes lim pr l x a b)
   resumable-exactly = (resumable-facts, facts-resumable)

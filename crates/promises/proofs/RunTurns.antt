@@ -14,7 +14,8 @@ use Rattle.load.proofs.Accepted.{accepted}
 use Rattle.entry.proofs.Entering.{lent-inside}
 use Rattle.entry.proofs.Held.{cells_fit, put-over, rows_fit, same-lent, tables-state}
 use Rattle.parlog.proofs.Assume.{assume-counts}
-use Rattle.parlog.proofs.Bools.{and-true, never, not_so, split}
+use Rattle.std.proofs.lemmas.Bool.{and_parts, false_from_ne_true}
+use Rattle.parlog.proofs.Bools.{never, split}
 use Rattle.parlog.proofs.Effects.{apply-count, apply-vars}
 use Rattle.parlog.proofs.Kept.{turn-keeps}
 use Rattle.parlog.proofs.Repeated.{runs}
@@ -86,8 +87,8 @@ live-is t g e = never (sym g ∙ rw e)
 zero-tells : (lim : Limits) (pr : Program) (s : State) → state_ok lim pr s ≡ true → HasMode s 0 dormant → ((me s 0).result ≡ result_code success) ⊎ ((me s 0).result ≡ result_code failure)
 unfolding state_ok
 zero-tells lim pr s ok e =
-    let a = (and-true (counts_ok lim pr s) _ ok).1 in
-    let b = (and-true (every (row_ok pr s.procs (length s.vars)) (length s.procs)) (every (var_ok s.vars) (length s.vars)) a).0 in
+    let a = (and_parts (counts_ok lim pr s) _ ok).1 in
+    let b = (and_parts (every (row_ok pr s.procs (length s.vars)) (length s.procs)) (every (var_ok s.vars) (length s.vars)) a).0 in
     let c = (assume-counts lim pr s ok).0 in
     let r = (row-facts pr s.procs (length s.vars) 0 (every-at (row_ok pr s.procs (length s.vars)) (length s.procs) 0 b (omega arith))).0 in
     go (me s 0) e r.numbers.result r.result
@@ -97,7 +98,7 @@ zero-tells lim pr s ok e =
 
     go : (x : Process) → x.mode ≡ 0 → x.result < 3 → result_ok 0 x ≡ true → (x.result ≡ 1) ⊎ (x.result ≡ 2)
     go x m h k =
-        let n : eqb x.result 0 ≡ false = not_so (eqb x.result 0) (λ z. silent x m z k) in
+        let n : eqb x.result 0 ≡ false = false_from_ne_true (eqb x.result 0) (λ z. silent x m z k) in
         let o = eqb-false x.result 0 n in
         split (eqb x.result 1) (λ z. inl (eqb-true x.result 1 z)) (λ z. let u = eqb-false x.result 1 z in inr (omega (arith, o, u)))
 

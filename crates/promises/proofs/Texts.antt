@@ -14,7 +14,6 @@ use native.Mathlib.Omega.{arith}
 use Rattle.parlog.proofs.Bools.{split}
 use Rattle.parlog.specs.Load.{load_of, long, refusal}
 use Rattle.parlog.specs.Numbers.{refused_as, word}
-use Rattle.parlog.specs.Orders.{Each}
 use Rattle.parlog.specs.Program.{program_of}
 use Rattle.parlog.specs.Tables.{written}
 use Rattle.parlog.specs.declared.Refusal.{Refusal}
@@ -37,8 +36,8 @@ use Rattle.text_program.specs.Parsing.{declared, image_in, names_in, parse_call,
 use Rattle.text_program.specs.Printing.{print_call, program_named, program_text}
 use Rattle.text_program.specs.Source.{Source, source_of}
 use Rattle.text_refusals.proofs.Unread.{parse-exactly, parse-kept, parse-numbers}
-use Rattle.text_refusals.proofs.Unwritten.{print-exactly, print-kept}
-use Rattle.text_refusals.specs.Unread.{at_record, bad_line, behind, In, in_front, LinesRefused, ninth_of_block, no_room, no_text, one_too_many, ParseRefused, second_line, Undeclared, undeclared, wrong_body, wrong_name}
+use Rattle.text_refusals.proofs.Unwritten.{each_in, print-exactly, print-kept}
+use Rattle.text_refusals.specs.Unread.{at_record, bad_line, In, LinesRefused, ninth_of_block, no_room, no_text, one_too_many, ParseRefused, second_line, Undeclared, undeclared, wrong_body, wrong_name}
 use Rattle.text_refusals.specs.Unwritten.{bad_image, lacks_name, PrintRefused, row_short}
 use Rattle.text_words.proofs.Laws.{parts-fit}
 use Rattle.text_words.specs.Numbers.{parse_numbers, print_numbers}
@@ -147,12 +146,8 @@ module _ (image names text : List ℕ) where
 
 -- ---- a parse
 
-in-each : {A : Type 0} (P : A → Type 0) {x : A} {xs : List A} → In x xs → Each P xs → P x
-in-each P in_front h = h.0
-in-each P (behind i) h = in-each P i h.1
-
 one_of : {n : ℕ} → In n (16 ∷ 17 ∷ 4 ∷ 5 ∷ 6 ∷ 11 ∷ []) → (4 ≤ n) × (n ≤ 17)
-one_of i = in-each (λ n. (4 ≤ n) × (n ≤ 17)) i ((omega arith, omega arith), ((omega arith, omega arith), ((omega arith, omega arith), ((omega arith, omega arith), ((omega arith, omega arith), ((omega arith, omega arith), tt))))))
+one_of i = each_in (λ n. (4 ≤ n) × (n ≤ 17)) i ((omega arith, omega arith), ((omega arith, omega arith), ((omega arith, omega arith), ((omega arith, omega arith), ((omega arith, omega arith), ((omega arith, omega arith), tt))))))
 
 parse-numbered : {image names text : List ℕ} {n o : ℕ} → ParseRefusedTold image names text n o → (1 ≤ n) × (n ≤ 17)
 parse-numbered {image} {names} {text} (as_told {n} {o} x) = let a = one_of (parse-numbers image names text n o x) in (omega (arith, a.0), a.1)

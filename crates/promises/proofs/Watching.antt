@@ -8,7 +8,7 @@ use Prim.Native.Nat.{◌/◌, ◌<◌, ◌≤◌, ℕ}
 use lib.ListN.{length}
 use borrow.Author.Tests.{eqb-false, eqb-true, lt-ltb}
 use native.Mathlib.Omega.{arith}
-use Rattle.parlog.proofs.Bools.{not_so}
+use Rattle.std.proofs.lemmas.Bool.{false_from_ne_true}
 use Rattle.parlog.proofs.Scans.{lowest-at, lowest-none}
 use Rattle.parlog.specs.Codes.{is_mode, mode_code, suspended}
 use Rattle.parlog.specs.Numbers.{watch_numbers, word}
@@ -58,7 +58,7 @@ module _ (rows : List ℕ) where
           let h : i < n = r.there in
           let q : w ≡ word (watch_numbers (Some i)) = meets.contract ∙ rw (watch-is, e, lt-ltb i 4294967296 (omega arith)) in
           one_waits h (eqb-true (process_at rows i).mode 5 (sym (waits-at i h) ∙ r.passes))
-          (λ j u. not-waits j (omega arith) (not_so (waits j) (λ g. let k = r.least j (omega arith) g in absurd (omega arith))))
+          (λ j u. not-waits j (omega arith) (false_from_ne_true (waits j) (λ g. let k = r.least j (omega arith) g in absurd (omega arith))))
           (rw q (first_of (watch_numbers (Some i)) (omega arith) (omega arith) (omega arith)))
           (rw q (large-of (watch_numbers (Some i)) (omega arith) (omega arith) (omega arith)))
 

@@ -7,7 +7,8 @@ use lib.Dec.{ltb}
 use borrow.Author.Tests.{le-ltb, lt-ltb, ltb-false, ltb-true}
 use native.Mathlib.Omega.{arith}
 use Rattle.entry.proofs.Held.{tables-state}
-use Rattle.parlog.proofs.Bools.{and-true, never, split, true-and}
+use Rattle.std.proofs.lemmas.Bool.{and_parts, and_from}
+use Rattle.parlog.proofs.Bools.{never, split}
 use Rattle.parlog.proofs.Exact.{exactly-makes, exactly-room, exactly-still, makes-exactly, room-exactly, still-exactly}
 use Rattle.parlog.proofs.Scans.{lowest-at, lowest-none}
 use Rattle.parlog.proofs.Stable.{can-applies, can-here}
@@ -56,7 +57,7 @@ module _ (lim : Limits) (pr : Program) (t : Tables) (ok : tables_ok lim pr t ≡
   later i = ltb t.last i && can_move pr t.state i
 
   is_later : (i : ℕ) → t.last < i → CanMove pr t.state i → later i ≡ true
-  is_later i h m = true-and (ltb t.last i) (can i) (lt-ltb t.last i h) (move-can lim pr t.state kept i m)
+  is_later i h m = and_from (ltb t.last i) (can i) (lt-ltb t.last i h) (move-can lim pr t.state kept i m)
 
   there : (i : ℕ) → CanMove pr t.state i → i < procs_in t
   there i m = can-here pr t.state i (move-can lim pr t.state kept i m)
@@ -65,7 +66,7 @@ module _ (lim : Limits) (pr : Program) (t : Tables) (ok : tables_ok lim pr t ≡
   at-by (Some q) b ea eb p e =
       let w : q ≡ p = cc in
       let r = lowest-at later (procs_in t) q ea in
-      let x = and-true (ltb t.last q) (can q) r.passes in
+      let x = and_parts (ltb t.last q) (can q) r.passes in
       rw (← w) (behind_last (ltb-true t.last q x.0) (can-move lim pr t.state kept q x.1)
       (λ i h k m. let g = r.least i (there i m) (is_later i h m) in omega arith))
   at-by None (Some q) ea eb p e =

@@ -1,4 +1,5 @@
 // Clauses where they stand in a text: the places of their head's terms, guard and body.
+// Kept: a text and a place in it, which is at most its end, come as two (`behind_arrow`, `halves`, `clause`). A struct of both is no plainer: `ClauseAt` tells four places of one text, and `Parts` three.
 #![tactic(auto)]
 
 ghost use Rattle.std.specs.Prelude.{◌≡◌, ◌≤◌, drop, length};

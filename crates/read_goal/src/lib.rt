@@ -1,4 +1,5 @@
 // Terms, literals and goals where they stand in a text: the place behind them, how many there are, and whether an image may have so many.
+// Kept: a text and a place in it, which is at most its end, come as two (`past_name` and all below it). A struct of both is no plainer: a `Span` tells a place, which callers keep among other numbers, and each call here would have to make that struct again from the place that the call before told.
 #![tactic(auto)]
 
 ghost use Rattle.std.specs.Prelude.{true, ◌≡◌, ◌-◌, ◌≤◌, drop, length};
@@ -47,6 +48,7 @@ pub fn past_name(s: &[u8], at: usize) -> usize
 }
 
 // Names with a comma between them.
+// Kept beside `read_names::marks`, which steps over modes: one loop for both would take that step as a closure, and promise what it reads for any reader whatever, which is no plainer than ten lines.
 fn names(s: &[u8], at: usize) -> Span
     requires { at ≤ length s.now }
     ensures { Spans s.now (row read_term 44 (drop at s.now)).rest (length (row read_term 44 (drop at s.now)).value) true result }
@@ -72,6 +74,7 @@ fn names(s: &[u8], at: usize) -> Span
 }
 
 // Terms in brackets, or no brackets.
+// Kept beside `read_names::modes`, for the same reason as `names`.
 pub fn terms(s: &[u8], at: usize) -> Span
     requires { at ≤ length s.now }
     ensures { Spans s.now (read_brackets read_term (drop at s.now)).rest (length (read_brackets read_term (drop at s.now)).value) true result }

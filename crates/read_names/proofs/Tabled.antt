@@ -3,18 +3,22 @@ use mathlib.Core.Path.{◌∙◌, ◌≡◌, ap, refl, sym}
 use mathlib.Core.Bool.{◌||◌, Bool, cond, false, not, true}
 use mathlib.Core.List.{[], ◌++◌, ◌∷◌, List}
 use Prim.Native.Nat.{◌+◌, ◌<◌, ◌≤◌, min, suc, ℕ}
-use lib.Dec.{eqb, leb}
+use lib.Dec.{eqb, leb, ltb}
 use lib.ListN.{drop, drop_of_length-le, get_or, length, length-append, length-set, set, take}
-use lib.Seq.{drop-cons, drop-length, length-take-le, take_all, take-suc-set}
-use borrow.Author.Tests.{le-ltb, leb-false, leb-true, lt-ltb, not-false, not-true}
+use lib.Seq.{drop-length, length-take-le, take_all, take-suc-set}
+use borrow.Author.Tests.{le-ltb, leb-false, leb-true, lt-ltb, ltb-false, ltb-true, not-false, not-true}
 use native.Mathlib.Omega.{arith}
 use native.Mathlib.Numerals.{add-one}
+use Rattle.std.specs.List.{position_or_len}
+use Rattle.std.specs.Prelude.{None, Option, Some}
+use Rattle.std.proofs.lemmas.List.Recursion.{is_position_or_len}
+use Rattle.std.proofs.lemmas.List.Sums.{prefix_len-le-length}
 use Rattle.read_names.specs.Tables.{Adds, names_at, sorted}
 use Rattle.spell.specs.Forms.{in_span}
 use Rattle.text_names.proofs.Added.{adds-append, cap-adds, full-add}
 use Rattle.text_names.proofs.Rest.{first-at}
 use Rattle.text_names.specs.Bytes.{first, front, is_capital, is_name, is_small}
-use Rattle.text_names.specs.Names.{add, adds, look, Name, same_name}
+use Rattle.text_names.specs.Names.{add, adds, FoundAt, look, Name, same_name}
 use Rattle.text_program.proofs.Joined.{lowers-append, uppers-append}
 use Rattle.text_program.specs.Numbered.{is_upper, lowers, uppers}
 
@@ -71,19 +75,21 @@ adds-as e f = rw (← e) f
 
 -- ---- a name found
 
-module _ (s t : List ℕ) (x : Name) (i : ℕ) where
-  pub find-here : (p : ℕ) (b : Bool) → i < length t → drop p s ≡ drop (get_or t i 0) s → b ≡ same_name (front (drop p s)) x → b ≡ true → look (names_at s (drop i t)) x ≡ 0
-  unfolding names_at look
-  find-here p b h e f g = rw (drop-cons t i 0 h, ← e, ← f, g)
+module _ (s : List ℕ) (x : Name) where
+  -- the name at a place is x
+  abbrev is-at : ℕ → Bool
+  is-at p = same_name (front (drop p s)) x
 
-  pub find-on : (p : ℕ) (b : Bool) → i < length t → drop p s ≡ drop (get_or t i 0) s → b ≡ same_name (front (drop p s)) x → b ≡ false →
-      look (names_at s (drop i t)) x ≡ suc (look (names_at s (drop (i + 1) t)) x)
+  look-position : (t : List ℕ) → look (names_at s t) x ≡ position_or_len is-at t
   unfolding names_at look
-  find-on p b h e f g = rw (add-one, drop-cons t i 0 h, ← e, ← f, g)
+  look-position t = is_position_or_len (λ ps. look (names_at s ps) x) is-at refl (λ p ps. ap (cond (is-at p) 0) (let z : suc (look (names_at s ps) x) ≡ 1 + look (names_at s ps) x = omega arith in z)) t
 
-  pub find_none : length t ≤ i → look (names_at s (drop i t)) x ≡ 0
-  unfolding names_at look
-  find_none h = rw (drop_of_length-le t h)
+  pub found-by : (t : List ℕ) (r : Option ℕ) → r ≡ cond (ltb (position_or_len is-at t) (length t)) (Some (position_or_len is-at t)) None → FoundAt (names_at s t) x r
+  found-by t r e = go (ltb (position_or_len is-at t) (length t)) refl
+    where
+      go : (b : Bool) → ltb (position_or_len is-at t) (length t) ≡ b → FoundAt (names_at s t) x r
+      go true f = rw (e, f) (sym (look-position t), (let h = ltb-true (position_or_len is-at t) (length t) f in let l = names-length s t in omega arith))
+      go false f = rw (e, f) (let h = ltb-false (position_or_len is-at t) (length t) f in let g = prefix_len-le-length (λ p. not (is-at p)) t in let l = names-length s t in let m = look-position t in omega arith)
 
 -- ---- a name added
 

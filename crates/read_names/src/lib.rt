@@ -1,4 +1,5 @@
 // Names of a text by their numbers: relations by mode line, variables by a table of the places where they first stand.
+// Kept: a text and a place in it, which is at most its end, come as two (`find`, `is_mode`, `is_mode_line`, `marks`, `modes`, `mode_line`, `mode_lines`, `relation`). A struct of both is no plainer, as crate `read_goal` says: what is found is a place or a `Span`, and `find` and `relation` have two places in one text.
 #![tactic(auto)]
 
 ghost use Rattle.std.specs.Prelude.{true, ◌≡◌, ◌≤◌, leb, drop, length};
@@ -32,12 +33,9 @@ pub fn find(s: &[u8], table: &[usize], q: usize) -> Option<usize>
     requires { q ≤ length s.now }
     ensures { FoundAt (names_at s.now table.now) (front (drop q s.now)) result }
 {
-    for (i, p) in table.iter().enumerate() {
-        if text_names::same_name(s, within(s, *p), q) {
-            return Some(i);
-        }
-    }
-    None
+    table
+        .iter()
+        .position(|p| text_names::same_name(s, within(s, *p), q))
 }
 
 // ---- mode lines
@@ -65,6 +63,7 @@ pub fn is_mode_line(s: &[u8], at: usize) -> bool
 }
 
 // Modes with a comma between them.
+// Kept beside `read_goal::names`, as is said there.
 fn marks(s: &[u8], at: usize) -> Span
     requires { at ≤ length s.now }
     ensures { Spans s.now (row read_mode 44 (drop at s.now)).rest (length (row read_mode 44 (drop at s.now)).value) true result }
@@ -90,6 +89,7 @@ fn marks(s: &[u8], at: usize) -> Span
 }
 
 // Modes in brackets, or no brackets.
+// Kept beside `read_goal::terms`, as is said there.
 fn modes(s: &[u8], at: usize) -> Span
     requires { at ≤ length s.now }
     ensures { Spans s.now (read_brackets read_mode (drop at s.now)).rest (length (read_brackets read_mode (drop at s.now)).value) true result }

@@ -9,7 +9,8 @@ use lib.ListN.{length}
 use borrow.Author.Tests.{eq-eqb, eqb-false, eqb-true, le-leb, le-ltb, leb-false, leb-true, lt-leb, lt-ltb, ltb-false, ltb-true, ne_eqb, not-true}
 use native.Mathlib.Omega.{arith}
 use native.Mathlib.Numerals.{add-one}
-use Rattle.parlog.proofs.Bools.{and-true, never, or-false, or_left, or_right, or-true, split, true-and}
+use Rattle.std.proofs.lemmas.Bool.{and_parts, or_parts, or_left, or_right, or_cases, and_from}
+use Rattle.parlog.proofs.Bools.{never, split}
 use Rattle.parlog.specs.Body.{ask_body, body_right, clause_body, relation_body}
 use Rattle.parlog.specs.Image.{body_at, guard_at}
 use Rattle.parlog.specs.Load.{block_full, block_with, kind_fault, too_many}
@@ -48,8 +49,8 @@ whole-record s k = (to, back)
     to : not (ltb (length s) (record_at s k + 4) || (ltb (word_at s (record_at s k)) 4 || ltb (length s) (record_end s (record_at s k)))) ≡ true → Whole s k
     to e =
         let f = not-true (ltb (length s) (record_at s k + 4) || (ltb (word_at s (record_at s k)) 4 || ltb (length s) (record_end s (record_at s k)))) e in
-        let p = or-false (ltb (length s) (record_at s k + 4)) (ltb (word_at s (record_at s k)) 4 || ltb (length s) (record_end s (record_at s k))) f in
-        let q = or-false (ltb (word_at s (record_at s k)) 4) (ltb (length s) (record_end s (record_at s k))) p.1 in
+        let p = or_parts (ltb (length s) (record_at s k + 4)) (ltb (word_at s (record_at s k)) 4 || ltb (length s) (record_end s (record_at s k))) f in
+        let q = or_parts (ltb (word_at s (record_at s k)) 4) (ltb (length s) (record_end s (record_at s k))) p.1 in
         record {
           begun = ltb-false (length s) (record_at s k + 4) p.0;
           size = ltb-false (word_at s (record_at s k)) 4 q.0;
@@ -66,9 +67,9 @@ module _ (s : List ℕ) (k : ℕ) (g : Progress) (B : Before s k g) where
   unfolding kind_fault
   kind-to e =
       let q = record_kind s k in
-      let a = or-false (ltb q 1) (ltb 3 q || (ltb q g.kind || eqb g.kind 3)) e in
-      let b = or-false (ltb 3 q) (ltb q g.kind || eqb g.kind 3) a.1 in
-      let d = or-false (ltb q g.kind) (eqb g.kind 3) b.1 in
+      let a = or_parts (ltb q 1) (ltb 3 q || (ltb q g.kind || eqb g.kind 3)) e in
+      let b = or_parts (ltb 3 q) (ltb q g.kind || eqb g.kind 3) a.1 in
+      let d = or_parts (ltb q g.kind) (eqb g.kind 3) b.1 in
       let low = ltb-false q 1 a.0 in
       let high = ltb-false 3 q b.0 in
       let up = ltb-false q g.kind d.0 in
@@ -157,11 +158,11 @@ module _ (s : List ℕ) (k : ℕ) (g : Progress) (B : Before s k g) where
             (λ e. let z = B.fresh (omega (arith, ltb-false 0 g.clauses e)) in le-leb g.relation (relation_in s k) (omega arith))
 
     first-right : g.relation ≤ relation_in s k → Decides (follows g (relation_in s k) || eqb (mark_in s k) 0) (IsFirst → mark_in s k ≡ 0)
-    first-right up = (λ e f. ⊎_elim (λ a. absurd (to a f)) (λ a. eqb-true (mark_in s k) 0 a) (or-true (follows g (relation_in s k)) (eqb (mark_in s k) 0) e), back)
+    first-right up = (λ e f. ⊎_elim (λ a. absurd (to a f)) (λ a. eqb-true (mark_in s k) 0 a) (or_cases (follows g (relation_in s k)) (eqb (mark_in s k) 0) e), back)
       where
         to : follows g (relation_in s k) ≡ true → IsFirst → ⊥
         to e f =
-            let a = and-true (ltb 0 g.clauses) (eqb g.relation (relation_in s k)) e in
+            let a = and_parts (ltb 0 g.clauses) (eqb g.relation (relation_in s k)) e in
             let c = clause-before (ltb-true 0 g.clauses a.0) in
             let r = eqb-true g.relation (relation_in s k) a.1 in
             let n = c.next in
@@ -173,14 +174,14 @@ module _ (s : List ℕ) (k : ℕ) (g : Progress) (B : Before s k g) where
             (λ e. or_right (follows g (relation_in s k)) (eqb (mark_in s k) 0) (eq-eqb (mark_in s k) 0 (f (λ j l z r.
             let b = B.seen j l z in
             let b1 = b.1 in
-            never (sym e ∙ true-and (ltb 0 g.clauses) (eqb g.relation (relation_in s k)) (lt-ltb 0 g.clauses b.0) (eq-eqb g.relation (relation_in s k) (omega arith)))))))
+            never (sym e ∙ and_from (ltb 0 g.clauses) (eqb g.relation (relation_in s k)) (lt-ltb 0 g.clauses b.0) (eq-eqb g.relation (relation_in s k) (omega arith)))))))
 
     -- ---- the block
 
     pub numbered : InBlockAs s k (block_with g (relation_in s k) (mark_in s k))
     numbered = split (follows g (relation_in s k) && eqb (mark_in s k) 0)
-        (λ e. let a = and-true (follows g (relation_in s k)) (eqb (mark_in s k) 0) e in
-        let b = and-true (ltb 0 g.clauses) (eqb g.relation (relation_in s k)) a.0 in
+        (λ e. let a = and_parts (follows g (relation_in s k)) (eqb (mark_in s k) 0) e in
+        let b = and_parts (ltb 0 g.clauses) (eqb g.relation (relation_in s k)) a.0 in
         rw (e, add-one) (joined (clause-before (ltb-true 0 g.clauses b.0)) (eqb-true g.relation (relation_in s k) b.1) (eqb-true (mark_in s k) 0 a.1)))
         (λ e. rw e (opens_block (λ j n J. never (sym e ∙ joins j n J))))
       where
@@ -199,8 +200,8 @@ module _ (s : List ℕ) (k : ℕ) (g : Progress) (B : Before s k g) where
         joins j n J =
             let r = (B.last j n J.before).0 ∙ J.relation ∙ ap (relation_in s) n in
             let m = ap (mark_in s) (sym n) ∙ J.mark in
-            true-and (follows g (relation_in s k)) (eqb (mark_in s k) 0)
-            (true-and (ltb 0 g.clauses) (eqb g.relation (relation_in s k)) (lt-ltb 0 g.clauses (B.seen j (omega arith) J.before).0) (eq-eqb g.relation (relation_in s k) r))
+            and_from (follows g (relation_in s k)) (eqb (mark_in s k) 0)
+            (and_from (ltb 0 g.clauses) (eqb g.relation (relation_in s k)) (lt-ltb 0 g.clauses (B.seen j (omega arith) J.before).0) (eq-eqb g.relation (relation_in s k) r))
             (eq-eqb (mark_in s k) 0 m)
 
     pub at-most-nine : block_with g (relation_in s k) (mark_in s k) ≤ 9
@@ -241,11 +242,11 @@ module _ (s : List ℕ) (k : ℕ) (g : Progress) (B : Before s k g) where
         let m = byte_at s (a + 5) in
         let behind = follows g (relation_in s k) || eqb (mark_in s k) 0 in
         let goals = goal_named s rels n (guard_at s a) && goal_named s rels n (body_at s a) in
-        let p = and-true (clause_placed s g a) (clause_inside s rels a) f in
-        let u = and-true (relation_named s rels (relation_in s k) m) (leb g.relation (relation_in s k) && behind) p.0 in
-        let v = and-true (leb g.relation (relation_in s k)) behind u.1 in
-        let x = and-true (terms_named s n m (a + 8)) goals p.1 in
-        let y = and-true (goal_named s rels n (guard_at s a)) (goal_named s rels n (body_at s a)) x.1 in
+        let p = and_parts (clause_placed s g a) (clause_inside s rels a) f in
+        let u = and_parts (relation_named s rels (relation_in s k) m) (leb g.relation (relation_in s k) && behind) p.0 in
+        let v = and_parts (leb g.relation (relation_in s k)) behind u.1 in
+        let x = and_parts (terms_named s n m (a + 8)) goals p.1 in
+        let y = and_parts (goal_named s rels n (guard_at s a)) (goal_named s rels n (body_at s a)) x.1 in
         record {
           known = (relation-known s k rels B.relations B.few (relation_in s k) m).0 u.0;
           order = (order-right w q).0 v.0;
@@ -264,9 +265,9 @@ module _ (s : List ℕ) (k : ℕ) (g : Progress) (B : Before s k g) where
         let first = (first-right w q (leb-true g.relation (relation_in s k) up)).1 (λ x. let z = c.first x in omega arith) in
         let known = (relation-known s k rels B.relations B.few (relation_in s k) m).1 c.known in
         let head = (terms-named s n m (a + 8)).1 c.head in
-        true-and (clause_placed s g a) (clause_inside s rels a)
-        (true-and (relation_named s rels (relation_in s k) m) _ known (true-and (leb g.relation (relation_in s k)) _ up first))
-        (true-and (terms_named s n m (a + 8)) _ head (true-and (goal_named s rels n (guard_at s a)) _ t.guard t.body))
+        and_from (clause_placed s g a) (clause_inside s rels a)
+        (and_from (relation_named s rels (relation_in s k) m) _ known (and_from (leb g.relation (relation_in s k)) _ up first))
+        (and_from (terms_named s n m (a + 8)) _ head (and_from (goal_named s rels n (guard_at s a)) _ t.guard t.body))
 
     goal-names : ask_body s a ≡ true → Decides (goal_named s rels (byte_at s (a + 4)) (a + 5)) (AskFields s (LiteralNamed s k (byte_at s (a + 4))) a)
     unfolding goal_named

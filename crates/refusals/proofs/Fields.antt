@@ -7,7 +7,7 @@ use lib.Dec.{eqb, leb}
 use borrow.Author.Tests.{eq-eqb, eqb-true, le-leb, leb-true}
 use native.Mathlib.Omega.{arith}
 use Rattle.parlog.proofs.Along.{along-modes}
-use Rattle.parlog.proofs.Bools.{and-true, true-and}
+use Rattle.std.proofs.lemmas.Bool.{and_parts, and_from}
 use Rattle.parlog.specs.Body.{ask_body, body_right, clause_body, goal_range, literal_count, literal_range, literals_range, mode_range, modes_range, relation_body, stage_range, stages_range}
 use Rattle.parlog.specs.Image.{body_at, goal_end, guard_at, literal_end, literals_end, mode_end, stage_end, stages_end}
 use Rattle.parlog.specs.Records.{byte_at, record_at, record_end}
@@ -31,25 +31,25 @@ module _ (s : List ℕ) (t : ℕ → Bool) where
     unfolding each along
     literals-to zero a e f = no-literal
     literals-to (suc n) a e f =
-        let p = and-true (literal_range s a) (literals_range s n (literal_end s a)) e in
-        let q = and-true (t a) (each t (literal_end s) n (literal_end s a)) f in
+        let p = and_parts (literal_range s a) (literals_range s n (literal_end s a)) e in
+        let q = and_parts (t a) (each t (literal_end s) n (literal_end s a)) f in
         a_literal (record { arity = leb-true (byte_at s (a + 1)) 4 p.0; ends = refl; also = so a q.0 }) (literals-to n (literal_end s a) p.1 q.1)
 
     stages-to : (n a : ℕ) → stages_range s n a ≡ true → each stage_test (stage_end s) n a ≡ true → StagesFrom s P n (literal_count s n a) a (stages_end s n a)
     unfolding each along total stage_range stage_end
     stages-to zero a e f = no_stage
     stages-to (suc n) a e f =
-        let p = and-true (stage_range s a) (stages_range s n (stage_end s a)) e in
-        let q = and-true (stage_test a) (each stage_test (stage_end s) n (stage_end s a)) f in
-        let r = and-true (leb 1 (byte_at s a)) (literals_range s (byte_at s a) (a + 1)) p.0 in
+        let p = and_parts (stage_range s a) (stages_range s n (stage_end s a)) e in
+        let q = and_parts (stage_test a) (each stage_test (stage_end s) n (stage_end s a)) f in
+        let r = and_parts (leb 1 (byte_at s a)) (literals_range s (byte_at s a) (a + 1)) p.0 in
         a_stage (leb-true 1 (byte_at s a) r.0) (literals-to (byte_at s a) (a + 1) r.1 q.0) (stages-to n (stage_end s a) p.1 q.1)
 
     pub goal-to : (a : ℕ) → goal_range s a ≡ true → goal_test a ≡ true → GoalFrom s P a (goal_end s a)
     unfolding goal_range goal_end
     goal-to a e f =
         let n = byte_at s a in
-        let p = and-true (leb n 8) (stages_range s n (a + 1) && leb (literal_count s n (a + 1)) 8) e in
-        let q = and-true (stages_range s n (a + 1)) (leb (literal_count s n (a + 1)) 8) p.1 in
+        let p = and_parts (leb n 8) (stages_range s n (a + 1) && leb (literal_count s n (a + 1)) 8) e in
+        let q = and_parts (stages_range s n (a + 1)) (leb (literal_count s n (a + 1)) 8) p.1 in
         record { few_stages = leb-true n 8 p.0; literals = literal_count s n (a + 1); stages = stages-to n (a + 1) q.0 f; few_literals = leb-true (literal_count s n (a + 1)) 8 q.1 }
 
   -- what is told of n literals from a to b, of stages, of a goal
@@ -76,9 +76,9 @@ module _ (s : List ℕ) (t : ℕ → Bool) where
     literals-from (a_literal {n} {a} {m} {b} l ls) =
         let r = subst (λ x. LiteralsTold n x b) l.ends (literals-from ls) in
         record {
-          range = true-and (literal_range s a) (literals_range s n (literal_end s a)) (le-leb (byte_at s (a + 1)) 4 l.arity) r.range;
+          range = and_from (literal_range s a) (literals_range s n (literal_end s a)) (le-leb (byte_at s (a + 1)) 4 l.arity) r.range;
           ends = r.ends;
-          tests = true-and (t a) (each t (literal_end s) n (literal_end s a)) (back a l.also) r.tests;
+          tests = and_from (t a) (each t (literal_end s) n (literal_end s a)) (back a l.also) r.tests;
         }
 
     stages-from : {n k a b : ℕ} → StagesFrom s P n k a b → StagesTold n k a b
@@ -88,10 +88,10 @@ module _ (s : List ℕ) (t : ℕ → Bool) where
         let l = literals-from ls in
         let r = subst (λ x. StagesTold n k x b) (sym l.ends) (stages-from rest) in
         record {
-          range = true-and (stage_range s a) (stages_range s n (stage_end s a)) (true-and (leb 1 (byte_at s a)) (literals_range s (byte_at s a) (a + 1)) (le-leb 1 (byte_at s a) one) l.range) r.range;
+          range = and_from (stage_range s a) (stages_range s n (stage_end s a)) (and_from (leb 1 (byte_at s a)) (literals_range s (byte_at s a) (a + 1)) (le-leb 1 (byte_at s a) one) l.range) r.range;
           ends = r.ends;
           count = ap (λ (x : ℕ). byte_at s a + x) r.count;
-          tests = true-and (stage_test a) (each stage_test (stage_end s) n (stage_end s a)) l.tests r.tests;
+          tests = and_from (stage_test a) (each stage_test (stage_end s) n (stage_end s a)) l.tests r.tests;
         }
 
     pub goal-from : {a b : ℕ} → GoalFrom s P a b → GoalTold a b
@@ -100,8 +100,8 @@ module _ (s : List ℕ) (t : ℕ → Bool) where
         let r = stages-from g.stages in
         let n = byte_at s a in
         record {
-          range = true-and (leb n 8) (stages_range s n (a + 1) && leb (literal_count s n (a + 1)) 8) (le-leb n 8 g.few_stages)
-              (true-and (stages_range s n (a + 1)) (leb (literal_count s n (a + 1)) 8) r.range (rw r.count (le-leb g.literals 8 g.few_literals)));
+          range = and_from (leb n 8) (stages_range s n (a + 1) && leb (literal_count s n (a + 1)) 8) (le-leb n 8 g.few_stages)
+              (and_from (stages_range s n (a + 1)) (leb (literal_count s n (a + 1)) 8) r.range (rw r.count (le-leb g.literals 8 g.few_literals)));
           ends = r.ends;
           tests = r.tests;
         }
@@ -118,11 +118,11 @@ module _ (s : List ℕ) (t : ℕ → Bool) where
   clause-to P so a e f h =
       let the_end = eqb (goal_end s (body_at s a)) (record_end s a) in
       let goals = goal_range s (guard_at s a) && (goal_range s (body_at s a) && the_end) in
-      let p = and-true (leb (byte_at s (a + 5)) 4) (leb (byte_at s (a + 6)) 1 && (leb (byte_at s (a + 7)) 16 && goals)) e in
-      let q = and-true (leb (byte_at s (a + 6)) 1) (leb (byte_at s (a + 7)) 16 && goals) p.1 in
-      let r = and-true (leb (byte_at s (a + 7)) 16) goals q.1 in
-      let u = and-true (goal_range s (guard_at s a)) (goal_range s (body_at s a) && the_end) r.1 in
-      let v = and-true (goal_range s (body_at s a)) the_end u.1 in
+      let p = and_parts (leb (byte_at s (a + 5)) 4) (leb (byte_at s (a + 6)) 1 && (leb (byte_at s (a + 7)) 16 && goals)) e in
+      let q = and_parts (leb (byte_at s (a + 6)) 1) (leb (byte_at s (a + 7)) 16 && goals) p.1 in
+      let r = and_parts (leb (byte_at s (a + 7)) 16) goals q.1 in
+      let u = and_parts (goal_range s (guard_at s a)) (goal_range s (body_at s a) && the_end) r.1 in
+      let v = and_parts (goal_range s (body_at s a)) the_end u.1 in
       record {
         arity = leb-true (byte_at s (a + 5)) 4 p.0;
         mark = leb-true (byte_at s (a + 6)) 1 q.0;
@@ -150,8 +150,8 @@ module _ (s : List ℕ) (t : ℕ → Bool) where
   pub ask-to : (P : ℕ → Type 0) → ((a : ℕ) → t a ≡ true → P a) → (a : ℕ) → ask_body s a ≡ true → goal_test (a + 5) ≡ true → AskFields s P a
   unfolding ask_body
   ask-to P so a e f =
-      let p = and-true (leb (byte_at s (a + 4)) 16) (goal_range s (a + 5) && eqb (goal_end s (a + 5)) (record_end s a)) e in
-      let q = and-true (goal_range s (a + 5)) (eqb (goal_end s (a + 5)) (record_end s a)) p.1 in
+      let p = and_parts (leb (byte_at s (a + 4)) 16) (goal_range s (a + 5) && eqb (goal_end s (a + 5)) (record_end s a)) e in
+      let q = and_parts (goal_range s (a + 5)) (eqb (goal_end s (a + 5)) (record_end s a)) p.1 in
       record {
         vars = leb-true (byte_at s (a + 4)) 16 p.0;
         goal = subst (λ x. GoalFrom s P (a + 5) x) (eqb-true (goal_end s (a + 5)) (record_end s a) q.1) (goal-to P so (a + 5) q.0 f);

@@ -5,13 +5,14 @@ use mathlib.Core.Path.{◌≡◌, refl, sym}
 use mathlib.Core.Logic.{◌≢◌, ◌⊎◌, inl, inr, ⊎_elim}
 use mathlib.Core.Bool.{◌&&◌, ◌||◌, not, true}
 use mathlib.Core.List.{[], ◌∷◌, List}
-use Prim.Native.Nat.{◌<◌, ◌≤◌, suc, zero, ℕ}
+use Prim.Native.Nat.{◌<◌, ◌≤◌, suc, ℕ}
 use lib.Dec.{eqb, leb, ltb}
 use lib.ListN.{get_or, length}
 use borrow.Author.Tests.{le-leb, leb-true, lt-ltb, ltb-true}
 use native.Mathlib.Omega.{arith}
-use native.Mathlib.Nat.{le_of_suc-le-suc, not-suc-le-zero}
-use Rattle.parlog.proofs.Bools.{and-true, never, or_right, true-and}
+use Rattle.std.proofs.lemmas.Bool.{and_parts, or_right, and_from}
+use Rattle.parlog.proofs.Bools.{never}
+use Rattle.parlog.proofs.Assume.{noted-below}
 use Rattle.parlog.proofs.Coded.{code-tag, tag-code}
 use Rattle.parlog.specs.Codes.{and_par, and_seq, dormant, equate, guard_eval, input_match, is_mode, is_one_of, is_result, is_tag, kind_code, mode_code, none, or_par, or_search, reporting, result_code, seq_search, suspended, Tag, tag_code, tag_of, the_goal, try_clause}
 use Rattle.parlog.specs.Notions.{me}
@@ -155,7 +156,7 @@ module _ (pr : Program) (s : State) where
     where
       to : (ltb (me s (suc i)).parent (suc i) && makes_tag (tag_of (me s (me s (suc i)).parent).tag) (tag_of (me s (suc i)).tag)) ≡ true → HasParent s (suc i)
       to e =
-          let a = and-true (ltb (me s (suc i)).parent (suc i)) (makes_tag (tag_of (me s (me s (suc i)).parent).tag) (tag_of (me s (suc i)).tag)) e in
+          let a = and_parts (ltb (me s (suc i)).parent (suc i)) (makes_tag (tag_of (me s (me s (suc i)).parent).tag) (tag_of (me s (suc i)).tag)) e in
           let l = ltb-true (me s (suc i)).parent (suc i) a.0 in
           record {
             lower = omega arith;
@@ -168,7 +169,7 @@ module _ (pr : Program) (s : State) where
 
       back : HasParent s (suc i) → (ltb (me s (suc i)).parent (suc i) && makes_tag (tag_of (me s (me s (suc i)).parent).tag) (tag_of (me s (suc i)).tag)) ≡ true
       back p =
-          true-and (ltb (me s (suc i)).parent (suc i)) (makes_tag (tag_of (me s (me s (suc i)).parent).tag) (tag_of (me s (suc i)).tag)) (let h = p.lower in lt-ltb (me s (suc i)).parent (suc i) (omega arith))
+          and_from (ltb (me s (suc i)).parent (suc i)) (makes_tag (tag_of (me s (me s (suc i)).parent).tag) (tag_of (me s (suc i)).tag)) (let h = p.lower in lt-ltb (me s (suc i)).parent (suc i) (omega arith))
           (rw (code-tag p.above (me s (me s (suc i)).parent).tag p.parent_tag, code-tag p.own (me s (suc i)).tag p.own_tag) (makes-from p.makes))
 
   -- ---- results
@@ -188,22 +189,16 @@ module _ (pr : Program) (s : State) where
 
 -- ---- notes
 
-below-to : (n : ℕ) (ns : List ℕ) → all_below n ns ≡ true → (j : ℕ) → j < length ns → get_or ns j 0 < n
-unfolding all_below
-below-to n [] e j h = absurd (not-suc-le-zero h)
-below-to n (v ∷ ns) e zero h = ltb-true v n (and-true (ltb v n) (all_below n ns) e).0
-below-to n (v ∷ ns) e (suc j) h = below-to n ns (and-true (ltb v n) (all_below n ns) e).1 j (le_of_suc-le-suc h)
-
 below-from : (n : ℕ) (ns : List ℕ) → ((j : ℕ) → j < length ns → get_or ns j 0 < n) → all_below n ns ≡ true
 unfolding all_below
 below-from n [] f = refl
-below-from n (v ∷ ns) f = true-and (ltb v n) (all_below n ns) (lt-ltb v n (f 0 (omega arith))) (below-from n ns (λ j h. f (suc j) (omega arith)))
+below-from n (v ∷ ns) f = and_from (ltb v n) (all_below n ns) (lt-ltb v n (f 0 (omega arith))) (below-from n ns (λ j h. f (suc j) (omega arith)))
 
 pub notes-right : (n : ℕ) (x : Process) → Decides (notes_ok n x) (x.mode ≡ mode_code suspended → (x.count ≤ 4) × ((j : ℕ) → j < length (noted x) → get_or (noted x) j 0 < n))
 unfolding notes_ok
 notes-right n x =
     if-so (is_mode suspended x.mode) (leb x.count 4 && all_below n (noted x)) (equal x.mode (mode_code suspended))
-    (λ q. and-too (leb x.count 4) (all_below n (noted x)) (at_most x.count 4) (below-to n (noted x), below-from n (noted x)))
+    (λ q. and-too (leb x.count 4) (all_below n (noted x)) (at_most x.count 4) (noted-below n (noted x), below-from n (noted x)))
 
 -- ---- bindings
 

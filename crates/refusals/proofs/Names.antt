@@ -8,7 +8,8 @@ use lib.Dec.{eqb, ltb}
 use borrow.Author.Tests.{eq-eqb, eqb-false, eqb-true, lt-ltb, ltb-false, ltb-true}
 use native.Mathlib.Omega.{arith}
 use Rattle.parlog.proofs.Along.{along-terms}
-use Rattle.parlog.proofs.Bools.{and-true, split, true-and}
+use Rattle.std.proofs.lemmas.Bool.{and_parts, and_from}
+use Rattle.parlog.proofs.Bools.{split}
 use Rattle.parlog.specs.Image.{equality, term_end, term_of}
 use Rattle.parlog.specs.Names.{arity_of, literal_named, relation_named, term_named, term_named_at, terms_named}
 use Rattle.parlog.specs.Records.{byte_at, word_at}
@@ -42,14 +43,14 @@ module _ (s : List ℕ) where
         where
           to : (eqb (byte_at s (a + 1)) 2 && terms_named s n (byte_at s (a + 1)) (a + 2)) ≡ true → LiteralNamed s k n a
           to e =
-              let p = and-true (eqb (byte_at s (a + 1)) 2) (terms_named s n (byte_at s (a + 1)) (a + 2)) e in
+              let p = and_parts (eqb (byte_at s (a + 1)) 2) (terms_named s n (byte_at s (a + 1)) (a + 2)) e in
               let two = eqb-true (byte_at s (a + 1)) 2 p.0 in
               an_equality z two (subst (λ x. TermsNamed s n x (a + 2)) two ((terms-named n (byte_at s (a + 1)) (a + 2)).0 p.1))
 
           back : LiteralNamed s k n a → (eqb (byte_at s (a + 1)) 2 && terms_named s n (byte_at s (a + 1)) (a + 2)) ≡ true
           back (a_call r t) = let h = r.there in absurd (omega arith)
           back (an_equality y two t) =
-              true-and (eqb (byte_at s (a + 1)) 2) (terms_named s n (byte_at s (a + 1)) (a + 2)) (eq-eqb (byte_at s (a + 1)) 2 two)
+              and_from (eqb (byte_at s (a + 1)) 2) (terms_named s n (byte_at s (a + 1)) (a + 2)) (eq-eqb (byte_at s (a + 1)) 2 two)
               ((terms-named n (byte_at s (a + 1)) (a + 2)).1 (subst (λ x. TermsNamed s n x (a + 2)) (sym two) t))
 
       of-call : byte_at s a ≢ 255 → Decides (relation_named s rels (byte_at s a) (byte_at s (a + 1)) && terms) (LiteralNamed s k n a)
@@ -57,12 +58,12 @@ module _ (s : List ℕ) where
         where
           to : (relation_named s rels (byte_at s a) (byte_at s (a + 1)) && terms_named s n (byte_at s (a + 1)) (a + 2)) ≡ true → LiteralNamed s k n a
           to e =
-              let p = and-true (relation_named s rels (byte_at s a) (byte_at s (a + 1))) (terms_named s n (byte_at s (a + 1)) (a + 2)) e in
+              let p = and_parts (relation_named s rels (byte_at s a) (byte_at s (a + 1))) (terms_named s n (byte_at s (a + 1)) (a + 2)) e in
               a_call ((relation-known (byte_at s a) (byte_at s (a + 1))).0 p.0) ((terms-named n (byte_at s (a + 1)) (a + 2)).0 p.1)
 
           back : LiteralNamed s k n a → (relation_named s rels (byte_at s a) (byte_at s (a + 1)) && terms_named s n (byte_at s (a + 1)) (a + 2)) ≡ true
           back (a_call r t) =
-              true-and (relation_named s rels (byte_at s a) (byte_at s (a + 1))) (terms_named s n (byte_at s (a + 1)) (a + 2))
+              and_from (relation_named s rels (byte_at s a) (byte_at s (a + 1))) (terms_named s n (byte_at s (a + 1)) (a + 2))
               ((relation-known (byte_at s a) (byte_at s (a + 1))).1 r) ((terms-named n (byte_at s (a + 1)) (a + 2)).1 t)
           back (an_equality y two t) = absurd (z y)
 

@@ -6,7 +6,7 @@ use lib.Dec.{eqb, leb, ltb}
 use lib.ListN.{length}
 use borrow.Author.Tests.{eq-eqb, eqb-false, eqb-true, le-leb, leb-true, lt-ltb, ltb-true, ne_eqb, not-true}
 use native.Mathlib.Omega.{arith}
-use Rattle.parlog.proofs.Bools.{and-true, true-and}
+use Rattle.std.proofs.lemmas.Bool.{and_parts, and_from}
 use Rattle.parlog.proofs.Openers.{block-counted, has_block}
 use Rattle.parlog.proofs.Placed.{at_split, at-split-test, stage_is, stage-only, works-is, works-only}
 use Rattle.parlog.proofs.Trying.{vars_are, vars-only}
@@ -32,7 +32,7 @@ module _ (pr : Program) (n : ℕ) where
     goal-used-to : (q : ℕ) → z.kind ≡ q → q < 4 → goal_in pr n z ≡ true → GoalUsed pr n z
     unfolding goal_in goal_in_by kind_of
     goal-used-to zero e h f =
-        let a = and-true (eqb z.base 0) (leb pr.goal_vars n) (rw e at f) in
+        let a = and_parts (eqb z.base 0) (leb pr.goal_vars n) (rw e at f) in
         of_image e (eqb-true z.base 0 a.0) (leb-true pr.goal_vars n a.1)
     goal-used-to (suc zero) e h f = of_guard e ((clause-used z.clause z.base).0 (rw e at f))
     goal-used-to (suc (suc zero)) e h f = of_body e ((clause-used z.clause z.base).0 (rw e at f))
@@ -41,7 +41,7 @@ module _ (pr : Program) (n : ℕ) where
 
     goal-used-from : GoalUsed pr n z → goal_in pr n z ≡ true
     unfolding goal_in goal_in_by kind_of
-    goal-used-from (of_image e b v) = rw e (true-and (eqb z.base 0) (leb pr.goal_vars n) (eq-eqb z.base 0 b) (le-leb pr.goal_vars n v))
+    goal-used-from (of_image e b v) = rw e (and_from (eqb z.base 0) (leb pr.goal_vars n) (eq-eqb z.base 0 b) (le-leb pr.goal_vars n v))
     goal-used-from (of_guard e c) = rw e ((clause-used z.clause z.base).1 c)
     goal-used-from (of_body e c) = rw e ((clause-used z.clause z.base).1 c)
     goal-used-from (of_written e c) = rw e ((clause-used z.clause z.base).1 c)
@@ -53,7 +53,7 @@ module _ (pr : Program) (n : ℕ) where
     literal-from : {r : ℕ} → LiteralUsed pr n z r → literal_in pr n z ≡ true
     unfolding literal_in
     literal-from l =
-        true-and (goal_in pr n z) (ltb z.literal (length (stage_at pr z))) (goal-used-from l.goal)
+        and_from (goal_in pr n z) (ltb z.literal (length (stage_at pr z))) (goal-used-from l.goal)
         (rw (stage-only pr z l.in_stage) (lt-ltb z.literal (length l.stage) l.there))
 
     module _ (known : z.kind < 4) where
@@ -78,41 +78,41 @@ module _ (pr : Program) (n : ℕ) where
       literal-to : literal_in pr n z ≡ true → LiteralUsed pr n z (literal_at pr z).rel
       unfolding literal_in literal_at
       literal-to e =
-          let a = and-true (goal_in pr n z) (ltb z.literal (length (stage_at pr z))) e in
+          let a = and_parts (goal_in pr n z) (ltb z.literal (length (stage_at pr z))) e in
           record { goal = goal-used.0 a.0; stage = stage_at pr z; in_stage = stage_is pr z known; there = ltb-true z.literal (length (stage_at pr z)) a.1; relation = refl }
 
       call-used : Decides (call_in pr n z) (CallUsed pr n z)
       unfolding call_in
       call-used = (
-        λ e. let a = and-true (literal_in pr n z) (not (is_equality (literal_at pr z))) e in
+        λ e. let a = and_parts (literal_in pr n z) (not (is_equality (literal_at pr z))) e in
             record { relation = (literal_at pr z).rel; literal = literal-to a.0; call = eqb-false (literal_at pr z).rel equality (not-true (is_equality (literal_at pr z)) a.1) },
-        λ c. true-and (literal_in pr n z) (not (is_equality (literal_at pr z))) (literal-from c.literal) (rw (literal-relation c.literal, ne_eqb c.relation 255 c.call)),
+        λ c. and_from (literal_in pr n z) (not (is_equality (literal_at pr z))) (literal-from c.literal) (rw (literal-relation c.literal, ne_eqb c.relation 255 c.call)),
       )
 
       equality-used : Decides (equality_in pr n z) (LiteralUsed pr n z 255)
       unfolding equality_in
       equality-used = (
-        λ e. let a = and-true (literal_in pr n z) (is_equality (literal_at pr z)) e in
+        λ e. let a = and_parts (literal_in pr n z) (is_equality (literal_at pr z)) e in
             subst (λ r. LiteralUsed pr n z r) (eqb-true (literal_at pr z).rel equality a.1) (literal-to a.0),
-        λ l. true-and (literal_in pr n z) (is_equality (literal_at pr z)) (literal-from l) (eq-eqb (literal_at pr z).rel 255 (literal-relation l)),
+        λ l. and_from (literal_in pr n z) (is_equality (literal_at pr z)) (literal-from l) (eq-eqb (literal_at pr z).rel 255 (literal-relation l)),
       )
 
       -- the block of the relation called
       pub block-used : Decides (call_in pr n z && block_in pr z) (BlockUsed pr n z)
       block-used = (
-        λ e. let a = and-true (call_in pr n z) (block_in pr z) e in
+        λ e. let a = and_parts (call_in pr n z) (block_in pr z) e in
             let c = call-used.0 a.0 in
             let l = ltb-true z.block (block_count pr (literal_at pr z).rel) a.1 in
             record { relation = c.relation; literal = c.literal; call = c.call; block = has_block pr c.relation z.block (rw (← literal-relation c.literal) l) },
-        λ b. true-and (call_in pr n z) (block_in pr z) (call-used.1 (record { relation = b.relation; literal = b.literal; call = b.call }))
+        λ b. and_from (call_in pr n z) (block_in pr z) (call-used.1 (record { relation = b.relation; literal = b.literal; call = b.call }))
             (rw (literal-relation b.literal) (lt-ltb z.block (block_count pr b.relation) (block-counted pr b.relation z.block b.block))),
       )
 
       trial-used : Decides (call_in pr n z && try_in pr n z) (TrialUsed pr n z)
       unfolding try_in
       trial-used = (
-        λ e. let a = and-true (call_in pr n z) (try_in pr n z) e in
-            let b = and-true (found_in pr n z) (eqb (clause_at pr z.found).rel (literal_at pr z).rel) a.1 in
+        λ e. let a = and_parts (call_in pr n z) (try_in pr n z) e in
+            let b = and_parts (found_in pr n z) (eqb (clause_at pr z.found).rel (literal_at pr z).rel) a.1 in
             let c = call-used.0 a.0 in
             record {
               relation = c.relation;
@@ -121,8 +121,8 @@ module _ (pr : Program) (n : ℕ) where
               clause = (clause-used z.found z.first).0 b.0;
               same = eqb-true (clause_at pr z.found).rel (literal_at pr z).rel b.1 ∙ literal-relation c.literal;
             },
-        λ u. true-and (call_in pr n z) (try_in pr n z) (call-used.1 (record { relation = u.relation; literal = u.literal; call = u.call }))
-            (true-and (found_in pr n z) (eqb (clause_at pr z.found).rel (literal_at pr z).rel) ((clause-used z.found z.first).1 u.clause)
+        λ u. and_from (call_in pr n z) (try_in pr n z) (call-used.1 (record { relation = u.relation; literal = u.literal; call = u.call }))
+            (and_from (found_in pr n z) (eqb (clause_at pr z.found).rel (literal_at pr z).rel) ((clause-used z.found z.first).1 u.clause)
             (eq-eqb (clause_at pr z.found).rel (literal_at pr z).rel (u.same ∙ sym (literal-relation u.literal)))),
       )
 

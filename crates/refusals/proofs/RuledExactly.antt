@@ -7,7 +7,8 @@ use lib.Dec.{eqb, leb, ltb}
 use lib.ListN.{length}
 use borrow.Author.Tests.{eq-eqb, eqb-true, le-leb, leb-true}
 use native.Mathlib.Omega.{arith}
-use Rattle.parlog.proofs.Bools.{and-true, implies_true, true-and, true_implies}
+use Rattle.std.proofs.lemmas.Bool.{and_from, and_parts}
+use Rattle.parlog.proofs.Bools.{implies_true, true_implies}
 use Rattle.parlog.proofs.Coded.{code-tag, tag-code}
 use Rattle.parlog.proofs.RowRules.{Row, row-facts, row-test}
 use Rattle.parlog.proofs.Scans.{every-at, every-is}
@@ -38,12 +39,12 @@ module _ (lim : Limits) (pr : Program) (s : State) where
     waits-to : call_in pr n (spot i) ≡ true → implies (is_mode waiting (me s i).mode) (block_in pr (spot i)) ≡ true → HasMode s i waiting → BlockUsed pr n (spot i)
     waits-to c e w =
         (block-used pr n (spot i) known.kind).0
-        (true-and (call_in pr n (spot i)) (block_in pr (spot i)) c (implies_true (is_mode waiting (me s i).mode) (block_in pr (spot i)) e (eq-eqb (me s i).mode 3 w)))
+        (and_from (call_in pr n (spot i)) (block_in pr (spot i)) c (implies_true (is_mode waiting (me s i).mode) (block_in pr (spot i)) e (eq-eqb (me s i).mode 3 w)))
 
     waits-from : (HasMode s i waiting → BlockUsed pr n (spot i)) → implies (is_mode waiting (me s i).mode) (block_in pr (spot i)) ≡ true
     waits-from f =
         true_implies (is_mode waiting (me s i).mode) (block_in pr (spot i))
-        (λ e. (and-true (call_in pr n (spot i)) (block_in pr (spot i)) ((block-used pr n (spot i) known.kind).1 (f (eqb-true (me s i).mode 3 e)))).1)
+        (λ e. (and_parts (call_in pr n (spot i)) (block_in pr (spot i)) ((block-used pr n (spot i) known.kind).1 (f (eqb-true (me s i).mode 3 e)))).1)
 
     -- a search that reports success names a clause
     finds : Decides (implies (succeeds (me s i)) (found_in pr n (spot i))) (Reports s i success → ClauseUsed pr n (spot i).found (spot i).first)
@@ -66,7 +67,7 @@ module _ (lim : Limits) (pr : Program) (s : State) where
     going-from and_seq h a b c = stays.1 (λ m. a (record { tag = h; mode = m }))
     going-from or_par h a b c = refl
     going-from seq_search h a b c =
-        true-and (implies (is_mode waiting (me s i).mode) (block_in pr (spot i))) (implies (succeeds (me s i)) (found_in pr n (spot i)))
+        and_from (implies (is_mode waiting (me s i).mode) (block_in pr (spot i))) (implies (succeeds (me s i)) (found_in pr n (spot i)))
         (waits-from (λ m. b (record { tag = h; mode = m }))) (finds.1 (c (inl h)))
     going-from or_search h a b c = finds.1 (c (inr h))
     going-from try_clause h a b c = refl
@@ -83,8 +84,8 @@ module _ (lim : Limits) (pr : Program) (s : State) where
     counts-and-rows : (counts_ok lim pr s ≡ true) × (every (row_ok pr s.procs n) count ≡ true) × (every (var_ok s.vars) n ≡ true)
     unfolding state_ok
     counts-and-rows =
-        let a = and-true (counts_ok lim pr s) (every (row_ok pr s.procs n) count && every (var_ok s.vars) n) ok in
-        let b = and-true (every (row_ok pr s.procs n) count) (every (var_ok s.vars) n) a.1 in
+        let a = and_parts (counts_ok lim pr s) (every (row_ok pr s.procs n) count && every (var_ok s.vars) n) ok in
+        let b = and_parts (every (row_ok pr s.procs n) count) (every (var_ok s.vars) n) a.1 in
         (a.0, b.0, b.1)
 
     row : (i : ℕ) → i < count → Row pr n i (me s i) × (kin_ok pr s.procs i (me s i) ≡ true)
@@ -103,7 +104,7 @@ module _ (lim : Limits) (pr : Program) (s : State) where
     unfolding going_ok places_ok
     at-block-of i h w =
         waits-to i (known-row i h) (places_of i seq_search h w.tag)
-        (and-true (implies (is_mode waiting (me s i).mode) (block_in pr (spot i))) (implies (succeeds (me s i)) (found_in pr n (spot i))) (going_of i seq_search h w.tag)).0 w.mode
+        (and_parts (implies (is_mode waiting (me s i).mode) (block_in pr (spot i))) (implies (succeeds (me s i)) (found_in pr n (spot i))) (going_of i seq_search h w.tag)).0 w.mode
 
     at-stage-of : (i : ℕ) → i < count → Is s i and_seq waiting → StageNamed pr (spot i) 0
     unfolding going_ok
@@ -112,7 +113,7 @@ module _ (lim : Limits) (pr : Program) (s : State) where
     found_of : (i : ℕ) → i < count → HasTag s i seq_search ⊎ HasTag s i or_search → Reports s i success → ClauseUsed pr n (spot i).found (spot i).first
     unfolding going_ok
     found_of i h (inl e) r =
-        (finds i (known-row i h)).0 (and-true (implies (is_mode waiting (me s i).mode) (block_in pr (spot i))) (implies (succeeds (me s i)) (found_in pr n (spot i))) (going_of i seq_search h e)).1 r
+        (finds i (known-row i h)).0 (and_parts (implies (is_mode waiting (me s i).mode) (block_in pr (spot i))) (implies (succeeds (me s i)) (found_in pr n (spot i))) (going_of i seq_search h e)).1 r
     found_of i h (inr e) r = (finds i (known-row i h)).0 (going_of i or_search h e) r
 
     parents-of : (i : ℕ) → i < count → i ≢ 0 → HasParent s i
@@ -126,9 +127,9 @@ module _ (lim : Limits) (pr : Program) (s : State) where
     state-to : StateRuled lim pr s
     unfolding counts_ok
     state-to =
-        let a = and-true (leb 1 count) (leb count lim.procs && (leb n lim.vars && leb pr.goal_vars n)) counts-and-rows.0 in
-        let b = and-true (leb count lim.procs) (leb n lim.vars && leb pr.goal_vars n) a.1 in
-        let c = and-true (leb n lim.vars) (leb pr.goal_vars n) b.1 in
+        let a = and_parts (leb 1 count) (leb count lim.procs && (leb n lim.vars && leb pr.goal_vars n)) counts-and-rows.0 in
+        let b = and_parts (leb count lim.procs) (leb n lim.vars && leb pr.goal_vars n) a.1 in
+        let c = and_parts (leb n lim.vars) (leb pr.goal_vars n) b.1 in
         let one = leb-true 1 count a.0 in
         record {
           a_process = one;

@@ -1,10 +1,9 @@
 -- The ways through a replay.
-use Rattle.std.specs.Prelude.{Ok, Err, Some}
-use Rattle.parlog.specs.Answer.{Answer}
-use mathlib.Core.Path.{◌∙◌, ◌≡◌, ap, refl, sym}
-use mathlib.Core.Bool.{◌&&◌, Bool, cond, false, true}
+use Rattle.std.specs.Prelude.{Err, Ok, Some}
+use mathlib.Core.Path.{ap, refl, sym, ◌∙◌, ◌≡◌}
+use mathlib.Core.Bool.{Bool, cond, false, true, ◌&&◌}
 use mathlib.Core.List.{List}
-use Prim.Native.Nat.{◌*◌, ◌+◌, ◌-◌, ◌<◌, ◌≤◌, suc, ℕ}
+use Prim.Native.Nat.{suc, ℕ, ◌*◌, ◌+◌, ◌-◌, ◌<◌, ◌≤◌}
 use lib.Dec.{eqb, leb, ltb}
 use lib.ListN.{length, set}
 use borrow.Author.Tests.{eq-eqb, le-ltb, ne_eqb}
@@ -15,16 +14,19 @@ use Rattle.entry.specs.Entered.{EnterSays, Inside}
 use Rattle.load.specs.Fields.{refusal_of}
 use Rattle.machine.proofs.Giving.{decided-asked, supply-given}
 use Rattle.machine.specs.Supplying.{asked_of, DecidedSays, given_by}
+use Rattle.move_plan.specs.Plans.{delta_of}
+use Rattle.move_plan.specs.declared.Plan.{Plan}
 use Rattle.parlog.proofs.Assume.{sizes-full}
 use Rattle.parlog.proofs.Bools.{and-true, never}
 use Rattle.parlog.proofs.Kept.{supply-keeps}
+use Rattle.parlog.specs.Answer.{Answer}
 use Rattle.parlog.specs.Calls.{enter}
-use Rattle.parlog.specs.Limits.{Limits, Usable}
+use Rattle.parlog.specs.Limits.{Limits}
 use Rattle.parlog.specs.Load.{refusal}
 use Rattle.parlog.specs.Numbers.{refused_as, rule_number, word}
 use Rattle.parlog.specs.Program.{Program, program_of}
 use Rattle.parlog.specs.Records.{kind_at}
-use Rattle.parlog.specs.Run.{given, made, procs_in, step_tables, supplied, Supplying, supply_tables, supply_value, ungiven, stepped}
+use Rattle.parlog.specs.Run.{given, made, procs_in, step_tables, stepped, supplied, supply_tables, supply_value, Supplying, ungiven}
 use Rattle.parlog.specs.Scan.{every}
 use Rattle.parlog.specs.TableRules.{cell_known, full_size, lent_ok, tables_ok}
 use Rattle.parlog.specs.Tables.{at, Lent, lent, proc_count, put_tables, Tables, tables_in, var_count, vars_in}
@@ -32,7 +34,7 @@ use Rattle.parlog.specs.Unify.{value}
 use Rattle.parlog.specs.declared.Refusal.{Refusal}
 use Rattle.parlog.specs.declared.Term.{Term}
 use Rattle.parlog.specs.declared.Term.TheVariants.{Const, Var}
-use Rattle.replay.specs.Replay.{disagrees, is_played, PlayedSays, play_from, PlayGoing, Playing, play_on, play_record, plays, PlaysSay, play_step, play_supply, replay_call, replay_numbers, ReplaySays, replay_tested, replay_told, tables_played}
+use Rattle.replay.specs.Replay.{disagrees, is_played, play_from, play_on, play_record, play_step, play_supply, PlayedSays, PlayGoing, Playing, plays, PlaysSay, replay_call, replay_numbers, replay_tested, replay_told, ReplaySays, tables_played}
 use Rattle.rows.proofs.Tables.{procs-four}
 use Rattle.rows.specs.Rows.{Bytes, Four}
 use Rattle.run.proofs.Runs.{grown-same, grown-then, one_less}
@@ -40,10 +42,12 @@ use Rattle.run.specs.Running.{Grown}
 use Rattle.step.specs.Stepping.{PlannedSays, step_in, SteppedSays}
 use Rattle.move_plan.specs.declared.Plan.{Plan}
 use Rattle.move_plan.specs.Plans.{delta_of}
-use Rattle.trace.specs.Trace.{step_kind, TestedSays, trace_size, what_at, who_at}
+use Rattle.trace.proofs.Laws.{kind-step, kind-supply}
+use Rattle.trace.specs.Kinds.{kind_or_supply}
+use Rattle.trace.specs.declared.Kind.{Kind}
+use Rattle.trace.specs.declared.Kind.TheVariants.{Step, Supply}
+use Rattle.trace.specs.Trace.{TestedSays, trace_size, what_at, who_at}
 use Rattle.vars.specs.Cells.{Cells}
-use Rattle.words.proofs.Fitting.{step-within}
-use Rattle.words.specs.Fits.{MoveWithin}
 use Rattle.words.specs.Nights.{told_offset, told_refusal}
 
 -- ---- one record
@@ -80,10 +84,6 @@ module _ (lim : Limits) (s : List ℕ) (r c : ℕ) (l : Lent) (i : Inside lim s 
     module _ {pl : Plan} (z : d ≡ Ok pl) where
       made_so : step_in lim s r c l p ≡ made pl.mv (stepped (tables_in l) p (delta_of pl))
       made_so = says.step ∙ rw z
-
-      -- the move of a step that is made touched a process that can be told
-      pub step-told : Usable lim → MoveWithin 4294967295 pl.mv
-      step-told ok = let w = step-within lim ok (program_of s r c) (tables_in l) (omega (arith, count-procs l, i.procs_most)) p in rw made_so at w
 
       module _ {w : ℕ} (ew : w ≡ rule_number pl.mv) where
         -- its rule is another
@@ -179,16 +179,16 @@ module _ (lim : Limits) (s : List ℕ) (r c : ℕ) (l : Lent) (i : Inside lim s 
 
 -- ---- the record
 
-module _ (lim : Limits) (s : List ℕ) (r c : ℕ) (l : Lent) (trace : List ℕ) (place : ℕ) {kind who what : ℕ} (ek : kind ≡ kind_at trace place) (ew : who ≡ who_at trace place) (et : what ≡ what_at trace place) where
-  pub record-step : kind ≡ step_kind → {b : Bool} {l' : Lent} → PlaysSay lim s r c l (play_step (step_tables lim (program_of s r c) (tables_in l) who) what) b l'
+module _ (lim : Limits) (s : List ℕ) (r c : ℕ) (l : Lent) (trace : List ℕ) (place : ℕ) {kind : Kind} {who what : ℕ} (ek : kind ≡ kind_or_supply (kind_at trace place)) (ew : who ≡ who_at trace place) (et : what ≡ what_at trace place) where
+  pub record-step : kind ≡ Step → {b : Bool} {l' : Lent} → PlaysSay lim s r c l (play_step (step_tables lim (program_of s r c) (tables_in l) who) what) b l'
       → PlaysSay lim s r c l (play_record lim (program_of s r c) trace place (tables_in l)) b l'
   unfolding play_record
-  record-step e x = let q = eq-eqb (kind_at trace place) step_kind (sym ek ∙ e) in rw q (rw (ew, et) at x)
+  record-step e x = let q = kind-step (kind_at trace place) ek e in rw q (rw (ew, et) at x)
 
-  pub record-supply : (kind ≡ step_kind → ⊥) → {b : Bool} {l' : Lent} → PlaysSay lim s r c l (play_supply (supply_tables (program_of s r c) (tables_in l) who what)) b l'
+  pub record-supply : kind ≡ Supply → {b : Bool} {l' : Lent} → PlaysSay lim s r c l (play_supply (supply_tables (program_of s r c) (tables_in l) who what)) b l'
       → PlaysSay lim s r c l (play_record lim (program_of s r c) trace place (tables_in l)) b l'
   unfolding play_record
-  record-supply e x = let q = ne_eqb (kind_at trace place) step_kind (λ z. e (ek ∙ z)) in rw q (rw (ew, et) at x)
+  record-supply e x = let q = kind-supply (kind_at trace place) ek e in rw q (rw (ew, et) at x)
 
 -- ---- the loop
 

@@ -4,19 +4,17 @@ use Rattle.parlog.specs.Answer.{Answer}
 use mathlib.Core.Path.{◌∙◌, ◌≡◌, ap, sym}
 use mathlib.Core.Bool.{false, true}
 use mathlib.Core.List.{List}
-use Prim.Native.Nat.{◌*◌, ◌<◌, ◌≤◌, ℕ}
+use Prim.Native.Nat.{◌<◌, ◌≤◌, ℕ}
 use lib.Dec.{ltb}
 use lib.ListN.{length}
 use borrow.Author.Tests.{le-ltb, lt-ltb}
-use native.Mathlib.Omega.{arith}
-use Rattle.entry.proofs.Entering.{inside_of}
 use Rattle.entry.specs.Entered.{EnterSays}
 use Rattle.lay.proofs.Laws.{laid-start}
 use Rattle.lay.specs.Lay.{Lays}
 use Rattle.load.specs.Fields.{refusal_of}
 use Rattle.parlog.specs.Limits.{Limits}
 use Rattle.parlog.specs.Load.{refusal}
-use Rattle.parlog.specs.Tables.{cell_size, head_size, Lent, proc_count, row_size, var_count, written}
+use Rattle.parlog.specs.Tables.{Lent, proc_count, var_count, written}
 use Rattle.parlog.specs.declared.Refusal.{Refusal}
 use Rattle.resume.specs.Calls.{save_call}
 use Rattle.resume.specs.Says.{SaveSays}
@@ -47,8 +45,3 @@ module _ (lim : Limits) (s : List ℕ) (l : Lent) (row : List ℕ) {e : Answer (
         let enough : length (saved_bytes l (length s)) ≤ length row = rw same_size h in
         let i : size ≡ length (saved_bytes l (length s)) = sym same_size in
         record { answer = rw (k, z) (ap Ok i); row_is = rw (k, z) (w.row ∙ laid-start (saved_bytes l (length s)) row enough); few = few }
-
--- what the writer may count on
-pub save-writes : (lim : Limits) (s : List ℕ) (l : Lent) {e : Answer (ℕ × ℕ)} {r c : ℕ} → EnterSays lim s l e → e ≡ Ok (r, c)
-    → (head_size ≤ length l.head) × (proc_count l.head * row_size ≤ length l.procs) × (var_count l.head * cell_size ≤ length l.vars)
-save-writes lim s l told q = let i = inside_of lim s l told q in let h = i.head in (omega arith, i.rows, i.cells)

@@ -1,13 +1,13 @@
 -- The tests on numbers are the definitions' tests on what the numbers stand for.
 use mathlib.Core.Path.{◌∙◌, ◌≡◌, ap, ap₂, refl, sym}
-use mathlib.Core.Bool.{◌&&◌, ◌||◌, Bool, cond, false, not, or_comm, true}
+use mathlib.Core.Bool.{◌&&◌, ◌||◌, Bool, cond, false, not, or_comm, true, or-false, and-true}
 use mathlib.Core.List.{[], ◌∷◌, List}
 use Prim.Native.Nat.{◌<◌, suc, zero, ℕ}
 use lib.Dec.{eqb, leb, ltb}
 use lib.ListN.{get_or, length, take}
 use borrow.Author.Tests.{le-ltb, lt-leb, lt-ltb, ne_eqb}
 use native.Mathlib.Omega.{arith}
-use Rattle.parlog.proofs.Bools.{or-none, or_right}
+use Rattle.std.proofs.lemmas.Bool.{or_right}
 use Rattle.parlog.specs.Codes.{is_one_of, tag_code, tag_of}
 use Rattle.parlog.specs.Scan.{implies}
 use Rattle.parlog.specs.TableRules.{all_below, binding_ok, goal_tags, literal_tags, makes_tag}
@@ -78,7 +78,7 @@ tag-test (suc (suc (suc (suc (suc (suc (suc zero))))))) k h = refl
 tag-test (suc (suc (suc (suc (suc (suc (suc (suc n)))))))) k h = off n k h ∙ sym (off 0 k h)
 
 only-tag : (t k : ℕ) → k < 8 → eqb t k ≡ (eqb (tag_code (tag_of t)) k || false)
-only-tag t k h = tag-test t k h ∙ sym (or-none (eqb (tag_code (tag_of t)) k))
+only-tag t k h = tag-test t k h ∙ sym (or-false (eqb (tag_code (tag_of t)) k))
 
 pub makes-code : (up t : ℕ) → makes_code up t ≡ makes_tag (tag_of up) (tag_of t)
 unfolding tag_of
@@ -102,10 +102,6 @@ or-implies false b = refl
 
 -- ---- notes
 
-pub and_one : (b : Bool) → (b && true) ≡ b
-and_one true = refl
-and_one false = refl
-
 -- four notes, each where it counts
 abbrev pub four_code : ℕ → ℕ → ℕ → ℕ → ℕ → ℕ → Bool
 four_code n k a b c d = implies (ltb 0 k) (ltb a n) && (implies (ltb 1 k) (ltb b n) && (implies (ltb 2 k) (ltb c n) && implies (ltb 3 k) (ltb d n)))
@@ -116,7 +112,7 @@ four-code n zero a b c d = refl
 four-code n (suc zero) a b c d = refl
 four-code n (suc (suc zero)) a b c d = refl
 four-code n (suc (suc (suc zero))) a b c d = refl
-four-code n (suc (suc (suc (suc zero)))) a b c d = rw and_one
+four-code n (suc (suc (suc (suc zero)))) a b c d = rw and-true
 four-code n (suc (suc (suc (suc (suc k))))) a b c d = rw (lt-leb (suc (suc (suc (suc (suc k))))) 4 (omega arith))
 
 four : (ns : List ℕ) → length ns ≡ 4 → ns ≡ get_or ns 0 0 ∷ get_or ns 1 0 ∷ get_or ns 2 0 ∷ get_or ns 3 0 ∷ []
@@ -138,7 +134,7 @@ cell_code v sort k = cond (eqb sort 0) (eqb k 0) (cond (eqb sort 1) (leb k 32767
 
 pub cell-code : (v sort k : ℕ) → cell_code v sort k ≡ ((ltb sort 3 && implies (eqb sort 0) (eqb k 0)) && binding_ok v (binding_by sort k))
 unfolding binding_by
-cell-code v zero k = sym (and_one (eqb k 0))
+cell-code v zero k = sym (and-true (eqb k 0))
 cell-code v (suc zero) k = refl
 cell-code v (suc (suc zero)) k = refl
 cell-code v (suc (suc (suc n))) k =

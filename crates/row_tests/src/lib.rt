@@ -72,6 +72,7 @@ fn note_ok(k: u8, count: u8, v: u16, n: usize) -> bool
 }
 
 // The notes of a suspended process: at most four, all of them variables.
+// Kept, an array and a count: they come from a row, in which the count may be over four. That it is not is what is tested.
 pub fn notes_ok(n: usize, mode: u8, count: u8, notes: [u16; codes::MOST_NOTES as usize]) -> bool
     ensures { result ≡ implies (is_mode suspended mode) (leb count 4 && all_below n (take count notes)) }
 {
@@ -87,6 +88,7 @@ pub fn notes_ok(n: usize, mode: u8, count: u8, notes: [u16; codes::MOST_NOTES as
 
 // ---- a variable
 
+// Kept, the sort as a number: a row holds any byte, each has its meaning by `binding_by`, and all but three are refused (`cell_known`).
 // The row of variable v: a sort that there is, no number where nothing is bound, and a binding that leads to a constant or downward.
 pub fn cell_ok(v: usize, sort: u8, number: usize) -> bool
     ensures { result ≡ ((ltb sort 3 && implies (eqb sort 0) (eqb number 0)) && binding_ok v (binding_by sort number)) }

@@ -1,9 +1,9 @@
 -- The ways through the rules: each premise is a fact of the code, the answer is what the definition has.
-use Rattle.std.specs.Prelude.{Some, None}
-use mathlib.Core.Path.{◌∙◌, ◌≡◌, ap, ap₂, refl, sym}
+use Rattle.std.specs.Prelude.{None, Some}
+use mathlib.Core.Path.{ap, ap₂, refl, sym, ◌∙◌, ◌≡◌}
 use mathlib.Core.Bool.{Bool, false, true}
-use mathlib.Core.List.{[], ◌++◌, ◌∷◌, append-nil, List}
-use Prim.Native.Nat.{◌+◌, ◌<◌, ◌≤◌, suc, zero, ℕ}
+use mathlib.Core.List.{[], append-nil, List, ◌++◌, ◌∷◌}
+use Prim.Native.Nat.{suc, zero, ℕ, ◌+◌, ◌<◌, ◌≤◌}
 use lib.ListN.{get_or, length, length-append}
 use borrow.Author.Tests.{le-ltb, lt-ltb}
 use native.Mathlib.Omega.{arith}
@@ -12,12 +12,12 @@ use Rattle.children.specs.Telling.{heard_of}
 use Rattle.children.specs.declared.News.{News}
 use Rattle.children.specs.declared.News.TheVariants.{Bad, Good, Silent}
 use Rattle.move_plan.proofs.Made.{touches}
-use Rattle.move_plan.specs.Plans.{Born, Of, touched}
+use Rattle.move_plan.specs.Plans.{touched}
 use Rattle.parlog.proofs.Scans.{build-length}
-use Rattle.parlog.specs.Codes.{and_par, and_seq, as_written, dormant, failure, guard_eval, input_match, kind_code, kind_of, mode_code, ready, starting, success, tag_code, the_guard, try_clause, waiting}
+use Rattle.parlog.specs.Codes.{and_par, and_seq, as_written, dormant, failure, guard_eval, input_match, kind_of, ready, starting, success, Tag, the_guard, try_clause, waiting}
 use Rattle.parlog.specs.Delta.{at_stage, guard_spot, literal_spot, making, only, report, try_spot, with_mode, with_spot}
-use Rattle.parlog.specs.Program.{clause_at, Goal, goal_at, goal_by, Literal, literal_at, no_literal, Program, split_at, split_by, stage_at, tag_of_goal, tag_of_literal, tag_of_stage}
-use Rattle.parlog.specs.Rules.{and_par_start, and_par_wait, and_seq_start, and_seq_wait, Applied, body_beside, by_rule, first_made, guard_eval_start, guard_eval_wait, member, members, member_tag, no_rule, rule_in, start_rule, stop_rule, try_clause_start, try_clause_wait, wait_rule}
+use Rattle.parlog.specs.Program.{clause_at, Goal, goal_at, goal_by, literal_at, no_literal, Program, split_at, split_by, stage_at, tag_of_goal, tag_of_literal, tag_of_stage}
+use Rattle.parlog.specs.Rules.{and_par_start, and_par_wait, and_seq_start, and_seq_wait, Applied, body_beside, by_rule, first_made, guard_eval_start, guard_eval_wait, member, member_tag, members, no_rule, rule_in, start_rule, stop_rule, try_clause_start, try_clause_wait, wait_rule}
 use Rattle.parlog.specs.Scan.{build}
 use Rattle.parlog.specs.Tables.{goal_spot, new_process, procs_of, State}
 use Rattle.parlog.specs.Tree.{all_children, any_child, Heard, heard}
@@ -49,13 +49,10 @@ literal-of : (pr : Program) (z : Spot) (j : ℕ) → literal_at pr (literal_spot
 unfolding literal_at stage_at goal_at literal_spot
 literal-of pr z j = refl
 
-pub member_is : (pr : Program) (p : ℕ) (z : Spot) (j : ℕ) {y : Spot} {t : ℕ} {c : Process}
-    → y ≡ literal_spot z j → t ≡ tag_code (tag_of_literal (literal_at pr y)) → Born t 1 p y c → c ≡ member pr p z j
+pub member_is : (pr : Program) (p : ℕ) (z : Spot) (j : ℕ) {y : Spot} {t : Tag} {c : Process}
+    → y ≡ literal_spot z j → t ≡ tag_of_literal (literal_at pr y) → c ≡ new_process t ready p y → c ≡ member pr p z j
 unfolding member member_tag
-member_is pr p z j {y} ey et b =
-    let e : literal_at pr y ≡ get_or (stage_at pr z) j no_literal = rw ey (literal-of pr z j) in
-    let g = tag_of_literal (get_or (stage_at pr z) j no_literal) in
-    b g (sym (et ∙ ap (λ (l : Literal). tag_code (tag_of_literal l)) e)) ready refl ∙ ap (new_process g ready p) ey
+member_is pr p z j ey et ec = rw (et, ey, literal-of pr z j) at ec
 
 made : (s : State) (p : ℕ) {q : ℕ} {me w : Process} {ps qs : List Process} → q ≡ first_made s p ps → me ≡ w → ps ≡ qs
     → by_rule (AndParStart q) (making me None ps 0) ≡ by_rule (AndParStart (first_made s p qs)) (making w None qs 0)
@@ -84,11 +81,11 @@ pub body-none : (p : ℕ) (z : Spot) (rows : List ℕ) (k : ℕ) {b : Bool} → 
 unfolding body_beside
 body-none p z rows k e = rw e (sym (append-nil (procs_of rows k)))
 
-pub body-some : (p : ℕ) (z : Spot) (rows new : List ℕ) (k : ℕ) {b : Bool} → b ≡ true → {y : Spot} {x : Process} → Of kind_code 3 (λ w. goal_spot w z.clause z.base) y → Born 1 1 p y x
+pub body-some : (p : ℕ) (z : Spot) (rows new : List ℕ) (k : ℕ) {b : Bool} → b ≡ true → {y : Spot} {x : Process} → y ≡ goal_spot as_written z.clause z.base → x ≡ new_process and_seq ready p y
     → Table rows new (procs_of rows k ++ (x ∷ [])) → procs_of new (k + 1) ≡ procs_of rows k ++ body_beside b p z
 unfolding body_beside
-body-some p z rows new k e {y} {x} ey ex t =
-    let w : x ≡ new_process and_seq ready p (goal_spot as_written z.clause z.base) = ex and_seq refl ready refl ∙ ap (new_process and_seq ready p) (ey as_written refl) in
+body-some p z rows new k e {x = x} ey ex t =
+    let w : x ≡ new_process and_seq ready p (goal_spot as_written z.clause z.base) = ex ∙ ap (new_process and_seq ready p) ey in
     let n : length (procs_of rows k ++ (x ∷ [])) ≡ k + 1 = length-append (procs_of rows k) (x ∷ []) ∙ omega (arith, procs-length rows k) in
     rw e (table-rows (k + 1) t n ∙ ap (λ (o : Process). procs_of rows k ++ (o ∷ [])) w)
 
@@ -127,17 +124,16 @@ module _ (pr : Program) (n p : ℕ) (x : Process) {a : Applied} {k : ℕ} (ek : 
   unfolding start_rule and_seq_start goal_at
   seq-ends h ea s es = rw (← ek, le-ltb x.spot.stage k h) ea
 
-  pub seq-starts : x.spot.stage < k → {t : ℕ} {y : Spot} {c me : Process} → t ≡ tag_code (tag_of_stage (stage_at pr x.spot)) → y ≡ literal_spot x.spot 0 → Born t 2 p y c
+  pub seq-starts : x.spot.stage < k → {t : Tag} {y : Spot} {c me : Process} → t ≡ tag_of_stage (stage_at pr x.spot) → y ≡ literal_spot x.spot 0 → c ≡ new_process t starting p y
       → me ≡ with_mode waiting x → a ≡ by_rule (AndSeqStart n) (making me None (c ∷ []) 0) → Starts and_seq pr n p x a
   unfolding start_rule and_seq_start goal_at
-  seq-starts h {c = c} et ey b em ea s es =
-      let ec : c ≡ new_process (tag_of_stage (stage_at pr x.spot)) starting p (literal_spot x.spot 0) =
-      rw ey at (b (tag_of_stage (stage_at pr x.spot)) (sym et) starting refl) in
+  seq-starts h {c = c} et ey eb em ea s es =
+      let ec : c ≡ new_process (tag_of_stage (stage_at pr x.spot)) starting p (literal_spot x.spot 0) = rw (et, ey) at eb in
       rw (← ek, lt-ltb x.spot.stage k h, es, ← em, ← ec) ea
 
-pub next-is : (x : Process) {y : Spot} {r : Process} → y ≡ at_stage (x.spot.stage + 1) x.spot → Of mode_code 2 (λ m. with_spot m y x) r → r ≡ next_stage x
+pub next-is : (x : Process) {y : Spot} {r : Process} → y ≡ at_stage (x.spot.stage + 1) x.spot → r ≡ with_spot starting y x → r ≡ next_stage x
 unfolding next_stage
-next-is x ey o = o starting refl ∙ ap (λ (z : Spot). with_spot starting z x) (ey ∙ ap (λ (k : ℕ). at_stage k x.spot) (add-one x.spot.stage))
+next-is x ey er = er ∙ ap (λ (z : Spot). with_spot starting z x) (ey ∙ ap (λ (k : ℕ). at_stage k x.spot) (add-one x.spot.stage))
 
 pub pass-is : (p c : ℕ) (x : Process) (rows : List ℕ) {me : Process} {a : Applied}
     → me ≡ next_stage x → a ≡ by_rule (AndSeqNext p) (making me (Some c) (procs_of rows 0) 0) → a ≡ by_rule (AndSeqNext p) (making (next_stage x) (Some c) [] 0)
@@ -175,12 +171,12 @@ module _ (ps : List Process) (p : ℕ) (x : Process) {a : Applied} {f : News} (e
 -- ---- try-clause
 
 pub try-starts : (n p : ℕ) (x : Process) {u v : Spot} {c d me : Process} {a : Applied}
-    → u ≡ try_spot x.spot x.spot.found x.spot.first → Born 6 1 p u c → v ≡ guard_spot x.spot.found x.spot.first → Born 7 1 p v d
+    → u ≡ try_spot x.spot x.spot.found x.spot.first → c ≡ new_process input_match ready p u → v ≡ guard_spot x.spot.found x.spot.first → d ≡ new_process guard_eval ready p v
     → me ≡ with_mode waiting x → a ≡ by_rule (TryClauseStart n) (making me None (c ∷ d ∷ []) 0) → (pr : Program) → Starts try_clause pr n p x a
 unfolding start_rule try_clause_start
 try-starts n p x {c = c} {d = d} eu b ev g em ea pr s es =
-    let ec : c ≡ new_process input_match ready p (try_spot x.spot x.spot.found x.spot.first) = rw eu at (b input_match refl ready refl) in
-    let ed : d ≡ new_process guard_eval ready p (guard_spot x.spot.found x.spot.first) = rw ev at (g guard_eval refl ready refl) in
+    let ec : c ≡ new_process input_match ready p (try_spot x.spot x.spot.found x.spot.first) = rw eu at b in
+    let ed : d ≡ new_process guard_eval ready p (guard_spot x.spot.found x.spot.first) = rw ev at g in
     rw (es, ← em, ← ec, ← ed) ea
 
 -- ---- guard-eval
@@ -205,15 +201,13 @@ module _ (pr : Program) (n p : ℕ) (x : Process) {a : Applied} {k : ℕ} (ek : 
   unfolding start_rule
   guard-ends h ea s es = ea ∙ sym (guard_none (clause_at pr x.spot.found).guard s p x (sym (ek ∙ ap length (guard-of pr x.spot.found)) ∙ h))
 
-  pub guard-starts : (k ≡ 0 → ⊥) → {y : Spot} {t : ℕ} {c me : Process} → Of kind_code 1 (λ q. goal_spot q x.spot.found x.spot.first) y → t ≡ tag_code (tag_of_goal (goal_by (kind_of 1) pr x.spot.found))
-      → Born t 2 p y c → me ≡ with_mode waiting x → a ≡ by_rule (GuardEvalStart n) (making me None (c ∷ []) 0) → Starts guard_eval pr n p x a
+  pub guard-starts : (k ≡ 0 → ⊥) → {y : Spot} {t : Tag} {c me : Process} → y ≡ goal_spot the_guard x.spot.found x.spot.first → t ≡ tag_of_goal (goal_by (kind_of 1) pr x.spot.found)
+      → c ≡ new_process t starting p y → me ≡ with_mode waiting x → a ≡ by_rule (GuardEvalStart n) (making me None (c ∷ []) 0) → Starts guard_eval pr n p x a
   unfolding start_rule
-  guard-starts ne {y} {c = c} oy et b em ea s es =
+  guard-starts ne {c = c} ey et eb em ea s es =
       let g = (clause_at pr x.spot.found).guard in
-      let ey : y ≡ goal_spot the_guard x.spot.found x.spot.first = oy the_guard refl in
       let eg = guard-of pr x.spot.found in
-      let ec : c ≡ new_process (tag_of_goal g) starting p (goal_spot the_guard x.spot.found x.spot.first) =
-      rw ey at (b (tag_of_goal g) (sym (et ∙ ap (λ (q : Goal). tag_code (tag_of_goal q)) eg)) starting refl) in
+      let ec : c ≡ new_process (tag_of_goal g) starting p (goal_spot the_guard x.spot.found x.spot.first) = rw (et, ey, eg) at eb in
       let e : a ≡ by_rule (GuardEvalStart (length s.procs)) (making (with_mode waiting x) None (new_process (tag_of_goal g) starting p (goal_spot the_guard x.spot.found x.spot.first) ∷ []) 0) =
       rw (es, ← em, ← ec) ea in
       e ∙ sym (guard-some g s p x (λ z. ne (ek ∙ ap length eg ∙ z)))

@@ -1,12 +1,13 @@
 // The rules of the conjunctions, of a tried clause and of its guard, with ready and stop: each only reads, and answers a plan.
+// Kept, the mover's number and its row apart: the head of crate `moves` says why.
 #![tactic(auto)]
 
-ghost use Rattle.program_index.specs.Indexed.{Indexed};
+ghost use Rattle.program_index.specs.Images.{program_in};
 ghost use Rattle.std.specs.Prelude.{◌≡◌, true, [], ◌++◌, ◌∷◌, List, ◌≤◌, ◌<◌, length, Some, None};
 ghost use Rattle.children.specs.Telling.{Tells};
 ghost use Rattle.parlog.specs.Codes.{and_par, and_seq, guard_eval, try_clause};
 ghost use Rattle.parlog.specs.Delta.{making};
-ghost use Rattle.parlog.specs.Program.{Program, program_of};
+ghost use Rattle.parlog.specs.Program.{Program};
 ghost use Rattle.parlog.specs.Rules.{body_beside, by_rule, member, members, stop_rule};
 ghost use Rattle.parlog.specs.Scan.{build};
 ghost use Rattle.parlog.specs.Tables.{procs_of};
@@ -17,13 +18,15 @@ ghost use Rattle.rules_and.specs.Says.{next_stage, Readies, Starts, wait_all, Wa
 
 use children::{News, Told};
 use move_plan::Plan;
+use parlog::cases::{Kind, Mode, Outcome, Tag};
 use parlog::{Move, Process, Spot, codes};
+use program_index::Image;
 
 // A ready process is about to start next.
 pub fn ready(p: usize, x: Process) -> Plan
     ensures { Readies p x (applied_of result) × (result.count ≤ new_most) × (result.changes.count ≡ 0) }
 {
-    let me = move_plan::with_mode(x, codes::STARTING);
+    let me = move_plan::with_mode(x, Mode::Starting);
     move_plan::only(Move::Ready(p), me)
 }
 
@@ -32,7 +35,7 @@ pub fn stop(p: usize, x: Process) -> Plan
     ensures { (applied_of result ≡ stop_rule p x) × (result.count ≤ new_most) × (result.changes.count ≡ 0) }
 {
     if p == 0 {
-        let me = move_plan::with_mode(x, codes::DORMANT);
+        let me = move_plan::with_mode(x, Mode::Dormant);
         return move_plan::only(Move::Stop(0), me);
     }
     move_plan::none()
@@ -53,10 +56,10 @@ fn wait_all(told: Told, failed: Move, succeeded: Move, x: Process) -> Plan
     ensures { (applied_of result ≡ wait_all failed succeeded told.failed told.succeeded x) × (result.count ≤ new_most) × (result.changes.count ≡ 0) }
 {
     if told.failed {
-        return move_plan::report(failed, codes::FAILURE, x);
+        return move_plan::report(failed, Outcome::Failure, x);
     }
     if told.succeeded {
-        return move_plan::report(succeeded, codes::SUCCESS, x);
+        return move_plan::report(succeeded, Outcome::Success, x);
     }
     move_plan::none()
 }
@@ -64,39 +67,22 @@ fn wait_all(told: Told, failed: Move, succeeded: Move, x: Process) -> Plan
 // ---- and-par
 
 // The process for member j of the stage that z names.
-fn member(
-    image: &[u8],
-    rels: usize,
-    clauses: usize,
-    ix: &[u16; program_index::SIZE],
-    p: usize,
-    z: Spot,
-    j: usize,
-) -> Process
-    requires { (rels ≤ 32) × (clauses ≤ 64) × (p ≤ 65535) × (j ≤ 255) × Indexed image.now rels clauses ix.now }
-    ensures { result ≡ member (program_of image.now rels clauses) p z j }
+fn member(image: &Image, p: usize, z: Spot, j: usize) -> Process
+    requires { (p ≤ 65535) × (j ≤ 255) }
+    ensures { result ≡ member (program_in image.now) p z j }
 {
     let y = move_plan::literal_spot(z, j as u8);
-    let t = program_goal::tag_of_literal(image, rels, clauses, ix, y);
-    move_plan::new_process(t, codes::READY, p, y)
+    let t = program_goal::tag_of_literal(image, y);
+    move_plan::new_process(t, Mode::Ready, p, y)
 }
 
 // The processes for its first k members, as rows.
-fn members(
-    image: &[u8],
-    rels: usize,
-    clauses: usize,
-    ix: &[u16; program_index::SIZE],
-    p: usize,
-    z: Spot,
-    k: usize,
-    new: &mut [u8],
-)
-    requires { (rels ≤ 32) × (clauses ≤ 64) × (p ≤ 65535) × (k ≤ new_most) × (new_size ≤ length new.old) × Indexed image.now rels clauses ix.now }
-    ensures { procs_of new.new k ≡ build (member (program_of image.now rels clauses) p z) k }
+fn members(image: &Image, p: usize, z: Spot, k: usize, new: &mut [u8])
+    requires { (p ≤ 65535) × (k ≤ new_most) × (new_size ≤ length new.old) }
+    ensures { procs_of new.new k ≡ build (member (program_in image.now) p z) k }
 {
     for j in 0..k {
-        let y = member(image, rels, clauses, ix, p, z, j);
+        let y = member(image, p, z, j);
         rows::append(new, j, y);
     }
 }
@@ -109,31 +95,23 @@ fn with_body(apart: bool, p: usize, z: Spot, k: usize, new: &mut [u8]) -> usize
     if !apart {
         return k;
     }
-    let y = move_plan::goal_spot(codes::AS_WRITTEN, z.clause, z.base);
-    let body = move_plan::new_process(codes::AND_SEQ, codes::READY, p, y);
+    let y = move_plan::goal_spot(Kind::AsWritten, z.clause, z.base);
+    let body = move_plan::new_process(Tag::AndSeq, Mode::Ready, p, y);
     rows::append(new, k, body);
     k + 1
 }
 
 // Starts every member of the stage.
-pub fn start_and_par(
-    image: &[u8],
-    rels: usize,
-    clauses: usize,
-    ix: &[u16; program_index::SIZE],
-    n: usize,
-    p: usize,
-    x: Process,
-) -> Plan
-    requires { (rels ≤ 32) × (clauses ≤ 64) × (n ≤ 65535) × (p < n) × (length (members (program_of image.now rels clauses) p x.spot) ≤ new_most) × Indexed image.now rels clauses ix.now }
-    ensures { Starts and_par (program_of image.now rels clauses) n p x (applied_of result) × (result.count ≤ new_most) × (result.changes.count ≡ 0) }
+pub fn start_and_par(image: &Image, n: usize, p: usize, x: Process) -> Plan
+    requires { (n ≤ 65535) × (p < n) × (length (members (program_in image.now) p x.spot) ≤ new_most) }
+    ensures { Starts and_par (program_in image.now) n p x (applied_of result) × (result.count ≤ new_most) × (result.changes.count ≡ 0) }
 {
-    let k = program_goal::stage_size(image, rels, clauses, ix, x.spot);
-    let apart = program_goal::split_by(image, rels, clauses, ix, x.spot.kind, x.spot.clause);
+    let k = program_goal::stage_size(image, x.spot);
+    let apart = program_goal::split_by(image, x.spot.kind, x.spot.clause);
     let mut new = [0u8; move_plan::NEW_SIZE];
-    members(image, rels, clauses, ix, p, x.spot, k, &mut new);
+    members(image, p, x.spot, k, &mut new);
     let count = with_body(apart, p, x.spot, k, &mut new);
-    let me = move_plan::with_mode(x, codes::WAITING);
+    let me = move_plan::with_mode(x, Mode::Waiting);
     let q = move_plan::touched(n, p, count);
     move_plan::make(Move::AndParStart(q), me, None, count, new, 0)
 }
@@ -148,27 +126,19 @@ pub fn wait_and_par(told: Told, p: usize, x: Process) -> Plan
 // ---- and-seq
 
 // Starts the stage that is next, if there is one.
-pub fn start_and_seq(
-    image: &[u8],
-    rels: usize,
-    clauses: usize,
-    ix: &[u16; program_index::SIZE],
-    n: usize,
-    p: usize,
-    x: Process,
-) -> Plan
-    requires { (rels ≤ 32) × (clauses ≤ 64) × (n ≤ 65535) × (p < n) × Indexed image.now rels clauses ix.now }
-    ensures { Starts and_seq (program_of image.now rels clauses) n p x (applied_of result) × (result.count ≤ new_most) × (result.changes.count ≡ 0) }
+pub fn start_and_seq(image: &Image, n: usize, p: usize, x: Process) -> Plan
+    requires { (n ≤ 65535) × (p < n) }
+    ensures { Starts and_seq (program_in image.now) n p x (applied_of result) × (result.count ≤ new_most) × (result.changes.count ≡ 0) }
 {
-    let stages = program_goal::goal_size(image, rels, clauses, ix, x.spot.kind, x.spot.clause);
+    let stages = program_goal::goal_size(image, x.spot.kind, x.spot.clause);
     let i = x.spot.stage as usize;
     if stages <= i {
-        return move_plan::report(Move::AndSeqSuccess(p), codes::SUCCESS, x);
+        return move_plan::report(Move::AndSeqSuccess(p), Outcome::Success, x);
     }
-    let t = program_goal::tag_of_stage(image, rels, clauses, ix, x.spot);
+    let t = program_goal::tag_of_stage(image, x.spot);
     let y = move_plan::literal_spot(x.spot, 0);
-    let child = move_plan::new_process(t, codes::STARTING, p, y);
-    let me = move_plan::with_mode(x, codes::WAITING);
+    let child = move_plan::new_process(t, Mode::Starting, p, y);
+    let me = move_plan::with_mode(x, Mode::Waiting);
     move_plan::make_one(Move::AndSeqStart(n), me, None, child)
 }
 
@@ -178,7 +148,7 @@ fn next_stage(x: Process) -> Process
     ensures { result ≡ next_stage x }
 {
     let y = move_plan::at_stage(x.spot, x.spot.stage + 1);
-    move_plan::with_spot(x, codes::STARTING, y)
+    move_plan::with_spot(x, Mode::Starting, y)
 }
 
 // The stage succeeded: it sleeps, and the stage behind it is next.
@@ -200,7 +170,7 @@ pub fn wait_and_seq(told: Told, p: usize, x: Process) -> Plan
     match told.latest {
         News::Silent => move_plan::none(),
         News::Good(c) => pass_stage(p, x, c),
-        News::Bad(_) => move_plan::report(Move::AndSeqFailure(p), codes::FAILURE, x),
+        News::Bad(_) => move_plan::report(Move::AndSeqFailure(p), Outcome::Failure, x),
     }
 }
 
@@ -212,10 +182,10 @@ pub fn start_try_clause(n: usize, p: usize, x: Process) -> Plan
     ensures { ((pr : Program) → Starts try_clause pr n p x (applied_of result)) × (result.count ≤ new_most) × (result.changes.count ≡ 0) }
 {
     let call = move_plan::try_spot(x.spot, x.spot.found, x.spot.first);
-    let one = move_plan::new_process(codes::INPUT_MATCH, codes::READY, p, call);
+    let one = move_plan::new_process(Tag::InputMatch, Mode::Ready, p, call);
     let guard = move_plan::guard_spot(x.spot.found, x.spot.first);
-    let other = move_plan::new_process(codes::GUARD_EVAL, codes::READY, p, guard);
-    let me = move_plan::with_mode(x, codes::WAITING);
+    let other = move_plan::new_process(Tag::GuardEval, Mode::Ready, p, guard);
+    let me = move_plan::with_mode(x, Mode::Waiting);
     with_children(Move::TryClauseStart(n), me, one, other)
 }
 
@@ -234,26 +204,18 @@ pub fn wait_try_clause(told: Told, p: usize, x: Process) -> Plan
 // ---- guard-eval
 
 // Runs the guard of the clause, if it has one.
-pub fn start_guard_eval(
-    image: &[u8],
-    rels: usize,
-    clauses: usize,
-    ix: &[u16; program_index::SIZE],
-    n: usize,
-    p: usize,
-    x: Process,
-) -> Plan
-    requires { (rels ≤ 32) × (clauses ≤ 64) × (n ≤ 65535) × (p < n) × Indexed image.now rels clauses ix.now }
-    ensures { Starts guard_eval (program_of image.now rels clauses) n p x (applied_of result) × (result.count ≤ new_most) × (result.changes.count ≡ 0) }
+pub fn start_guard_eval(image: &Image, n: usize, p: usize, x: Process) -> Plan
+    requires { (n ≤ 65535) × (p < n) }
+    ensures { Starts guard_eval (program_in image.now) n p x (applied_of result) × (result.count ≤ new_most) × (result.changes.count ≡ 0) }
 {
-    let size = program_goal::goal_size(image, rels, clauses, ix, codes::THE_GUARD, x.spot.found);
+    let size = program_goal::goal_size(image, codes::THE_GUARD, x.spot.found);
     if size == 0 {
-        return move_plan::report(Move::GuardEvalEmpty(p), codes::SUCCESS, x);
+        return move_plan::report(Move::GuardEvalEmpty(p), Outcome::Success, x);
     }
-    let y = move_plan::goal_spot(codes::THE_GUARD, x.spot.found, x.spot.first);
-    let t = program_goal::tag_of_goal(image, rels, clauses, ix, codes::THE_GUARD, x.spot.found);
-    let child = move_plan::new_process(t, codes::STARTING, p, y);
-    let me = move_plan::with_mode(x, codes::WAITING);
+    let y = move_plan::goal_spot(Kind::TheGuard, x.spot.found, x.spot.first);
+    let t = program_goal::tag_of_goal(image, codes::THE_GUARD, x.spot.found);
+    let child = move_plan::new_process(t, Mode::Starting, p, y);
+    let me = move_plan::with_mode(x, Mode::Waiting);
     move_plan::make_one(Move::GuardEvalStart(n), me, None, child)
 }
 
@@ -263,7 +225,7 @@ pub fn wait_guard_eval(told: Told, p: usize, x: Process) -> Plan
 {
     match told.latest {
         News::Silent => move_plan::none(),
-        News::Good(_) => move_plan::report(Move::GuardEvalSuccess(p), codes::SUCCESS, x),
-        News::Bad(_) => move_plan::report(Move::GuardEvalFailure(p), codes::FAILURE, x),
+        News::Good(_) => move_plan::report(Move::GuardEvalSuccess(p), Outcome::Success, x),
+        News::Bad(_) => move_plan::report(Move::GuardEvalFailure(p), Outcome::Failure, x),
     }
 }

@@ -1,6 +1,6 @@
 -- The ways through the rules of matching: a law for each return.
 use Rattle.std.specs.Prelude.{Option}
-use mathlib.Core.Path.{◌∙◌, ◌≡◌, ap, refl, sym}
+use mathlib.Core.Path.{◌∙◌, ◌≡◌, ap, refl}
 use mathlib.Core.Logic.{◌≢◌}
 use mathlib.Core.Bool.{Bool, false, true}
 use mathlib.Core.List.{[], ◌∷◌, List}
@@ -8,16 +8,14 @@ use Prim.Native.Nat.{◌+◌, ◌<◌, ◌≤◌, min, suc, zero, ℕ}
 use lib.ListN.{get_or, length, take}
 use lib.Seq.{get_or-take, length-take-le}
 use native.Mathlib.Omega.{arith}
-use Rattle.decide.proofs.Laws.{row_back, row_first}
 use Rattle.decide.proofs.Told.{shifted-four}
-use Rattle.decide.specs.Decision.{changes_of, decided_of, Decides, deed_of, notes_of, Shifted, to_bind, to_note}
+use Rattle.decide.specs.Decision.{changes_of, decided_of, Decides, Shifted, suspended_by, to_bind}
 use Rattle.decide.specs.declared.Decision.{Decision}
-use Rattle.decide.specs.declared.Deed.TheVariants.{Binds, Fails, Suspends}
+use Rattle.decide.specs.declared.Decision.TheVariants.{Binds, Fails, Suspends}
 use Rattle.move_plan.specs.Plans.{Within}
-use Rattle.move_plan.specs.declared.Changes.{Changes}
 use Rattle.move_plan.specs.declared.Plan.{Plan}
 use Rattle.parlog.specs.Codes.{failure, success}
-use Rattle.parlog.specs.Delta.{only, report, reporting_with, with_notes, woken}
+use Rattle.parlog.specs.Delta.{four_of, only, report, reporting_with, with_notes, woken}
 use Rattle.parlog.specs.Program.{call_modes, clause_at, literal_at, modes_at, out_count, Program}
 use Rattle.parlog.specs.Rules.{Applied, by_rule, equate_at, equate_start, input_match_start, match_at, no_rule, wake_rule}
 use Rattle.parlog.specs.Tables.{noted, State}
@@ -36,8 +34,10 @@ use Rattle.rules_match.specs.declared.Way.{Way}
 use Rattle.rules_match.specs.declared.Way.TheVariants.{Bind, Failure, Success, Suspend}
 use Rattle.rules_match.proofs.Lists.{four-take, match-cut, outs-take}
 use Rattle.rules_match.specs.Starts.{equate_move, EquateThere, in_four, match_move, MatchThere, start_by, way_of}
-use Rattle.unify.specs.Pending.{no_change, top, Writable}
-use Rattle.move_plan.specs.Plans as plans
+use Rattle.unify.proofs.Laws.{noted-many}
+use Rattle.unify.specs.Pending.{no_change, noted_in, pending, top, Writable}
+use Rattle.unify.specs.declared.waiting.Changes.{Changes}
+use Rattle.unify.specs.declared.waiting.Noted.{Noted}
 
 -- ---- plans
 
@@ -47,95 +47,81 @@ within_none m r e i h = absurd (omega arith)
 
 -- ---- a decision
 
+bind-same : (d : Decision) → to_bind d ≡ changes_of (decided_of d)
+unfolding to_bind decided_of
+bind-same Fails = refl
+bind-same (Suspends s) = go (noted_in s)
+  where
+    go : (ns : List ℕ) → [] ≡ changes_of (suspended_by ns)
+    go [] = unfold suspended_by in refl
+    go (v ∷ ns) = unfold suspended_by in refl
+bind-same (Binds cs) = refl
+
 module _ {dd : Decided} {d : Decision} (is : Decides dd d) where
   pub itself : Decides (decided_of d) d
-  itself = rw is.told is
-
-  noted-is : to_note d ≡ notes_of dd
-  noted-is = let l : length (notes_of dd) ≤ 4 = rw is.noting at is.short in rw (is.filled, is.noting) (row_back (notes_of dd) l)
+  itself = record { told = refl; some = is.some }
 
   -- what is made can be written
   bound-writable : {n m : ℕ} → n ≡ m → Writable n (changes_of dd) → Writable m (to_bind d)
-  bound-writable e w = rw (is.same, ← e) w
+  bound-writable e w = rw (bind-same d, is.told, ← e) w
 
-  bound-within : (m : ℕ) → Writable m (to_bind d) → Within m d.count d.binds
-  bound-within m w i h =
-      let e : length (to_bind d) ≡ d.count = length-take-le d.count d.binds (let f = is.few in let g = is.four in omega arith) in
-      let l : i < length (to_bind d) = omega arith in
-      let q = get_or-take d.count d.binds i no_change h in
-      (rw q at (w.rows i l), rw q at (w.numbers i l))
+pub bound-within : (cs : Changes) → length cs.list ≡ 4 → (m : ℕ) {d : Decision} → d ≡ Binds cs → Writable m (to_bind d) → Within m cs.count cs.list
+unfolding to_bind pending
+bound-within cs four m {d} ed v i h =
+    let w : Writable m (take cs.count cs.list) = rw ed at v in
+    let e : length (take cs.count cs.list) ≡ cs.count = length-take-le cs.count cs.list (omega (arith, cs.few)) in
+    let l : i < length (take cs.count cs.list) = omega arith in
+    let q = get_or-take cs.count cs.list i no_change h in
+    (rw q at (w.rows i l), rw q at (w.numbers i l))
+
+-- ---- how it ends
+
+pub way-failing : {d : Decision} → d ≡ Fails → Failure ≡ way_of (decided_of d)
+unfolding way_of decided_of
+way-failing e = rw e
+
+first-noted : (k : ℕ) (ns : List ℕ) → 0 < k → 0 < length ns → Suspend (Var (get_or ns 0 0)) ≡ way_of (suspended_by (take k ns))
+unfolding way_of suspended_by
+first-noted zero ns h g = absurd (omega arith)
+first-noted (suc k) [] h g = absurd (omega arith)
+first-noted (suc k) (v ∷ ns) h g = refl
+
+pub way-noting : {d : Decision} (s : Noted) → d ≡ Suspends s → 0 < s.count → Suspend (Var (get_or s.notes 0 0)) ≡ way_of (decided_of d)
+unfolding decided_of noted_in
+way-noting s e h = rw e (first-noted s.count s.notes h (let f : length s.notes ≡ 4 = ap length s.filled ∙ (unfold four_of in refl) in omega arith))
+
+pub way-bare : {d : Decision} (cs : Changes) → d ≡ Binds cs → cs.count ≡ 0 → Success ≡ way_of (decided_of d)
+unfolding way_of decided_of pending
+way-bare cs e z = rw (e, z)
+
+first-bound : (k : ℕ) (cs : List Change) → k ≢ 0 → length cs ≡ 4 → Bind (Var (get_or cs 0 no_change).var) ≡ way_of (binds (take k cs))
+unfolding way_of
+first-bound zero cs ne four = absurd (ne refl)
+first-bound (suc k) [] ne four = absurd (omega arith)
+first-bound (suc k) (c ∷ cs) ne four = refl
+
+pub way-binding : {d : Decision} (cs : Changes) → length cs.list ≡ 4 → d ≡ Binds cs → cs.count ≢ 0 → Bind (Var (get_or cs.list 0 no_change).var) ≡ way_of (decided_of d)
+unfolding decided_of pending
+way-binding cs four e ne = rw e (first-bound cs.count cs.list ne four)
 
 -- ---- start_by
 
-take-first : (k : ℕ) (cs : List Change) {c : Change} {ds : List Change} → take k cs ≡ c ∷ ds → get_or cs 0 no_change ≡ c
-take-first zero cs e = cc
-take-first (suc k) [] e = cc
-take-first (suc k) (b ∷ cs) e = cc
+module _ {d : Decision} (mv : Move) (x : Process) {a : Applied} where
+  pub by-failing : d ≡ Fails → a ≡ by_rule mv (report failure x) → a ≡ start_by mv (decided_of d) x
+  unfolding start_by decided_of
+  by-failing e h = rw e h
 
--- how it ends
-module _ {d : Decision} where
-  pub way-failing : {dd : Decided} → Decides dd d → d.deed ≡ Fails → Failure ≡ way_of dd
-  unfolding way_of
-  way-failing {dd = fails} is e = refl
-  way-failing {dd = suspends v ns} is e = let w = is.deed in cc
-  way-failing {dd = binds cs} is e = let w = is.deed in cc
-
-  pub way-noting : {dd : Decided} → Decides dd d → d.deed ≡ Suspends → Suspend (Var (get_or d.notes 0 0)) ≡ way_of dd
-  unfolding way_of
-  way-noting {dd = fails} is e = let w = is.deed in cc
-  way-noting {dd = suspends v ns} is e = rw (is.filled, row_first v ns)
-  way-noting {dd = binds cs} is e = let w = is.deed in cc
-
-  module _ {dd : Decided} (is : Decides dd d) (e : d.deed ≡ Binds) where
-    pub way-bare : d.count ≡ 0 → Success ≡ way_of dd
-    way-bare z = go dd is
-      where
-        go : (dd : Decided) → Decides dd d → Success ≡ way_of dd
-        go fails is = let w = is.deed in cc
-        go (suspends v ns) is = let w = is.deed in cc
-        go (binds []) is = unfold way_of in refl
-        go (binds (c ∷ cs)) is = let n = is.size in absurd (omega arith)
-
-    pub way-binding : d.count ≢ 0 → Bind (Var (get_or d.binds 0 no_change).var) ≡ way_of dd
-    way-binding ne = go dd is
-      where
-        go : (dd : Decided) → Decides dd d → Bind (Var (get_or d.binds 0 no_change).var) ≡ way_of dd
-        go fails is = let w = is.deed in cc
-        go (suspends v ns) is = let w = is.deed in cc
-        go (binds []) is = absurd (ne is.size)
-        go (binds (c ∷ cs)) is = unfold way_of in rw (take-first d.count d.binds is.same)
-
-module _ {dd : Decided} {d : Decision} (is : Decides dd d) (mv : Move) (x : Process) {a : Applied} where
-  pub by-failing : d.deed ≡ Fails → a ≡ by_rule mv (report failure x) → a ≡ start_by mv dd x
-  by-failing e h = go dd (sym is.deed ∙ e)
+  pub by-noting : (s : Noted) → d ≡ Suspends s → 0 < s.count → {y : Process} → y ≡ with_notes (noted_in s) x → a ≡ by_rule mv (only y) → a ≡ start_by mv (decided_of d) x
+  unfolding decided_of
+  by-noting s e h {y} ey ea = rw e (go (noted_in s) (noted-many s) ey)
     where
-      go : (dd : Decided) → deed_of dd ≡ Fails → a ≡ start_by mv dd x
-      go fails q = unfold start_by in h
-      go (suspends v ns) q = cc
-      go (binds cs) q = cc
+      go : (ns : List ℕ) → length ns ≡ s.count → y ≡ with_notes ns x → a ≡ start_by mv (suspended_by ns) x
+      go [] l q = absurd (omega arith)
+      go (v ∷ ns) l q = unfold start_by suspended_by in (rw (← q) ea)
 
-  pub by-noting : d.deed ≡ Suspends → {y : Process} → y ≡ with_notes (to_note d) x → a ≡ by_rule mv (only y) → a ≡ start_by mv dd x
-  by-noting e {y} ey h = go dd (sym is.deed ∙ e) (noted-is is)
-    where
-      go : (dd : Decided) → deed_of dd ≡ Suspends → to_note d ≡ notes_of dd → a ≡ start_by mv dd x
-      go fails q n = cc
-      go (suspends v ns) q n = unfold start_by in (rw (← n, ← ey) h)
-      go (binds cs) q n = cc
-
-  pub by-binding : d.deed ≡ Binds → a ≡ by_rule mv (reporting_with success x (plans.changes_of (record { count = d.count; list = d.binds }))) → a ≡ start_by mv dd x
-  by-binding e h = go dd (sym is.deed ∙ e) is.same
-    where
-      go : (dd : Decided) → deed_of dd ≡ Binds → to_bind d ≡ changes_of dd → a ≡ start_by mv dd x
-      go fails q s = cc
-      go (suspends v ns) q s = cc
-      go (binds cs) q s = unfold start_by plans.changes_of in (rw s at h)
-
-module _ {dd : Decided} {d : Decision} (is : Decides dd d) {c : Changes} (e : c ≡ record { count = d.count; list = d.binds }) where
-  pub changes-few : c.count ≤ 4
-  changes-few = rw e is.few
-
-  pub changes-within : (m : ℕ) → Writable m (to_bind d) → Within m c.count c.list
-  changes-within m w = rw e (bound-within is m w)
+  pub by-binding : (cs : Changes) → d ≡ Binds cs → a ≡ by_rule mv (reporting_with success x (pending cs)) → a ≡ start_by mv (decided_of d) x
+  unfolding start_by decided_of
+  by-binding cs e h = rw e h
 
 -- ---- the moves of the two rules
 

@@ -1,13 +1,15 @@
 -- The processes that try the clauses of a block, row by row.
 use Rattle.std.specs.Prelude.{None}
-use mathlib.Core.Path.{◌∙◌, ◌≡◌, ap, refl, sym}
-use mathlib.Core.List.{[], ◌++◌, ◌∷◌, List, append_assoc, append-nil}
-use Prim.Native.Nat.{◌+◌, ◌-◌, ◌<◌, suc, ℕ}
+use mathlib.Core.Path.{ap, sym, ◌∙◌, ◌≡◌}
+use mathlib.Core.List.{[], append-nil, append_assoc, List, ◌++◌, ◌∷◌}
+use Prim.Native.Nat.{suc, ℕ, ◌+◌, ◌-◌, ◌<◌}
 use lib.ListN.{drop, get_or, length, length-append}
 use lib.Seq.{drop-cons, drop-length}
 use native.Mathlib.Omega.{arith}
 use native.Mathlib.Numerals.{add-one}
-use Rattle.parlog.specs.Codes.{mode_code, or_search, ready, try_clause, waiting}
+use Rattle.move_plan.proofs.Made.{touches}
+use Rattle.move_plan.specs.Plans.{touched}
+use Rattle.parlog.specs.Codes.{or_search, ready, try_clause, waiting}
 use Rattle.parlog.specs.Delta.{making, try_spot, with_mode}
 use Rattle.parlog.specs.Program.{block_of, literal_at, Program, vars_of}
 use Rattle.parlog.specs.Rules.{Applied, block_at, by_rule, first_made, or_search_start, start_rule, tries, tries_vars}
@@ -15,8 +17,6 @@ use Rattle.parlog.specs.Tables.{new_process, procs_of, State}
 use Rattle.parlog.specs.declared.Move.TheVariants.{OrSearchStart}
 use Rattle.parlog.specs.declared.Process.{Process}
 use Rattle.parlog.specs.declared.Spot.{Spot}
-use Rattle.move_plan.proofs.Made.{touches}
-use Rattle.move_plan.specs.Plans.{Of, touched}
 use Rattle.rows.proofs.Tables.{procs-length, procs-none, table-rows}
 use Rattle.rows.specs.Rows.{Table}
 
@@ -76,13 +76,12 @@ block-size-is pr z er es = rw (← er) es
 pub or-search-starts : (pr : Program) (s : State) (p : ℕ) (x : Process) {rel size n m v first : ℕ} {me : Process} (rows : List ℕ)
     → rel ≡ (literal_at pr x.spot).rel → size ≡ length (block_of pr rel x.spot.block)
     → procs_of rows size ≡ tries pr p x.spot m (block_of pr rel x.spot.block) → v ≡ m + tries_vars pr (block_of pr rel x.spot.block)
-    → Of mode_code 3 (λ t. with_mode t x) me → first ≡ touched n p size
+    → me ≡ with_mode waiting x → first ≡ touched n p size
     → {a : Applied} → a ≡ by_rule (OrSearchStart first) (making me None (procs_of rows size) (v - m))
     → length s.procs ≡ n → length s.vars ≡ m → a ≡ start_rule or_search pr s p x
 unfolding start_rule or_search_start block_at
-or-search-starts pr s p x {rel} {size} {n} {m} {v} {first} {me} rows er es et ev em ef ea en evs =
+or-search-starts pr s p x {rel} {size} {n} {m} {v} {first} rows er es et ev em ef ea en evs =
     let w : v - m ≡ tries_vars pr (block_of pr rel x.spot.block) = omega arith in
     let f : first ≡ first_made s p (tries pr p x.spot m (block_of pr rel x.spot.block)) =
     ef ∙ touches s n p size (tries pr p x.spot m (block_of pr rel x.spot.block)) en (ap length (sym et) ∙ procs-length rows size) in
-    let g : me ≡ with_mode waiting x = em waiting refl in
-    rw (← er, evs, ← f, ← g, ← et, ← w) ea
+    rw (← er, evs, ← f, ← em, ← et, ← w) ea

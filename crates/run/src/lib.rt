@@ -1,4 +1,5 @@
 // A turn, and a run of turns, over lent bytes.
+// Kept, head, processes and variables as three rows: the head of crate `bound` says why.
 #![tactic(auto)]
 
 ghost use Rattle.std.specs.Prelude.{◌≡◌, ◌≤◌};
@@ -7,12 +8,14 @@ ghost use Rattle.parlog.specs.Codes.{result_of};
 ghost use Rattle.parlog.specs.Limits.{small};
 ghost use Rattle.parlog.specs.Run.{end_of};
 ghost use Rattle.parlog.specs.Tables.{lent};
-ghost use Rattle.program_index.specs.Indexed.{Indexed};
 ghost use Rattle.run.specs.Running.{LookSays, RanSays, RunSays, Turning, TurnedIn, TurnSays, WhoseSays};
 
 use children::Told;
 use parlog::{Answer, End, Move, codes};
+use program_index::Image;
+use rows::Processes;
 use turn_search::Turn;
+use vars::Variables;
 
 // What a run finds before a step: whose turn it is with what its children report, and the end where it is nobody's.
 // Kept, no `Option` of a pair, for the reason that stands at `turn_search::Turn`.
@@ -33,28 +36,28 @@ pub fn whose(head: &[u8], procs: &[u8], vars: &[u8]) -> Turn
     let n = head::proc_count(head);
     let m = head::var_count(head);
     let last = head::marker_last(head);
-    turn_search::next(procs, n, vars, m, last)
+    let used = Processes {
+        bytes: procs,
+        count: n,
+    };
+    let cells = Variables {
+        bytes: vars,
+        count: m,
+    };
+    turn_search::next(&used, &cells, last)
 }
 
 // The step of whose turn it is, in tables that keep the rules.
-fn turn_in(
-    image: &[u8],
-    rels: usize,
-    clauses: usize,
-    ix: &[u16; program_index::SIZE],
-    head: &mut [u8],
-    procs: &mut [u8],
-    vars: &mut [u8],
-) -> Answer<Move>
-    requires { Inside small image.now rels clauses (lent head.old procs.old vars.old) × Indexed image.now rels clauses ix.now }
-    ensures { TurnedIn small image.now rels clauses (lent head.old procs.old vars.old) result head.new procs.new vars.new }
+fn turn_in(image: &Image, head: &mut [u8], procs: &mut [u8], vars: &mut [u8]) -> Answer<Move>
+    requires { Inside small image.now.bytes.now image.now.relations image.now.clauses (lent head.old procs.old vars.old) }
+    ensures { TurnedIn small image.now.bytes.now image.now.relations image.now.clauses (lent head.old procs.old vars.old) result head.new procs.new vars.new }
 {
     let t = whose(head, procs, vars);
     let f = t.who;
     let Some(p) = f else {
         return Err(entry::refusal(codes::STILL));
     };
-    step::stepped(image, rels, clauses, ix, head, procs, vars, p, t.told)
+    step::stepped(image, head, procs, vars, p, t.told)
 }
 
 // The turn: the step of the first process that can move after the one stepped last.
@@ -64,11 +67,17 @@ pub fn turn(image: &[u8], head: &mut [u8], procs: &mut [u8], vars: &mut [u8]) ->
     let mut ix = [0u16; program_index::SIZE];
     let e = entry::enter(image, head, procs, vars, &mut ix);
     // Kept in each call: docs/DECISIONS.md asks that each takes the load's answer apart by `let .. else`.
-    let Ok((rels, clauses)) = e else {
+    let Ok((relations, clauses)) = e else {
         let away = load::refusal(e);
         return Err(away);
     };
-    turn_in(image, rels, clauses, &ix, head, procs, vars)
+    let accepted = Image {
+        bytes: image,
+        relations,
+        clauses,
+        index: &ix,
+    };
+    turn_in(&accepted, head, procs, vars)
 }
 
 // ---- a run
@@ -90,8 +99,12 @@ pub fn look(head: &[u8], procs: &[u8], vars: &[u8]) -> View
     ensures { LookSays (lent head.now procs.now vars.now) result }
 {
     let n = head::proc_count(head);
-    if rows::mode_at(procs, n, 0) == codes::DORMANT {
-        let end = end_by(rows::result_at(procs, n, 0));
+    let used = Processes {
+        bytes: procs,
+        count: n,
+    };
+    if used.mode_at(0) == codes::DORMANT {
+        let end = end_by(used.result_at(0));
         let told = children::nothing();
         return View {
             who: None,
@@ -111,17 +124,14 @@ pub fn look(head: &[u8], procs: &[u8], vars: &[u8]) -> View
 
 // A run in tables that keep the rules; every move keeps them, so no test of the tables is repeated.
 fn going(
-    image: &[u8],
-    rels: usize,
-    clauses: usize,
-    ix: &[u16; program_index::SIZE],
+    image: &Image,
     head: &mut [u8],
     procs: &mut [u8],
     vars: &mut [u8],
     limit: usize,
 ) -> Answer<(End, usize)>
-    requires { Inside small image.now rels clauses (lent head.old procs.old vars.old) × (limit ≤ 65535) × Indexed image.now rels clauses ix.now }
-    ensures { RanSays small image.now rels clauses (lent head.old procs.old vars.old) limit result (lent head.new procs.new vars.new) }
+    requires { Inside small image.now.bytes.now image.now.relations image.now.clauses (lent head.old procs.old vars.old) × (limit ≤ 65535) }
+    ensures { RanSays small image.now.bytes.now image.now.relations image.now.clauses (lent head.old procs.old vars.old) limit result (lent head.new procs.new vars.new) }
 {
     for k in 0..=limit {
         let w = look(head, procs, vars);
@@ -133,7 +143,7 @@ fn going(
         if k == limit {
             return Ok((End::Budget, k));
         }
-        let a = step::stepped(image, rels, clauses, ix, head, procs, vars, p, w.told);
+        let a = step::stepped(image, head, procs, vars, p, w.told);
         let Ok(_) = a else {
             return Ok((End::Room, k));
         };
@@ -155,9 +165,15 @@ pub fn run(
     let mut ix = [0u16; program_index::SIZE];
     let e = entry::enter(image, head, procs, vars, &mut ix);
     // Kept in each call: docs/DECISIONS.md asks that each takes the load's answer apart by `let .. else`.
-    let Ok((rels, clauses)) = e else {
+    let Ok((relations, clauses)) = e else {
         let r = load::refusal(e);
         return Err(r);
     };
-    going(image, rels, clauses, &ix, head, procs, vars, limit as usize)
+    let accepted = Image {
+        bytes: image,
+        relations,
+        clauses,
+        index: &ix,
+    };
+    going(&accepted, head, procs, vars, limit as usize)
 }

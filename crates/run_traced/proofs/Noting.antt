@@ -1,52 +1,45 @@
 -- The ways through the run that records.
-use Rattle.parlog.specs.declared.End.{End}
-use Rattle.std.specs.Prelude.{Some, Ok, Err, None}
-use Rattle.parlog.specs.Answer.{Answer}
-use mathlib.Core.Path.{◌∙◌, ◌≡◌, ap, refl, sym}
+use Rattle.std.specs.Prelude.{Err, None, Ok, Some}
+use mathlib.Core.Path.{ap, refl, sym, ◌∙◌, ◌≡◌}
 use mathlib.Core.Bool.{Bool, cond, false, true}
 use mathlib.Core.List.{[], List}
-use Prim.Native.Nat.{◌*◌, ◌+◌, ◌-◌, ◌/◌, ◌<◌, ◌≤◌, suc, ℕ}
+use Prim.Native.Nat.{◌*◌, ◌+◌, ◌-◌, ◌/◌, ◌≤◌, min, suc, ℕ}
 use lib.Dec.{ltb}
 use lib.ListN.{length}
-use borrow.Author.Tests.{le-ltb, lt-ltb, ltb-true}
+use borrow.Author.Tests.{ltb-false, ltb-true}
 use native.Mathlib.Omega.{arith}
 use Rattle.bound.proofs.Rows.{row-says}
 use Rattle.bound.specs.Calls.{RowSays}
-use Rattle.entry.proofs.Held.{count-procs}
 use Rattle.entry.specs.Entered.{EnterSays, Inside}
-use Rattle.lay.proofs.Laws.{laid-length, laid_none}
+use Rattle.lay.proofs.Laws.{laid_none}
 use Rattle.lay.specs.Lay.{laid}
 use Rattle.load.specs.Fields.{refusal_of}
+use Rattle.parlog.specs.Answer.{Answer}
+use Rattle.parlog.proofs.Bools.{split}
 use Rattle.parlog.specs.Calls.{run_call}
-use Rattle.parlog.specs.Limits.{Limits, Usable}
+use Rattle.parlog.specs.Limits.{Limits}
 use Rattle.parlog.specs.Numbers.{rule_number}
 use Rattle.parlog.specs.Program.{Program, program_of}
 use Rattle.parlog.specs.Run.{goal_ended, made, turn_for}
 use Rattle.parlog.specs.Tables.{Lent, lent, tables_in}
+use Rattle.parlog.specs.declared.End.{End}
 use Rattle.parlog.specs.declared.End.TheVariants.{Budget, Room}
 use Rattle.parlog.specs.declared.Move.{Move}
 use Rattle.parlog.specs.declared.Refusal.{Refusal}
 use Rattle.rows.specs.Rows.{Bytes}
 use Rattle.run.proofs.Runs.{going_start, one_less}
-use Rattle.run.proofs.Turning.{going-none, going_on, going-room, going-spent, moved-is, run_ran, unmoved-is}
+use Rattle.run.proofs.Turning.{going-none, going-room, going-spent, going_on, moved-is, run_ran, unmoved-is}
 use Rattle.run.specs.Running.{LookSays, unless_ended}
 use Rattle.run.specs.declared.View.{View}
 use Rattle.run_traced.proofs.Records.{laid-record, records-goes, records-none, records-room}
-use Rattle.run_traced.specs.Traced.{GoingTraced, MoveSays, moves_for, RanTraced, run_records, run_traced_call}
+use Rattle.run_traced.specs.Traced.{GoingTraced, moves_for, MoveSays, RanTraced, run_records, run_traced_call}
 use Rattle.step.specs.Stepping.{step_in, SteppedSays}
 use Rattle.trace.specs.Trace.{following, record_bytes, step_kind, trace_size}
 use Rattle.traced.proofs.Records.{record-length}
-use Rattle.words.proofs.Fitting.{step-within}
-use Rattle.words.specs.Fits.{MoveWithin}
 
 -- ---- one move of a run
 
 module _ (lim : Limits) (s : List ℕ) (r c : ℕ) (l : Lent) (p : ℕ) {a : Answer Move} {h ps vs : List ℕ} (x : SteppedSays lim s r c l p a h ps vs) where
-  pub rule-within : Usable lim → Inside lim s r c l → {m : Move} → a ≡ Ok m → MoveWithin 4294967295 m
-  rule-within ok i {m} e =
-      let z = moved-is (step_in lim s r c l p) l (tables_in l) (sym x.answer ∙ e) in
-      rw z at (step-within lim ok (program_of s r c) (tables_in l) (omega (arith, count-procs l, i.procs_most)) p)
-
   module _ (row : List ℕ) (place stamp : ℕ) where
     pub move-kept : {f : Refusal} → a ≡ Err f → MoveSays lim s r c l row p place stamp (Err f) h ps vs row
     move-kept e = record { step = rw e at x; row_is = sym (laid_none row place) }
@@ -55,12 +48,6 @@ module _ (lim : Limits) (s : List ℕ) (r c : ℕ) (l : Lent) (p : ℕ) {a : Ans
     move_noted e er ew = record { step = rw e at x; row_is = rw (← er) ew }
 
 -- ---- the loop of a run
-
--- the row keeps its length
-pub traced-same : {lim : Limits} {s : List ℕ} {r c : ℕ} {l₀ l : Lent} {row₀ row : List ℕ} {limit k stamp₀ stamp : ℕ} → GoingTraced lim s r c l₀ l row₀ row limit k stamp₀ stamp → length row ≡ length row₀
-traced-same {lim} {s} {r} {c} {l₀} {l} {row₀} {row} {limit} {k} {stamp₀} {stamp} g =
-    sym (laid-length (run_records (limit - k) lim (program_of s r c) stamp (tables_in l)) row (k * trace_size)) ∙ ap length (sym g.row_is)
-    ∙ laid-length (run_records limit lim (program_of s r c) stamp₀ (tables_in l₀)) row₀ 0
 
 module _ (lim : Limits) (s : List ℕ) (r c : ℕ) (l₀ : Lent) (row₀ : List ℕ) (limit stamp₀ : ℕ) (i₀ : Inside lim s r c l₀) where
   abbrev prog : Program
@@ -112,11 +99,10 @@ module _ (lim : Limits) (s : List ℕ) (r c : ℕ) (l₀ : Lent) (row₀ : List 
 
 -- ---- the run
 
-pub moves-few : (bytes limit : ℕ) → bytes / trace_size < limit → (bytes / trace_size ≡ moves_for bytes limit) × (bytes / trace_size ≤ limit)
-moves-few bytes limit h = (rw (lt-ltb (bytes / trace_size) limit h), omega arith)
-
-pub moves-all : (bytes limit : ℕ) → limit ≤ bytes / trace_size → (limit ≡ moves_for bytes limit) × (limit ≤ limit)
-moves-all bytes limit h = (rw (le-ltb (bytes / trace_size) limit h), omega arith)
+pub moves-least : (bytes limit : ℕ) {r : ℕ} → r ≡ min (bytes / trace_size) limit → (r ≡ moves_for bytes limit) × (r ≤ limit)
+moves-least bytes limit {r} e = split (ltb (bytes / trace_size) limit)
+    (λ a. let h = ltb-true (bytes / trace_size) limit a in let m : r ≡ bytes / trace_size = omega (arith, e, h) in (rw a m, omega (arith, e)))
+    (λ a. let h = ltb-false (bytes / trace_size) limit a in let m : r ≡ limit = omega (arith, e, h) in (rw a m, omega (arith, e)))
 
 pub moves-most : (bytes limit : ℕ) → moves_for bytes limit ≤ limit
 moves-most bytes limit = go (ltb (bytes / trace_size) limit) refl

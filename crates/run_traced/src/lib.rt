@@ -1,4 +1,5 @@
 // The run that records: the plain run with one row more, in which each move leaves its record.
+// Kept, head, processes and variables as three rows: the head of crate `bound` says why.
 #![tactic(auto)]
 
 ghost use Rattle.std.specs.Prelude.{◌≡◌, ◌<◌, ◌≤◌};
@@ -7,18 +8,15 @@ ghost use Rattle.children.specs.Telling.{Tells};
 ghost use Rattle.entry.specs.Entered.{Inside};
 ghost use Rattle.parlog.specs.Limits.{small};
 ghost use Rattle.parlog.specs.Tables.{at, lent, proc_count, procs_of};
-ghost use Rattle.program_index.specs.Indexed.{Indexed};
 ghost use Rattle.run_traced.specs.Traced.{MoveSays, moves_for, RanTraced, run_traced_call};
 
 use children::Told;
 use parlog::{Answer, End, Move};
+use program_index::Image;
 
 // One move of a run, and its record at this place.
 fn move_noted(
-    image: &[u8],
-    rels: usize,
-    clauses: usize,
-    ix: &[u16; program_index::SIZE],
+    image: &Image,
     head: &mut [u8],
     procs: &mut [u8],
     vars: &mut [u8],
@@ -28,21 +26,19 @@ fn move_noted(
     place: usize,
     stamp: u16,
 ) -> Answer<Move>
-    requires { Inside small image.now rels clauses (lent head.old procs.old vars.old) × (p < proc_count head.old) × ((at (procs_of procs.old (proc_count head.old)) p).mode ≡ 3 → Tells (procs_of procs.old (proc_count head.old)) p told) × Indexed image.now rels clauses ix.now × (place ≤ 4294967280) }
-    ensures { MoveSays small image.now rels clauses (lent head.old procs.old vars.old) trace.old p place stamp result head.new procs.new vars.new trace.new }
+    requires { Inside small image.now.bytes.now image.now.relations image.now.clauses (lent head.old procs.old vars.old) × (p < proc_count head.old) × ((at (procs_of procs.old (proc_count head.old)) p).mode ≡ 3 → Tells (procs_of procs.old (proc_count head.old)) p told) × (place ≤ 4294967280) }
+    ensures { MoveSays small image.now.bytes.now image.now.relations image.now.clauses (lent head.old procs.old vars.old) trace.old p place stamp result head.new procs.new vars.new trace.new }
 {
-    let m = step::stepped(image, rels, clauses, ix, head, procs, vars, p, told)?;
+    let m = step::stepped(image, head, procs, vars, p, told)?;
     let rule = words::rule_number(m);
-    trace::put_record(trace, place, trace::STEP, p, rule, stamp);
+    trace::put_record(trace, place, trace::Kind::Step, p, rule, stamp);
     Ok(m)
 }
 
 // A run in tables that keep the rules: each move leaves its record behind those before.
+// Kept beside `run::going`: one loop for both would take the move as a closure, under a contract for any, and the plain run would count stamps too.
 fn going(
-    image: &[u8],
-    rels: usize,
-    clauses: usize,
-    ix: &[u16; program_index::SIZE],
+    image: &Image,
     head: &mut [u8],
     procs: &mut [u8],
     vars: &mut [u8],
@@ -50,8 +46,8 @@ fn going(
     limit: usize,
     stamp: u16,
 ) -> Answer<(End, usize)>
-    requires { Inside small image.now rels clauses (lent head.old procs.old vars.old) × (limit ≤ 65535) × Indexed image.now rels clauses ix.now }
-    ensures { RanTraced small image.now rels clauses (lent head.old procs.old vars.old) trace.old limit stamp result (lent head.new procs.new vars.new) trace.new }
+    requires { Inside small image.now.bytes.now image.now.relations image.now.clauses (lent head.old procs.old vars.old) × (limit ≤ 65535) }
+    ensures { RanTraced small image.now.bytes.now image.now.relations image.now.clauses (lent head.old procs.old vars.old) trace.old limit stamp result (lent head.new procs.new vars.new) trace.new }
 {
     let mut next = stamp;
     for k in 0..=limit {
@@ -66,9 +62,6 @@ fn going(
         }
         let a = move_noted(
             image,
-            rels,
-            clauses,
-            ix,
             head,
             procs,
             vars,
@@ -90,11 +83,7 @@ fn going(
 fn moves_for(bytes: usize, limit: usize) -> usize
     ensures { (result ≡ moves_for bytes limit) × (result ≤ limit) }
 {
-    let n = bytes / trace::SIZE;
-    if n < limit {
-        return n;
-    }
-    limit
+    (bytes / trace::SIZE).min(limit)
 }
 
 // The run, and the records of its moves: no more moves than there is room for.
@@ -111,12 +100,17 @@ pub fn run_traced(
 {
     let mut ix = [0u16; program_index::SIZE];
     let e = entry::enter(image, head, procs, vars, &mut ix);
-    let Ok((rels, clauses)) = e else {
+    // Kept in each call: docs/DECISIONS.md asks that each takes the load's answer apart by `let .. else`.
+    let Ok((relations, clauses)) = e else {
         let r = load::refusal(e);
         return Err(r);
     };
+    let accepted = Image {
+        bytes: image,
+        relations,
+        clauses,
+        index: &ix,
+    };
     let most = moves_for(trace.len(), limit as usize);
-    going(
-        image, rels, clauses, &ix, head, procs, vars, trace, most, stamp,
-    )
+    going(&accepted, head, procs, vars, trace, most, stamp)
 }

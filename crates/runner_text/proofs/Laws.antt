@@ -1,13 +1,19 @@
 -- Text written from the back: one byte more, a word, the digits of a number, and one piece after another.
 use mathlib.Core.Path.{◌∙◌, ◌≡◌, ap, refl, sym}
-use mathlib.Core.List.{[], ◌∷◌, List}
-use Prim.Native.Nat.{◌%◌, ◌+◌, ◌-◌, ◌/◌, ◌<◌, ◌≤◌, suc, zero, ℕ}
-use lib.ListN.{drop, length, length-set, set, take}
+use mathlib.Core.Bool.{Bool, false, true}
+use mathlib.Core.List.{[], ◌++◌, ◌∷◌, append_assoc, List}
+use Prim.Native.Nat.{◌%◌, ◌+◌, ◌-◌, ◌/◌, ◌<◌, ◌≤◌, ◌^◌, suc, zero, ℕ}
+use lib.Dec.{leb}
+use lib.ListN.{drop, length, length-append, length-set, set, take}
 use lib.Seq.{take-set-le}
-use borrow.Author.Tests.{le-ltb, lt-ltb}
+use borrow.Author.Tests.{le-ltb, leb-false, leb-true, lt-ltb}
 use native.Mathlib.Omega.{arith}
 use Rattle.parlog.specs.Text.{decimal, digits}
 use Rattle.runner_text.specs.Fronting.{Fronted}
+use Rattle.runner_text.specs.Writing.{Fronts, standing}
+use Rattle.runner_text.specs.declared.Text.{Text}
+use Rattle.std.proofs.lemmas.Fmt.{decimal_digit, decimal_nonempty, decimal_step, length-decimal-le}
+use Rattle.std.specs.Fmt.{decimal as printed}
 
 -- ---- bytes in front
 
@@ -59,65 +65,33 @@ as-text x e h =
 
 -- ---- a number
 
-module _ (n : ℕ) (rest : List ℕ) where
-  digits-none : {k : ℕ} → k ≡ 0 → digits k n rest ≡ rest
-  unfolding digits
-  digits-none e = rw e
+-- with room for all digits, those in front of a text are the number's as it is printed
+digits-are : (f n : ℕ) (rest : List ℕ) → n < 2 ^ 64 → length (printed n) ≤ f → digits f n rest ≡ printed n ++ rest
+unfolding digits
+digits-are zero n rest h l = absurd (omega (arith, decimal_nonempty n h, l))
+digits-are (suc f) n rest h l = go (leb 10 n) refl (λ m. digits-are f (n / 10) ((48 + n % 10) ∷ rest) (omega arith) m)
+  where
+    go : (b : Bool) → leb 10 n ≡ b → (length (printed (n / 10)) ≤ f → digits f (n / 10) ((48 + n % 10) ∷ rest) ≡ printed (n / 10) ++ ((48 + n % 10) ∷ rest)) → digits (suc f) n rest ≡ printed n ++ rest
+    go false e next = let k : n < 10 = leb-false 10 n e in rw (lt-ltb n 10 k, decimal_digit n k)
+    go true e next =
+        let k : 10 ≤ n = leb-true 10 n e in
+        let s = decimal_step n k h in
+        let m = ap length s ∙ length-append (printed (n / 10)) ((48 + n % 10) ∷ []) in
+        rw (le-ltb n 10 k)
+        (next (omega (arith, m, l)) ∙ sym (append_assoc (printed (n / 10)) ((48 + n % 10) ∷ []) rest) ∙ ap (λ (xs : List ℕ). xs ++ rest) (sym s))
 
-  digits_last : {k : ℕ} (j : ℕ) → k ≡ suc j → n < 10 → digits k n rest ≡ (48 + n) ∷ rest
-  unfolding digits
-  digits_last j e g = rw (e, lt-ltb n 10 g)
+pub number_is : (o : List ℕ) (p n : ℕ) {o' : List ℕ} {r : ℕ} → n < 2 ^ 64 → length o' ≡ length o → r + length (printed n) ≡ p → drop r o' ≡ printed n ++ drop p o → take r o' ≡ take r o → Fronted o p 20 (decimal n (drop p o)) o' r
+unfolding decimal
+number_is o p n h size start text front =
+    let l = length-decimal-le 20 n (omega arith) (omega arith) h in
+    record { size = size; text = text ∙ sym (digits-are 20 n (drop p o) h l); front = front; lower = omega arith; near = omega arith }
 
-  digits_more : {k : ℕ} (j : ℕ) → k ≡ suc j → 10 ≤ n → digits k n rest ≡ digits j (n / 10) ((48 + n % 10) ∷ rest)
-  unfolding digits
-  digits_more j e g = rw (e, le-ltb n 10 g)
+-- ---- writers
 
--- i digits are put, and those that are left stand in front of them
-pub record Counting (o : List ℕ) (p n : ℕ) (o' : List ℕ) (r m i : ℕ) : Type 0 where
-  pub size : length o' ≡ length o
-  pub text : digits (20 - i) m (drop r o') ≡ decimal n (drop p o)
-  pub front : take r o' ≡ take r o
-  pub lower : r ≤ p
-  pub near : p ≤ r + i
+-- one piece in front of another
+pub both : {w x y : Text} {a b : ℕ} {t : List ℕ} (g : List ℕ → List ℕ) → Fronts w a t x → Fronts x b (g (standing x)) y → Fronts w (a + b) (g t) y
+both g f h = record { lent = h.lent ∙ f.lent; fronted = then g f.fronted h.fronted }
 
-module _ (o : List ℕ) (p n : ℕ) where
-  pub number-start : Counting o p n o p n 0
-  unfolding decimal
-  number-start = record { size = refl; text = refl; front = refl; lower = omega arith; near = omega arith }
-
-  module _ (o' : List ℕ) (r m i : ℕ) (x : Counting o p n o' r m i) where
-    one_less : i < 20 → 20 - i ≡ suc (20 - (i + 1))
-    one_less h = omega arith
-
-    pub number-on : (o'' : List ℕ) (q d : ℕ) → i < 20 → 10 ≤ m → d ≡ 48 + m % 10 → Fronted o' r 1 (d ∷ drop r o') o'' q → Counting o p n o'' q (m / 10) (i + 1)
-    number-on o'' q d h g e y =
-        let j = x.near in
-        let l = x.lower in
-        let u = y.near in
-        let v = y.lower in
-        record {
-          size = y.size ∙ x.size;
-          text = ap (digits (20 - (i + 1)) (m / 10)) (y.text ∙ ap (λ (a : ℕ). a ∷ drop r o') e) ∙ sym (digits_more m (drop r o') (20 - (i + 1)) (one_less h) g) ∙ x.text;
-          front = still o o' o'' r q v x.front y.front;
-          lower = omega arith;
-          near = omega arith;
-        }
-
-    pub number-last : (o'' : List ℕ) (q d : ℕ) → i < 20 → m < 10 → d ≡ 48 + m → Fronted o' r 1 (d ∷ drop r o') o'' q → Fronted o p 20 (decimal n (drop p o)) o'' q
-    number-last o'' q d h g e y =
-        let j = x.near in
-        let l = x.lower in
-        let u = y.near in
-        let v = y.lower in
-        record {
-          size = y.size ∙ x.size;
-          text = y.text ∙ ap (λ (a : ℕ). a ∷ drop r o') e ∙ sym (digits_last m (drop r o') (20 - (i + 1)) (one_less h) g) ∙ x.text;
-          front = still o o' o'' r q v x.front y.front;
-          lower = omega arith;
-          near = omega arith;
-        }
-
-    pub number-done : i ≡ 20 → Fronted o p 20 (decimal n (drop p o)) o' r
-    number-done h =
-        let j = x.near in
-        record { size = x.size; text = sym (digits-none m (drop r o') (omega arith)) ∙ x.text; front = x.front; lower = x.lower; near = omega arith }
+-- room that is not used, and the text in another form
+pub told-as : {w x : Text} {a b : ℕ} {t u : List ℕ} → Fronts w a t x → t ≡ u → a ≤ b → Fronts w b u x
+told-as f e h = record { lent = f.lent; fronted = as-text f.fronted e h }

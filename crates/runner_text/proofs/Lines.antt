@@ -13,8 +13,10 @@ use Rattle.parlog.specs.declared.End.TheVariants.{Budget, Failure, Room, Success
 use Rattle.parlog.specs.declared.Refusal.{Refusal}
 use Rattle.parlog.specs.declared.Term.{Term}
 use Rattle.parlog.specs.declared.Term.TheVariants.{Const, Var}
-use Rattle.runner_text.proofs.Laws.{as-text, then}
-use Rattle.runner_text.specs.Fronting.{Fronted, line_text, ran_text}
+use Rattle.runner_text.proofs.Laws.{both, told-as}
+use Rattle.runner_text.specs.Fronting.{line_text, ran_text}
+use Rattle.runner_text.specs.Writing.{Fronts, standing}
+use Rattle.runner_text.specs.declared.Text.{Text}
 
 -- ---- what stands behind a number
 
@@ -47,44 +49,44 @@ end_line Waiting rest = refl
 end_line Room rest = refl
 end_line Budget rest = refl
 
-pub end_is : {o o' : List ℕ} {p r : ℕ} {e : End} (x : End) → e ≡ x → Fronted o p (length (end_word x)) (end_word x ++ drop p o) o' r → Fronted o p 7 (end_word e ++ drop p o) o' r
-end_is {o} {p = p} x q f = as-text f (ap (λ (y : End). end_word y ++ drop p o) (sym q)) (end-most x)
+pub end_is : {w y : Text} {e : End} (x : End) → e ≡ x → Fronts w (length (end_word x)) (end_word x ++ standing w) y → Fronts w 7 (end_word e ++ standing w) y
+end_is {w} x q f = told-as f (ap (λ (z : End). end_word z ++ standing w) (sym q)) (end-most x)
 
 -- ---- a value
 
-module _ {o a b : List ℕ} {p i j : ℕ} {t : Term} (n : ℕ) (f : Fronted o p 1 (10 ∷ drop p o) a i) (g : Fronted a i 20 (decimal n (drop i a)) b j) where
-  pub term-const : t ≡ Const n → Fronted o p 22 (term_text t ++ drop p o) b j
+module _ {w x y : Text} {t : Term} (n : ℕ) (f : Fronts w 1 (10 ∷ standing w) x) (g : Fronts x 20 (decimal n (standing x)) y) where
+  pub term-const : t ≡ Const n → Fronts w 22 (term_text t ++ standing w) y
   term-const e =
-      as-text (then (decimal n) f g) (decimal-append n newline (drop p o) ∙ ap (λ (y : Term). term_text y ++ drop p o) (sym e)) (omega arith)
+      told-as (both (decimal n) f g) (decimal-append n newline (standing w) ∙ ap (λ (z : Term). term_text z ++ standing w) (sym e)) (omega arith)
 
-  pub term-var : {c : List ℕ} {k : ℕ} → t ≡ Var n → Fronted b j 1 (95 ∷ drop j b) c k → Fronted o p 22 (term_text t ++ drop p o) c k
+  pub term-var : {z : Text} → t ≡ Var n → Fronts y 1 (95 ∷ standing y) z → Fronts w 22 (term_text t ++ standing w) z
   term-var e h =
-      as-text (then (λ (y : List ℕ). 95 ∷ y) (then (decimal n) f g) h)
-      (ap (λ (y : List ℕ). 95 ∷ y) (decimal-append n newline (drop p o)) ∙ ap (λ (y : Term). term_text y ++ drop p o) (sym e))
+      told-as (both (λ (u : List ℕ). 95 ∷ u) (both (decimal n) f g) h)
+      (ap (λ (u : List ℕ). 95 ∷ u) (decimal-append n newline (standing w)) ∙ ap (λ (z : Term). term_text z ++ standing w) (sym e))
       (omega arith)
 
 -- ---- lines
 
-pub line-is : {o a b c d : List ℕ} {p i j k r : ℕ} (v : ℕ) (t : Term) → Fronted o p 22 (term_text t ++ drop p o) a i → Fronted a i 3 (equals_word ++ drop i a) b j
-    → Fronted b j 20 (decimal v (drop j b)) c k → Fronted c k 4 (var_word ++ drop k c) d r → Fronted o p 49 (line_text v t ++ drop p o) d r
+pub line-is : {w a b c d : Text} (v : ℕ) (t : Term) → Fronts w 22 (term_text t ++ standing w) a → Fronts a 3 (equals_word ++ standing a) b
+    → Fronts b 20 (decimal v (standing b)) c → Fronts c 4 (var_word ++ standing c) d → Fronts w 49 (line_text v t ++ standing w) d
 unfolding line_text
-line-is {o} {p = p} v t f g h l =
-    as-text (then (λ (y : List ℕ). var_word ++ y) (then (decimal v) (then (λ (y : List ℕ). equals_word ++ y) f g) h) l)
-    (ap (λ (y : List ℕ). var_word ++ y) (decimal-append v (equals_word ++ term_text t) (drop p o)))
+line-is {w} v t f g h l =
+    told-as (both (λ (y : List ℕ). var_word ++ y) (both (decimal v) (both (λ (y : List ℕ). equals_word ++ y) f g) h) l)
+    (ap (λ (y : List ℕ). var_word ++ y) (decimal-append v (equals_word ++ term_text t) (standing w)))
     (omega arith)
 
-pub ran-is : {o a b c d x : List ℕ} {p i j k m r : ℕ} (e : End) (n : ℕ) → Fronted o p 1 (10 ∷ drop p o) a i → Fronted a i 7 (end_word e ++ drop i a) b j
-    → Fronted b j 5 (newline ++ end-word ++ drop j b) c k → Fronted c k 20 (decimal n (drop k c)) d m → Fronted d m 6 (steps_word ++ drop m d) x r → Fronted o p 39 (ran_text e n (drop p o)) x r
+pub ran-is : {w a b c d x : Text} (e : End) (n : ℕ) → Fronts w 1 (10 ∷ standing w) a → Fronts a 7 (end_word e ++ standing a) b
+    → Fronts b 5 (newline ++ end-word ++ standing b) c → Fronts c 20 (decimal n (standing c)) d → Fronts d 6 (steps_word ++ standing d) x → Fronts w 39 (ran_text e n (standing w)) x
 unfolding ran_text
-ran-is {o} {p = p} e n f g h l q =
-    as-text (then (λ (y : List ℕ). steps_word ++ y) (then (decimal n) (then (λ (y : List ℕ). newline ++ end-word ++ y) (then (λ (y : List ℕ). end_word e ++ y) f g) h) l) q)
-    (ap (λ (y : List ℕ). steps_word ++ decimal n y) (end_line e (drop p o)))
+ran-is {w} e n f g h l q =
+    told-as (both (λ (y : List ℕ). steps_word ++ y) (both (decimal n) (both (λ (y : List ℕ). newline ++ end-word ++ y) (both (λ (y : List ℕ). end_word e ++ y) f g) h) l) q)
+    (ap (λ (y : List ℕ). steps_word ++ decimal n y) (end_line e (standing w)))
     (omega arith)
 
-pub refused-is : {o a b c d x : List ℕ} {i j k m r : ℕ} (f : Refusal) → Fronted o (length o) 1 (10 ∷ drop (length o) o) a i → Fronted a i 20 (decimal f.offset (drop i a)) b j
-    → Fronted b j 4 (at_word ++ drop j b) c k → Fronted c k 20 (decimal f.number (drop k c)) d m → Fronted d m 8 (refused_word ++ drop m d) x r → Fronted o (length o) 53 (refused_text f) x r
+pub refused-is : {w a b c d x : Text} (f : Refusal) → w.at ≡ length w.out.now → Fronts w 1 (10 ∷ standing w) a → Fronts a 20 (decimal f.offset (standing a)) b
+    → Fronts b 4 (at_word ++ standing b) c → Fronts c 20 (decimal f.number (standing c)) d → Fronts d 8 (refused_word ++ standing d) x → Fronts w 53 (refused_text f) x
 unfolding refused_text
-refused-is {o} f g h l q u =
-    as-text (then (λ (y : List ℕ). refused_word ++ y) (then (decimal f.number) (then (λ (y : List ℕ). at_word ++ y) (then (decimal f.offset) g h) l) q) u)
-    (ap (λ (y : List ℕ). refused_word ++ decimal f.number (at_word ++ decimal f.offset (10 ∷ y))) (drop-length o))
+refused-is {w} f e g h l q u =
+    told-as (both (λ (y : List ℕ). refused_word ++ y) (both (decimal f.number) (both (λ (y : List ℕ). at_word ++ y) (both (decimal f.offset) g h) l) q) u)
+    (ap (λ (y : List ℕ). refused_word ++ decimal f.number (at_word ++ decimal f.offset (10 ∷ y))) (ap (λ (i : ℕ). drop i w.out.now) e ∙ drop-length w.out.now))
     (omega arith)

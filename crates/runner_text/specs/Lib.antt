@@ -1,2 +1,3 @@
 -- What a writer of the runner's text promises.
 pub mod Fronting
+pub mod Writing

@@ -1,121 +1,122 @@
-// The runner's text in a lent buffer, written from its back to its front: each piece is put in front of what stands there.
+// The runner's text in a lent row, written from its back to its front: each piece is put in front of what stands there.
 #![tactic(auto)]
 
-ghost use Rattle.std.specs.Prelude.{◌≡◌, ◌∷◌, ◌++◌, ◌+◌, ◌≤◌, ◌<◌, drop, length};
-ghost use Rattle.parlog.specs.Text.{decimal, end_word, refused_text, term_text};
-ghost use Rattle.runner_text.specs.Fronting.{Fronted, line_text, ran_text};
+ghost use Rattle.std.specs.Prelude.{◌≤◌, length};
 
 use parlog::{End, Refusal, Term};
 
-// No number of 64 bits has more digits.
-const MOST_DIGITS: usize = 20;
-
-// One byte.
-fn put(out: &mut [u8], p: usize, b: u8) -> usize
-    requires { (1 ≤ p) × (p ≤ length out.old) }
-    ensures { Fronted out.old p 1 (b ∷ drop p out.old) out.new result }
-{
-    let at = p - 1;
-    out[at] = b;
-    at
+// A lent row, and where the text in it begins, which ends with the row.
+// Kept beside `Display`: the row is lent, so that it has no room to grow, and the text of a run is told from its end on, with the digits of a number in front of what follows.
+#[derive(Drop)]
+pub struct Text<'a> {
+    pub out: &'a mut [u8],
+    pub at: usize,
+    pub ghost inside: { at ≤ length out.now },
 }
 
-// A word.
-fn word(out: &mut [u8], p: usize, w: &[u8]) -> usize
-    requires { (length w.now ≤ p) × (p ≤ length out.old) }
-    ensures { Fronted out.old p (length w.now) (w.now ++ drop p out.old) out.new result }
-{
-    let at = p - w.len();
-    out[at..p].copy_from_slice(w);
-    at
-}
+impl<'a> Text<'a> {
+    ghost use Rattle.std.specs.Prelude.{◌≡◌, ◌∷◌, ◌++◌, ◌≤◌, length};
+    ghost use Rattle.parlog.specs.Text.{decimal, end_word, refused_text, term_text};
+    ghost use Rattle.runner_text.specs.Fronting.{line_text, ran_text};
+    ghost use Rattle.runner_text.specs.Writing.{Fronts, standing};
 
-// The digit of a number below ten.
-fn digit(n: u64) -> u8
-    requires { n < 10 }
-    ensures { result ≡ 48 + n }
-{
-    b'0' + (n as u8)
-}
-
-// A number in decimal, from its last digit on.
-fn number(out: &mut [u8], p: usize, n: u64) -> usize
-    requires { (20 ≤ p) × (p ≤ length out.old) }
-    ensures { Fronted out.old p 20 (decimal n (drop p out.old)) out.new result }
-{
-    let mut at = p;
-    let mut left = n;
-    for _ in 0..MOST_DIGITS {
-        if left < 10 {
-            return put(out, at, digit(left));
-        }
-        at = put(out, at, digit(left % 10));
-        left /= 10;
+    // No text yet, at a row's end.
+    pub fn new(out: &'a mut [u8]) -> Self
+        ensures row { (result.out.ghost_name ≡ out.entry.ghost_name) × (result.out.now ≡ out.old) }
+        ensures start { result.at ≡ length out.old }
+    {
+        let at = out.len();
+        Text { out, at }
     }
-    at
-}
 
-// The end of a run, in its word.
-fn end_word(out: &mut [u8], p: usize, end: End) -> usize
-    requires { (7 ≤ p) × (p ≤ length out.old) }
-    ensures { Fronted out.old p 7 (end_word end ++ drop p out.old) out.new result }
-{
-    match end {
-        End::Success => word(out, p, b"success"),
-        End::Failure => word(out, p, b"failure"),
-        End::Waiting => word(out, p, b"waiting"),
-        End::Room => word(out, p, b"room"),
-        End::Budget => word(out, p, b"budget"),
+    // One byte.
+    fn put(&mut self, byte: u8)
+        requires { 1 ≤ self.old.at }
+        ensures { Fronts self.old 1 (byte ∷ standing self.old) self.new }
+    {
+        self.at -= 1;
+        self.out[self.at] = byte;
     }
-}
 
-// A value, and the end of its line.
-fn term(out: &mut [u8], p: usize, t: Term) -> usize
-    requires { (22 ≤ p) × (p ≤ length out.old) }
-    ensures { Fronted out.old p 22 (term_text t ++ drop p out.old) out.new result }
-{
-    let q = put(out, p, b'\n');
-    match t {
-        Term::Const(c) => number(out, q, c as u64),
-        Term::Var(v) => {
-            let n = number(out, q, v as u64);
-            put(out, n, b'_')
+    // A word.
+    fn word(&mut self, bytes: &[u8])
+        requires { length bytes.now ≤ self.old.at }
+        ensures { Fronts self.old (length bytes.now) (bytes.now ++ standing self.old) self.new }
+    {
+        let end = self.at;
+        self.at = end - bytes.len();
+        self.out[self.at..end].copy_from_slice(bytes);
+    }
+
+    // A number in decimal.
+    fn number(&mut self, n: u64)
+        requires { 20 ≤ self.old.at }
+        ensures { Fronts self.old 20 (decimal n (standing self.old)) self.new }
+    {
+        self.at = itoa::write_digits(n, self.out, self.at);
+    }
+
+    // The end of a run, in its word.
+    fn end_word(&mut self, end: End)
+        requires { 7 ≤ self.old.at }
+        ensures { Fronts self.old 7 (end_word end ++ standing self.old) self.new }
+    {
+        match end {
+            End::Success => self.word(b"success"),
+            End::Failure => self.word(b"failure"),
+            End::Waiting => self.word(b"waiting"),
+            End::Room => self.word(b"room"),
+            End::Budget => self.word(b"budget"),
         }
     }
-}
 
-// The line of a goal variable.
-pub fn line(out: &mut [u8], p: usize, v: usize, t: Term) -> usize
-    requires { (49 ≤ p) × (p ≤ length out.old) }
-    ensures { Fronted out.old p 49 (line_text v t ++ drop p out.old) out.new result }
-{
-    let a = term(out, p, t);
-    let b = word(out, a, b" = ");
-    let c = number(out, b, v as u64);
-    word(out, c, b"var ")
-}
+    // A value, and the end of its line.
+    fn term(&mut self, t: Term)
+        requires { 22 ≤ self.old.at }
+        ensures { Fronts self.old 22 (term_text t ++ standing self.old) self.new }
+    {
+        self.put(b'\n');
+        match t {
+            Term::Const(c) => self.number(u64::from(c)),
+            Term::Var(v) => {
+                self.number(u64::from(v));
+                self.put(b'_');
+            }
+        }
+    }
 
-// The lines of a run that come before its variables.
-pub fn ran(out: &mut [u8], p: usize, end: End, steps: usize) -> usize
-    requires { (39 ≤ p) × (p ≤ length out.old) }
-    ensures { Fronted out.old p 39 (ran_text end steps (drop p out.old)) out.new result }
-{
-    let a = put(out, p, b'\n');
-    let b = end_word(out, a, end);
-    let c = word(out, b, b"\nend ");
-    let d = number(out, c, steps as u64);
-    word(out, d, b"steps ")
-}
+    // The line of a goal variable.
+    pub fn line(&mut self, v: usize, t: Term)
+        requires { 49 ≤ self.old.at }
+        ensures { Fronts self.old 49 (line_text v t ++ standing self.old) self.new }
+    {
+        self.term(t);
+        self.word(b" = ");
+        self.number(v as u64);
+        self.word(b"var ");
+    }
 
-// The one line of a refusal, at the buffer's end.
-pub fn refused(out: &mut [u8], r: Refusal) -> usize
-    requires { 53 ≤ length out.old }
-    ensures { Fronted out.old (length out.old) 53 (refused_text r) out.new result }
-{
-    let p = out.len();
-    let a = put(out, p, b'\n');
-    let b = number(out, a, r.offset as u64);
-    let c = word(out, b, b" at ");
-    let d = number(out, c, r.number as u64);
-    word(out, d, b"refused ")
+    // The lines of a run that come before its variables.
+    pub fn ran(&mut self, end: End, steps: usize)
+        requires { 39 ≤ self.old.at }
+        ensures { Fronts self.old 39 (ran_text end steps (standing self.old)) self.new }
+    {
+        self.put(b'\n');
+        self.end_word(end);
+        self.word(b"\nend ");
+        self.number(steps as u64);
+        self.word(b"steps ");
+    }
+
+    // The one line of a refusal, where no text stands yet.
+    pub fn refused(&mut self, r: Refusal)
+        requires { (self.old.at ≡ length self.old.out.now) × (53 ≤ self.old.at) }
+        ensures { Fronts self.old 53 (refused_text r) self.new }
+    {
+        self.put(b'\n');
+        self.number(r.offset as u64);
+        self.word(b" at ");
+        self.number(u64::from(r.number));
+        self.word(b"refused ");
+    }
 }

@@ -1,9 +1,10 @@
 -- Bytes of a row from a place, and rows one behind the other by number.
 use mathlib.Core.Path.{◌∙◌, ◌≡◌, ap, refl, sym}
 use mathlib.Core.List.{[], ◌++◌, ◌∷◌, append_assoc, append-nil, List}
-use Prim.Native.Nat.{◌*◌, ◌+◌, ◌<◌, ℕ}
-use lib.ListN.{get_or, length, length-append}
-use lib.Seq.{ext_get_or}
+use Prim.Native.Nat.{◌*◌, ◌+◌, ◌-◌, ◌<◌, ◌≤◌, ℕ}
+use lib.ListN.{drop, get_or, length, length-append, length-drop, take}
+use lib.Seq.{ext_get_or, length-take-le}
+use Rattle.std.proofs.lemmas.List.{get_or-drop, get_or-take}
 use native.Mathlib.Omega.{arith}
 use native.Mathlib.Nat.{zero-add}
 use native.Mathlib.Numerals.{add-one}
@@ -35,6 +36,15 @@ from-snoc l at n = rw add-one (build-snoc (λ j. get_or l (at + j) 0) n)
 pub from-cong : (l m : List ℕ) (a b n : ℕ) → ((k : ℕ) → k < n → get_or l (a + k) 0 ≡ get_or m (b + k) 0) → bytes_from l a n ≡ bytes_from m b n
 unfolding bytes_from
 from-cong l m a b n h = build-cong (λ k. get_or l (a + k) 0) (λ k. get_or m (b + k) 0) n h
+
+-- a part of a row
+pub from-part : (l : List ℕ) (at n : ℕ) → at + n ≤ length l → bytes_from l at n ≡ take (at + n - at) (drop at l)
+from-part l at n h =
+    let m : at + n - at ≡ n = omega arith in
+    let d : n ≤ length (drop at l) = rw (length-drop at l) (omega arith) in
+    rw m (ext_get_or 0 (bytes_from l at n) (take n (drop at l)) (from-length l at n ∙ sym (length-take-le n (drop at l) d)) (λ j u.
+    let v : j < n = rw (from-length l at n) at u in
+    from_at l at n j v ∙ sym (get_or-take n (drop at l) j 0 v ∙ get_or-drop at l j 0)))
 
 -- all of a row
 pub from_all : (l : List ℕ) (n : ℕ) → length l ≡ n → bytes_from l 0 n ≡ l

@@ -3,24 +3,24 @@ use Rattle.std.specs.Prelude.{Err, Ok}
 use Rattle.parlog.specs.Answer.{Answer}
 use mathlib.Core.Path.{◌∙◌, ◌≡◌, refl, sym}
 use mathlib.Core.Logic.{◌≢◌}
-use mathlib.Core.Bool.{◌||◌, Bool, cond, false, not, true}
+use mathlib.Core.Bool.{Bool, cond, false, not, true}
 use mathlib.Core.List.{List}
 use Prim.Native.Nat.{◌*◌, ◌+◌, ◌<◌, ◌≤◌, suc, zero, ℕ}
 use lib.Dec.{eqb, ltb}
 use lib.ListN.{length}
-use borrow.Author.Tests.{eq-eqb, eqb-false, eqb-true, le-ltb, ltb-false, ne_eqb, not-false, not-true}
+use borrow.Author.Tests.{eq-eqb, eqb-false, eqb-true, le-ltb, ne_eqb, not-false, not-true}
 use native.Mathlib.Omega.{arith}
-use Rattle.parlog.proofs.Bools.{and-true, never, or-false, split}
+use Rattle.parlog.proofs.Bools.{and-true, never, split}
 use Rattle.parlog.proofs.Walk.{walk-holds, whole}
 use Rattle.parlog.specs.Load.{refusal}
 use Rattle.parlog.specs.Records.{cut, kind_at, record_end, word_at}
 use Rattle.parlog.specs.declared.Refusal.{Refusal}
 use Rattle.saved.proofs.Faults.{begun, fault-form, fault-three, fault-two, Form, form_of, form-right, is-former, is-old, is_right, is-wrong, long-is, Passes, rule_is}
+use Rattle.saved.proofs.Following.{kind_fits}
 use Rattle.saved.proofs.Passing.{ends, goes, stops}
 use Rattle.saved.specs.Form.{current_rule, former_length, head_kind, head_length, length_of, process_kind, process_length, variable_kind, variable_length}
 use Rattle.saved.specs.Formed.{at_front, BadSaved, Behind, Formed, Former, Front, is_first, is_later, KindFits, LengthFits, no_record, one_more, RightAt, RuleFits, saved_body, saved_cut, saved_former, saved_kind, saved_rule, WholeAt}
-use Rattle.saved.specs.Reading.{cut_at, former, form_fault, kind_wrong, length_wrong, nothing_seen, read_end, read_one, reads, read_saved, rule_at, rule_wrong, seen_with}
-use Rattle.saved.specs.declared.Seen.{Seen}
+use Rattle.saved.specs.Reading.{cut_at, former, form_fault, kind_wrong, length_wrong, nothing_seen, read_end, read_one, reads, read_saved, rule_at, rule_wrong, Seen, seen_with}
 
 -- ---- the tests of a record, and the facts
 
@@ -34,15 +34,6 @@ whole-uncut x at w =
     let b : ltb (word_at x at) 4 ≡ false = le-ltb (word_at x at) 4 w.size in
     let d : ltb (length x) (record_end x at) ≡ false = le-ltb (length x) (record_end x at) w.inside in
     rw (a, b, d)
-
-kind_fits : (before kind : ℕ) → kind_wrong before kind ≡ false → KindFits before kind
-unfolding kind_wrong
-kind_fits before kind e = split (eqb before 0)
-    (λ z. let q : not (eqb kind head_kind) ≡ false = rw z at e in is_first (eqb-true before 0 z) (eqb-true kind head_kind (not-false (eqb kind head_kind) q)))
-    (λ z. let q : (ltb kind process_kind || (ltb variable_kind kind || ltb kind before)) ≡ false = rw z at e in
-    let a = or-false (ltb kind process_kind) (ltb variable_kind kind || ltb kind before) q in
-    let b = or-false (ltb variable_kind kind) (ltb kind before) a.1 in
-    is_later (eqb-false before 0 z) (ltb-false kind process_kind a.0) (ltb-false variable_kind kind b.0) (ltb-false kind before b.1))
 
 fits-kind : (before kind : ℕ) → KindFits before kind → kind_wrong before kind ≡ false
 unfolding kind_wrong

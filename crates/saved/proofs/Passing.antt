@@ -13,10 +13,9 @@ use Rattle.parlog.proofs.Bools.{split}
 use Rattle.parlog.proofs.Walk.{walk-cut, walk_end, walk-one, whole}
 use Rattle.parlog.specs.Load.{refusal}
 use Rattle.parlog.specs.Records.{cut, kind_at, record_end, word_at}
-use Rattle.saved.proofs.Faults.{begun, long-is, Passes, passes}
+use Rattle.saved.proofs.Faults.{long-is, Passes, passes}
 use Rattle.saved.specs.Form.{length_of, process_kind, variable_kind}
-use Rattle.saved.specs.Reading.{cut_at, fault_at, form_fault, kind_wrong, read_end, read_one, reads, read_saved, seen_with}
-use Rattle.saved.specs.declared.Seen.{Seen}
+use Rattle.saved.specs.Reading.{cut_at, fault_at, form_fault, kind_wrong, read_end, read_one, reads, read_saved, Seen, seen_with}
 
 -- one more at most
 seen-small : (g : Seen) (k : ℕ) (t : Seen) → t ≡ seen_with g k → (t.procs ≤ g.procs + 1) × (t.vars ≤ g.vars + 1)
@@ -60,9 +59,6 @@ module _ (s : List ℕ) (at : ℕ) (g : Seen) (more : at < length s) where
       let b = seen-small g k t et in
       (sym (loop-goes e ek et ez) ∙ i, omega (arith, a.1, b.0), omega (arith, a.1, b.1), a.0)
 
-  pub loop-begun : 0 ≡ fault_at s g.kind at → at + 4 ≤ length s
-  loop-begun e = begun s at (passes s g.kind at (sym e)).uncut
-
 pub ends : (s : List ℕ) (at : ℕ) (g : Seen) → length s ≤ at → reads s (length s) at g ≡ read_end g
 ends s at g h = walk_end s cut_at (read_one s) read_end (length s) at g h
 
@@ -72,15 +68,3 @@ module _ (s : List ℕ) (at : ℕ) (g : Seen) (past : length s ≤ at) (i : read
 
   pub end_whole : (g.kind ≡ 0 → ⊥) → Ok (g.procs, g.vars) ≡ read_saved s
   end_whole n = sym (ends s at g past ∙ rw (ne_eqb g.kind 0 n)) ∙ i
-
--- ---- what is known behind a record, kind by kind
-
-module _ (g : Seen) {k : ℕ} where
-  pub seen-process : k ≡ process_kind → record { kind = k; procs = g.procs + 1; vars = g.vars } ≡ seen_with g k
-  seen-process e = rw e
-
-  pub seen-variable : (k ≡ process_kind → ⊥) → k ≡ variable_kind → record { kind = k; procs = g.procs; vars = g.vars + 1 } ≡ seen_with g k
-  seen-variable n e = rw e
-
-  pub seen_other : (k ≡ process_kind → ⊥) → (k ≡ variable_kind → ⊥) → record { kind = k; procs = g.procs; vars = g.vars } ≡ seen_with g k
-  seen_other n m = rw (ne_eqb k process_kind n, ne_eqb k variable_kind m)

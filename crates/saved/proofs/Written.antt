@@ -1,42 +1,40 @@
 -- What the loops of the writers and readers keep.
-use mathlib.Core.Path.{◌∙◌, ◌≡◌, sym}
-use mathlib.Core.Bool.{◌&&◌, Bool}
-use mathlib.Core.List.{[], ◌++◌, ◌∷◌, append-nil, List}
-use Prim.Native.Nat.{◌*◌, ◌+◌, ◌<◌, ◌≤◌, ℕ}
+use mathlib.Core.Path.{ap, sym, ◌∙◌, ◌≡◌}
+use mathlib.Core.Bool.{Bool, ◌&&◌}
+use mathlib.Core.List.{[], append_assoc, List, ◌++◌, ◌∷◌}
+use Prim.Native.Nat.{ℕ, ◌*◌, ◌+◌, ◌-◌, ◌<◌, ◌≤◌}
 use lib.Dec.{eqb, lit<}
-use lib.ListN.{drop, drop_of_length-le, get_or, length, take}
+use lib.ListN.{drop, get_or, length, take}
+use lib.Seq.{drop-drop}
 use native.Mathlib.Omega.{arith}
-use native.Mathlib.Nat.{add_assoc, add-zero, zero-add}
-use Rattle.std.proofs.lemmas.List.{get_or-drop, get_or-take}
-use Rattle.lay.proofs.Laws.{laid_none, laid-start, laid_then, lays-then}
+use native.Mathlib.Nat.{add-zero, add_assoc, zero-add}
+use Rattle.lay.proofs.Laws.{laid-fits, laid-start, laid_none, laid_then, lays-then}
 use Rattle.lay.specs.Lay.{laid, Lays}
 use Rattle.parlog.specs.Records.{front_size}
-use Rattle.parlog.specs.Tables.{cell_size, head_size, Lent, proc_count, rows_bytes, row_size, u16_at, var_count, written, zeros}
+use Rattle.parlog.specs.Tables.{cell_size, head_size, Lent, proc_count, row_size, rows_bytes, u16_at, var_count, written, zeros}
 use Rattle.rows.proofs.Laws.{wiped-all, zeros-length}
 use Rattle.rows.specs.Rows.{wiped}
-use Rattle.saved.proofs.Bytes.{from_at, from-length, from-none, from-snoc, head-record-length, process-record-length, rows_more, rows_none, stack-length}
-use Rattle.saved.specs.Form.{bytes_from, head_length, head_record, numbers, process_length, process_record, record_of, saved_bytes, variable_length, variable_record}
+use Rattle.saved.proofs.Bytes.{from-length, from-none, from-part, from-snoc, from_all, from_at, head-record-length, process-record-length, rows_more, rows_none, stack-length}
+use Rattle.saved.specs.Form.{bytes_from, head_length, head_record, numbers, process_length, process_record, saved_bytes, variable_length, variable_record}
 use Rattle.saved.specs.Restored.{counts_agree, head_in, process_in, variable_in}
 
 -- ---- laid one behind the other
 
-module _ (o row : List ℕ) (at from : ℕ) where
-  pub bytes-none : Lays o o at (bytes_from row from 0) at
-  bytes-none = record { row = rw (from-none row from) (sym (laid_none o at)); place = rw (from-none row from) (sym (add-zero at)) }
-
-  bytes-more : (k : ℕ) {p q : List ℕ} {m r : ℕ} → Lays o p at (bytes_from row from k) m → Lays p q m (get_or row (from + k) 0 ∷ []) r → Lays o q at (bytes_from row from (k + 1)) r
-  bytes-more k a b = rw (from-snoc row from k) (lays-then a b)
+module _ (o row : List ℕ) (at : ℕ) where
+  pub bytes-none : Lays o o at (bytes_from row 0 0) at
+  bytes-none = record { row = rw (from-none row 0) (sym (laid_none o at)); place = rw (from-none row 0) (sym (add-zero at)) }
 
   -- one byte more
-  pub bytes-step : (k n : ℕ) {p q : List ℕ} {m r : ℕ} → k < n → m ≡ at + k → Lays o p at (bytes_from row from k) m → Lays p q m (get_or (take n (drop from row)) k 0 ∷ []) r
-      → (r ≡ at + (k + 1)) × Lays o q at (bytes_from row from (k + 1)) r
-  bytes-step k n {m = m} {r} h e a b =
+  pub bytes-step : (k : ℕ) {p q : List ℕ} {m r : ℕ} → m ≡ at + k → Lays o p at (bytes_from row 0 k) m → Lays p q m (get_or row k 0 ∷ []) r
+      → (r ≡ at + (k + 1)) × Lays o q at (bytes_from row 0 (k + 1)) r
+  bytes-step k {m = m} {r} e a b =
       let z : r ≡ m + 1 = b.place in
-      let same : get_or (take n (drop from row)) k 0 ≡ get_or row (from + k) 0 = get_or-take n (drop from row) k 0 h ∙ get_or-drop from row k 0 in
-      (omega arith, bytes-more k a (rw same at b))
+      let same : get_or row (0 + k) 0 ≡ get_or row k 0 = rw zero-add in
+      (omega arith, rw (from-snoc row 0 k) (lays-then a (rw (← same) at b)))
 
-  pub bytes-place : (n : ℕ) {p : List ℕ} {r : ℕ} → Lays o p at (bytes_from row from n) r → r ≡ at + n
-  bytes-place n a = a.place ∙ rw (from-length row from n)
+  -- all bytes
+  pub bytes-done : {k : ℕ} {p : List ℕ} {m : ℕ} → k ≡ length row → Lays o p at (bytes_from row 0 k) m → Lays o p at row m
+  bytes-done {k} e a = rw (from_all row k (sym e)) at a
 
 module _ (f : ℕ → List ℕ) (o : List ℕ) (at : ℕ) where
   pub stack-none : Lays o o at (rows_bytes f (numbers 0)) at
@@ -47,10 +45,15 @@ module _ (f : ℕ → List ℕ) (o : List ℕ) (at : ℕ) where
       → (r ≡ m + size) × Lays o q at (rows_bytes f (numbers (i + 1))) r
   stack-step i size sized a b = (b.place ∙ rw sized, rw (rows_more f i) (lays-then a b))
 
-pub record-place : (o row : List ℕ) (at from n size kind : ℕ) {p : List ℕ} {r : ℕ} → Lays o p at (record_of size kind (bytes_from row from n)) r → r ≡ at + (4 + n)
-record-place o row at from n size kind {r = r} a = let e : r ≡ at + length (record_of size kind (bytes_from row from n)) = a.place in omega (arith, from-length row from n)
-
 -- ---- rows into a table of zeros
+
+-- a part of a row copied into another
+pub part-laid : (s o : List ℕ) (from at n : ℕ) {q : List ℕ} → q ≡ take (from + n - from) (drop from s) → from + n ≤ length s → at + n ≤ length o → take at o ++ (q ++ drop (at + n - at) (drop at o)) ≡ laid o at (bytes_from s from n)
+part-laid s o from at n e f h =
+    let z : at + n - at ≡ n = omega arith in
+    let m = from-length s from n in
+    let b : List ℕ = bytes_from s from n in
+    rw (z, e, ← from-part s from n f, drop-drop n at o) (sym (append_assoc (take at o) b (drop (at + n) o)) ∙ ap (λ (k : ℕ). take at o ++ b ++ drop (at + k) o) (sym m) ∙ sym (laid-fits b o at (omega arith)))
 
 module _ (f : ℕ → List ℕ) (size : ℕ) (sized : (i : ℕ) → length (f i) ≡ size) (z : List ℕ) where
   pub rows-laid : {p q : List ℕ} (i : ℕ) → p ≡ laid z 0 (rows_bytes f (numbers i)) → q ≡ laid p (i * size) (f i) → q ≡ laid z 0 (rows_bytes f (numbers (i + 1)))
@@ -84,14 +87,6 @@ process-in-length x i = from-length x (head_length + i * process_length + front_
 
 pub variable-in-length : (x : List ℕ) (a v : ℕ) → length (variable_in x a v) ≡ cell_size
 variable-in-length x a v = from-length x (head_length + a * process_length + v * variable_length + front_size) cell_size
-
--- a whole row
-pub head_done : (h bs : List ℕ) {p : List ℕ} → length bs ≡ length h → p ≡ laid h 0 bs → p ≡ bs
-head_done h bs same e =
-    let long : length bs ≤ length h = omega arith in
-    let short : length h ≤ length bs = omega arith in
-    let none : drop (length bs) h ≡ [] = drop_of_length-le h short in
-    e ∙ laid-start bs h long ∙ rw none (append-nil bs)
 
 -- ---- the whole
 

@@ -1,11 +1,13 @@
 -- The tests of a saved run's records: refusals 2, 3, 4 and 18, or how many processes and variables there are.
 use Rattle.parlog.specs.Answer.{Answer}
-use Rattle.std.specs.Prelude.{◌&&◌, ◌||◌, Bool, cond, not, List, ◌+◌, ℕ, eqb, ltb, length, Err, None, Ok, Option, Some}
+use Rattle.std.specs.Prelude.{◌≡◌, ◌≢◌, Result, ◌&&◌, ◌||◌, Bool, cond, not, List, ◌+◌, ℕ, eqb, ltb, length, Err, None, Ok, Option, Some}
 use Rattle.parlog.specs.Load.{refusal}
 use Rattle.parlog.specs.Records.{cut, front_size, kind_at, walk, word_at}
 use Rattle.parlog.specs.Tables.{head_size}
 use Rattle.saved.specs.Form.{current_rule, former_length, head_kind, length_of, process_kind, variable_kind}
-use Rattle.saved.specs.declared.Seen.{Seen}
+use Rattle.saved.specs.Kinds.{kind_of, number_before, number_of}
+use Rattle.saved.specs.declared.Kind.{Kind}
+use Rattle.saved.specs.declared.SoFar.{SoFar}
 
 -- Saved 6: the first record is the head's; a later one is no head's, of a kind that there is, and no lower than the one before
 unfoldable pub kind_wrong : ℕ → ℕ → Bool
@@ -43,6 +45,12 @@ fault_at x before at = cond (cut x at) 2 (cond (kind_wrong before (kind_at x at)
 abbrev pub some_fault : ℕ → Option ℕ
 some_fault n = cond (eqb n 0) None (Some n)
 
+-- what is known between two records: the kind of the one before, 0 where there is none, and how many processes and variables were read
+pub record Seen : Type 0 where
+  pub kind : ℕ
+  pub procs : ℕ
+  pub vars : ℕ
+
 -- what is known behind a record of this kind
 abbrev pub seen_with : Seen → ℕ → Seen
 seen_with g kind = record {
@@ -76,3 +84,18 @@ reads x n at g = walk x cut_at (read_one x) read_end n at g
 -- Saved 5: from the first on
 unfoldable pub read_saved : List ℕ → Answer (ℕ × ℕ)
 read_saved x = reads x (length x) 0 nothing_seen
+
+-- ---- contracts
+
+-- the kind of this number, where a record of it may stand behind one of kind `before`
+abbrev pub kind_behind : ℕ → ℕ → Option Kind
+kind_behind before kind = cond (kind_wrong before kind) None (kind_of kind)
+
+-- the tests of a record: its kind, or the number of the first that it fails
+abbrev pub TestedSays : List ℕ → ℕ → ℕ → Result Kind ℕ → Type 0
+TestedSays x before at (Ok k) = (fault_at x before at ≡ 0) × (kind_at x at ≡ number_of k)
+TestedSays x before at (Err n) = (n ≡ fault_at x before at) × (n ≢ 0)
+
+-- what is known, by numbers
+abbrev pub known : SoFar → Seen
+known g = record { kind = number_before g.kind; procs = g.procs; vars = g.vars }

@@ -1,25 +1,28 @@
 // A run as a file in the house form: its records written one behind the other, tested, and read back into tables.
 // Processes and variables come as bytes, and the head has their counts: so the C interface lends them.
+// Kept, head, processes and variables as three rows: `write` alone reads all three and knows their lengths, and `restore` writes them, so that a struct would be made for one function.
 #![tactic(auto)]
 
 ghost use Rattle.std.specs.Prelude.{◌≡◌, cond, false, not, ◌+◌, ◌*◌, ◌≤◌, ◌<◌, eqb, length, Err};
 ghost use Rattle.parlog.specs.Records.{cut, kind_at};
 ghost use Rattle.parlog.specs.Tables.{cell_size, head_size, lent, proc_count, rows_bytes, row_size, var_count};
 ghost use Rattle.lay.specs.Lay.{Lays};
-ghost use Rattle.saved.specs.Form.{bytes_from, head_record, length_of, numbers, process_record, record_of, saved_bytes, saved_size, variable_record};
-ghost use Rattle.saved.specs.Reading.{fault_at, form_fault, kind_wrong, read_saved, seen_with, some_fault};
+ghost use Rattle.saved.specs.Form.{head_kind, head_record, length_of, numbers, process_record, record_of, saved_bytes, saved_size, variable_record};
+ghost use Rattle.saved.specs.Kinds.{number_of, kind_of, number_before};
+ghost use Rattle.saved.specs.Reading.{form_fault, kind_behind, kind_wrong, known, read_saved, seen_with, some_fault, TestedSays};
 ghost use Rattle.saved.specs.Restored.{cells_in, counts_agree, image_length, RestoreSays, rows_in};
 
 use parlog::{Answer, Refusal, codes};
 
 // ---- the form
 
-// Kinds of records.
-pub const HEAD_KIND: usize = 16;
-
-pub const PROCESS_KIND: usize = 17;
-
-pub const VARIABLE_KIND: usize = 18;
+// Kinds of records, each with its number.
+#[derive(Clone, Copy)]
+pub enum Kind {
+    Head = 16,
+    Process = 17,
+    Variable = 18,
+}
 
 // The one length of each kind.
 pub const HEAD_LENGTH: usize = 18;
@@ -46,12 +49,62 @@ const IMAGE_LENGTH: usize = codes::RECORD_BODY + codes::HEAD_SIZE;
 
 const RULE_AT: usize = IMAGE_LENGTH + 2;
 
-// What is known of a saved run between two records: the kind of the one before, 0 where there is none, and how many processes and variables were read.
+// What is known of a saved run between two records: the kind of the one before, where there is one, and how many processes and variables were read.
 #[derive(Clone, Copy)]
-pub struct Seen {
-    pub kind: usize,
-    pub procs: usize,
-    pub vars: usize,
+struct SoFar {
+    kind: Option<Kind>,
+    procs: usize,
+    vars: usize,
+}
+
+impl Kind {
+    // The kind of this number, where there is one.
+    // Kept, no `TryFrom`, here and in `load_names` and `trace`: it answers a Result, whose Err would have nothing to tell.
+    fn of(number: usize) -> Option<Kind>
+        ensures { result ≡ kind_of number }
+    {
+        match number {
+            16 => Some(Kind::Head),
+            17 => Some(Kind::Process),
+            18 => Some(Kind::Variable),
+            _ => None,
+        }
+    }
+
+    // Its number.
+    fn number(self) -> usize
+        ensures { (result ≡ number_of self) × (result ≤ 18) }
+    {
+        self as usize
+    }
+
+    // The one length of its records.
+    fn length(self) -> usize
+        ensures { (result ≡ length_of (number_of self)) × (result ≤ 28) }
+    {
+        match self {
+            Kind::Head => HEAD_LENGTH,
+            Kind::Process => PROCESS_LENGTH,
+            Kind::Variable => VARIABLE_LENGTH,
+        }
+    }
+
+    // It is the head's.
+    fn is_head(self) -> bool
+        ensures { result ≡ eqb (number_of self) head_kind }
+    {
+        matches!(self, Kind::Head)
+    }
+
+    // The first record is the head's; a later one is not, and of no lower kind than the one before.
+    fn may_follow(self, before: Option<Kind>) -> bool
+        ensures { result ≡ not (kind_wrong (number_before before) (number_of self)) }
+    {
+        match before {
+            None => self.is_head(),
+            Some(kind) => !self.is_head() & (kind.number() <= self.number()),
+        }
+    }
 }
 
 // How many bytes a saved run of n processes and m variables has.
@@ -64,34 +117,29 @@ pub fn size(n: usize, m: usize) -> usize
 
 // ---- writing
 
-// n bytes of a row from a place.
-fn put_bytes(out: &mut [u8], at: usize, row: &[u8], from: usize, n: usize) -> usize
-    requires { (at + n ≤ 4294967295) × (from + n ≤ length row.now) }
-    ensures { Lays out.old out.new at (bytes_from row.now from n) result }
+// Kept, a row and a place, as in `lay` and `trace::put_record`: each writer answers the place behind what it wrote, which `Lays` says in one fact and the next one begins at;
+// a struct of both would have the bound on its place to prove at each writer too.
+
+// The bytes of a row.
+fn put_bytes(out: &mut [u8], at: usize, row: &[u8]) -> usize
+    requires { at + length row.now ≤ 4294967295 }
+    ensures { Lays out.old out.new at row.now result }
 {
     let mut next = at;
-    for byte in &row[from..from + n] {
+    for byte in row {
         next = lay::put(out, next, *byte);
     }
     next
 }
 
-// A record of this length and kind, with n bytes of a row for its body.
-fn put_record(
-    out: &mut [u8],
-    at: usize,
-    size: usize,
-    kind: usize,
-    row: &[u8],
-    from: usize,
-    n: usize,
-) -> usize
-    requires { (at + n + 4 ≤ 4294967295) × (from + n ≤ length row.now) }
-    ensures { Lays out.old out.new at (record_of size kind (bytes_from row.now from n)) result }
+// A record of this kind, as far as this body.
+fn put_record(out: &mut [u8], at: usize, kind: Kind, body: &[u8]) -> usize
+    requires { at + length body.now + 4 ≤ 4294967295 }
+    ensures { Lays out.old out.new at (record_of (length_of (number_of kind)) (number_of kind) body.now) result }
 {
-    let second = lay::put2(out, at, size);
-    let body = lay::put2(out, second, kind);
-    put_bytes(out, body, row, from, n)
+    let second = lay::put2(out, at, kind.length());
+    let third = lay::put2(out, second, kind.number());
+    put_bytes(out, third, body)
 }
 
 // The head's record, at the front of the row.
@@ -99,7 +147,7 @@ fn put_head(out: &mut [u8], head: &[u8], image: usize) -> usize
     requires { head_size ≤ length head.now }
     ensures { Lays out.old out.new 0 (head_record head.now image) result }
 {
-    let last = put_record(out, 0, HEAD_LENGTH, HEAD_KIND, head, 0, codes::HEAD_SIZE);
+    let last = put_record(out, 0, Kind::Head, &head[..codes::HEAD_SIZE]);
     let rule = lay::put2(out, last, image);
     lay::put2(out, rule, RULE)
 }
@@ -111,35 +159,31 @@ fn put_processes(out: &mut [u8], at: usize, procs: &[u8], n: usize) -> usize
 {
     let mut next = at;
     for i in 0..n {
+        let from = i * codes::ROW_SIZE;
         next = put_record(
             out,
             next,
-            PROCESS_LENGTH,
-            PROCESS_KIND,
-            procs,
-            i * codes::ROW_SIZE,
-            codes::ROW_SIZE,
+            Kind::Process,
+            &procs[from..from + codes::ROW_SIZE],
         );
     }
     next
 }
 
 // The records of the first n variables.
-// Kept beside that of processes: one for both would take the size, the kind and the length of a row too, under bounds that differ.
+// Kept beside that of processes: one for both would take the size and the kind of a row too, under bounds that differ.
 fn put_variables(out: &mut [u8], at: usize, vars: &[u8], n: usize) -> usize
     requires { (at ≤ 4194304) × (n ≤ 65535) × (n * cell_size ≤ length vars.now) }
     ensures { Lays out.old out.new at (rows_bytes (variable_record vars.now) (numbers n)) result }
 {
     let mut next = at;
     for i in 0..n {
+        let from = i * codes::CELL_SIZE;
         next = put_record(
             out,
             next,
-            VARIABLE_LENGTH,
-            VARIABLE_KIND,
-            vars,
-            i * codes::CELL_SIZE,
-            codes::CELL_SIZE,
+            Kind::Variable,
+            &vars[from..from + codes::CELL_SIZE],
         );
     }
     next
@@ -160,6 +204,7 @@ pub fn write(out: &mut [u8], head: &[u8], procs: &[u8], vars: &[u8], image: usiz
 // ---- the tests of the records
 
 // 2, CUT: by what is left of the bytes, so that no place leads past the largest number.
+// Kept here, at `tested` and at `trace::record_fault`, that the place is in the row: each is asked once a record, of a place that the loop over the records tests.
 pub fn cut(s: &[u8], at: usize) -> bool
     requires { at < length s.now }
     ensures { result ≡ cut s.now at }
@@ -172,92 +217,79 @@ pub fn cut(s: &[u8], at: usize) -> bool
     (w < codes::RECORD_BODY) | (rest < w)
 }
 
-// 3, KIND: the first record is the head's, a later one is of a process or a variable and no lower than the one before.
-fn kind_wrong(before: usize, kind: usize) -> bool
-    ensures { result ≡ kind_wrong before kind }
+// 3, KIND: the kind of this number, where it may stand behind one of kind `before`.
+fn kind_behind(before: Option<Kind>, number: usize) -> Option<Kind>
+    ensures { result ≡ kind_behind (number_before before) number }
 {
-    if before == 0 {
-        return kind != HEAD_KIND;
-    }
-    let high = (VARIABLE_KIND < kind) | (kind < before);
-    (kind < PROCESS_KIND) | high
-}
-
-// The one length of a kind.
-fn length_of(kind: usize) -> usize
-    ensures { (result ≡ length_of kind) × (result ≤ 28) }
-{
-    if kind == HEAD_KIND {
-        return HEAD_LENGTH;
-    }
-    if kind == PROCESS_KIND {
-        return PROCESS_LENGTH;
-    }
-    VARIABLE_LENGTH
+    let kind = Kind::of(number)?;
+    kind.may_follow(before).then_some(kind)
 }
 
 // 18 where the rule number is another than the current one.
 fn rule_fault(rule: usize) -> Option<u8>
     ensures { result ≡ some_fault (cond (not (eqb rule 2)) 18 0) }
 {
-    if rule == RULE { None } else { Some(OLDRULE) }
+    (rule != RULE).then_some(OLDRULE)
 }
 
 // The form of a whole record of this kind: 18 for the head's in its former length, 4 for another length, 18 for another rule number.
-fn form_fault(s: &[u8], at: usize, kind: usize) -> Option<u8>
-    requires { (cut s.now at ≡ false) × (kind ≡ kind_at s.now at) }
+fn form_fault(s: &[u8], at: usize, kind: Kind) -> Option<u8>
+    requires { (cut s.now at ≡ false) × (number_of kind ≡ kind_at s.now at) }
     ensures { result ≡ some_fault (form_fault s.now at) }
 {
     let size = place::word_in(s, at);
-    let former = (kind == HEAD_KIND) & (size == FORMER_LENGTH);
+    let former = kind.is_head() & (size == FORMER_LENGTH);
     if former {
         return Some(OLDRULE);
     }
-    if size != length_of(kind) {
+    if size != kind.length() {
         return Some(codes::BODY);
     }
-    if kind != HEAD_KIND {
+    if !kind.is_head() {
         return None;
     }
     let rule = place::word_in(s, at + RULE_AT);
     rule_fault(rule)
 }
 
-// The tests of a record, 2, 3, then those of its form: the refusal's number.
-fn fault(s: &[u8], at: usize, before: usize) -> Option<u8>
+// The tests of a record, 2, 3, then those of its form: its kind, or the refusal's number.
+fn tested(s: &[u8], at: usize, before: Option<Kind>) -> Result<Kind, u8>
     requires { at < length s.now }
-    ensures { result ≡ some_fault (fault_at s.now before at) }
+    ensures { TestedSays s.now (number_before before) at result }
 {
     if cut(s, at) {
-        return Some(codes::CUT);
+        return Err(codes::CUT);
     }
-    let kind = place::word_in(s, at + codes::RECORD_KIND);
-    if kind_wrong(before, kind) {
-        return Some(codes::KIND);
+    let number = place::word_in(s, at + codes::RECORD_KIND);
+    let Some(kind) = kind_behind(before, number) else {
+        return Err(codes::KIND);
+    };
+    match form_fault(s, at, kind) {
+        None => Ok(kind),
+        Some(fault) => Err(fault),
     }
-    form_fault(s, at, kind)
 }
 
 // What is known behind a record of this kind.
-fn seen_with(g: Seen, kind: usize) -> Seen
+fn seen_with(g: SoFar, kind: Kind) -> SoFar
     requires { (g.procs < 18446744073709551615) × (g.vars < 18446744073709551615) }
-    ensures { result ≡ seen_with g kind }
+    ensures { known result ≡ seen_with (known g) (number_of kind) }
 {
-    if kind == PROCESS_KIND {
-        return Seen {
-            kind,
+    let g = SoFar {
+        kind: Some(kind),
+        ..g
+    };
+    match kind {
+        Kind::Head => g,
+        Kind::Process => SoFar {
             procs: g.procs + 1,
             ..g
-        };
-    }
-    if kind == VARIABLE_KIND {
-        return Seen {
-            kind,
+        },
+        Kind::Variable => SoFar {
             vars: g.vars + 1,
             ..g
-        };
+        },
     }
-    Seen { kind, ..g }
 }
 
 // The records of a saved run in their order: how many processes and variables, or the first refusal.
@@ -266,20 +298,20 @@ pub fn read(s: &[u8]) -> Answer<(usize, usize)>
 {
     let n = s.len();
     let mut at = 0;
-    let mut g = Seen {
-        kind: 0,
+    let mut g = SoFar {
+        kind: None,
         procs: 0,
         vars: 0,
     };
     while at < n {
-        if let Some(number) = fault(s, at, g.kind) {
-            return Err(Refusal { number, offset: at });
-        }
-        let kind = place::word_in(s, at + codes::RECORD_KIND);
+        let kind = match tested(s, at, g.kind) {
+            Ok(kind) => kind,
+            Err(number) => return Err(Refusal { number, offset: at }),
+        };
         g = seen_with(g, kind);
-        at += length_of(kind);
+        at += kind.length();
     }
-    if g.kind == 0 {
+    if g.kind.is_none() {
         return Err(Refusal {
             number: codes::KIND,
             offset: 0,
@@ -316,7 +348,8 @@ fn take_processes(s: &[u8], n: usize, procs: &mut [u8])
     rows::wipe(procs, 0, procs.len());
     for i in 0..n {
         let from = HEAD_LENGTH + i * PROCESS_LENGTH + codes::RECORD_BODY;
-        put_bytes(procs, i * codes::ROW_SIZE, s, from, codes::ROW_SIZE);
+        let to = i * codes::ROW_SIZE;
+        procs[to..to + codes::ROW_SIZE].copy_from_slice(&s[from..from + codes::ROW_SIZE]);
     }
 }
 
@@ -329,7 +362,8 @@ fn take_variables(s: &[u8], a: usize, n: usize, vars: &mut [u8])
     rows::wipe(vars, 0, vars.len());
     for i in 0..n {
         let from = HEAD_LENGTH + a * PROCESS_LENGTH + i * VARIABLE_LENGTH + codes::RECORD_BODY;
-        put_bytes(vars, i * codes::CELL_SIZE, s, from, codes::CELL_SIZE);
+        let to = i * codes::CELL_SIZE;
+        vars[to..to + codes::CELL_SIZE].copy_from_slice(&s[from..from + codes::CELL_SIZE]);
     }
 }
 
@@ -338,7 +372,7 @@ pub fn restore(s: &[u8], a: usize, b: usize, head: &mut [u8], procs: &mut [u8], 
     requires { (a ≤ 65535) × (b ≤ 65535) × (18 + a * 28 + b * 8 ≤ length s.now) × (length head.old ≡ head_size) × (a * row_size ≤ length procs.old) × (length procs.old ≤ 4194304) × (b * cell_size ≤ length vars.old) × (length vars.old ≤ 4194304) }
     ensures { RestoreSays s.now a b (length procs.old) (length vars.old) head.new procs.new vars.new }
 {
-    put_bytes(head, 0, s, codes::RECORD_BODY, codes::HEAD_SIZE);
+    head.copy_from_slice(&s[codes::RECORD_BODY..codes::RECORD_BODY + codes::HEAD_SIZE]);
     take_processes(s, a, procs);
     take_variables(s, a, b, vars);
 }

@@ -5,14 +5,11 @@ use mathlib.Core.List.{[], ◌++◌, ◌∷◌, append_assoc, List}
 use Prim.Native.Nat.{◌+◌, ℕ}
 use borrow.Author.Tests.{le-leb}
 use native.Mathlib.Omega.{arith}
+use Rattle.std.proofs.lemmas.Bool.{and_parts}
 use Rattle.spell.specs.Forms.{◌or◌, ◌then◌, Form, in_span, many, nothing, read_byte, read-end, read_left, read_more, read_none, read_right, read_then, Reads, span}
 use Rattle.spell.specs.Stuck.{after, afters, all_behind, any_ends, behind, ends, hit, only}
 
 -- ---- Booleans
-
-pub both_true : (a b : Bool) → (a && b) ≡ true → (a ≡ true) × (b ≡ true)
-both_true true b e = (refl, e)
-both_true false b e = absurd (let z : ◌≡◌ {A = ℕ} 0 1 = cc in omega arith)
 
 pub both : {a b : Bool} → a ≡ true → b ≡ true → (a && b) ≡ true
 both e f = rw (e, f)
@@ -102,7 +99,7 @@ unfolding ends
 ends-reads nothing e = read_none
 ends-reads (span a n) e = absurd (let z : ◌≡◌ {A = ℕ} 0 1 = cc in omega arith)
 ends-reads (x then y) e =
-    let w = both_true (ends x) (ends y) e in read_then (ends-reads x w.0) (ends-reads y w.1)
+    let w = and_parts (ends x) (ends y) e in read_then (ends-reads x w.0) (ends-reads y w.1)
 ends-reads (x or y) e = or_cases (ends x) (ends y) e (λ f. read_left (ends-reads x f)) (λ f. read_right (ends-reads y f))
 ends-reads (many x) e = read-end
 

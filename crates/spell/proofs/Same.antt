@@ -7,7 +7,7 @@ use native.Mathlib.Omega.{arith}
 use borrow.Author.Tests.{eqb-true, eqb-false}
 use lib.Dec.{eqb}
 use Rattle.spell.specs.Forms.{Form, ◌or◌, ◌then◌, many, nothing, span}
-use Rattle.spell.proofs.Language.{both_true}
+use Rattle.std.proofs.lemmas.Bool.{and_parts}
 
 abbrev is_nothing : Form → Bool
 is_nothing nothing = true
@@ -62,19 +62,19 @@ same-is nothing (x then y) e = never e
 same-is nothing (x or y) e = never e
 same-is nothing (many x) e = never e
 same-is (span a n) nothing e = never e
-same-is (span a n) (span c m) e = let w = both_true (eqb a c) (eqb n m) e in rw (eqb-true a c w.0, eqb-true n m w.1)
+same-is (span a n) (span c m) e = let w = and_parts (eqb a c) (eqb n m) e in rw (eqb-true a c w.0, eqb-true n m w.1)
 same-is (span a n) (x then y) e = never e
 same-is (span a n) (x or y) e = never e
 same-is (span a n) (many x) e = never e
 same-is (p then q) nothing e = never e
 same-is (p then q) (span a n) e = never e
-same-is (p then q) (x then y) e = let w = both_true (same p x) (same q y) e in rw (same-is p x w.0, same-is q y w.1)
+same-is (p then q) (x then y) e = let w = and_parts (same p x) (same q y) e in rw (same-is p x w.0, same-is q y w.1)
 same-is (p then q) (x or y) e = never e
 same-is (p then q) (many x) e = never e
 same-is (p or q) nothing e = never e
 same-is (p or q) (span a n) e = never e
 same-is (p or q) (x then y) e = never e
-same-is (p or q) (x or y) e = let w = both_true (same p x) (same q y) e in rw (same-is p x w.0, same-is q y w.1)
+same-is (p or q) (x or y) e = let w = and_parts (same p x) (same q y) e in rw (same-is p x w.0, same-is q y w.1)
 same-is (p or q) (many x) e = never e
 same-is (many p) nothing e = never e
 same-is (many p) (span a n) e = never e
@@ -93,7 +93,7 @@ unfolding sames
 sames-is [] [] e = refl
 sames-is [] (y ∷ ys) e = never e
 sames-is (x ∷ xs) [] e = never e
-sames-is (x ∷ xs) (y ∷ ys) e = let w = both_true (same x y) (sames xs ys) e in rw (same-is x y w.0, sames-is xs ys w.1)
+sames-is (x ∷ xs) (y ∷ ys) e = let w = and_parts (same x y) (sames xs ys) e in rw (same-is x y w.0, sames-is xs ys w.1)
 
 -- a test of every number below n
 unfoldable pub every : (ℕ → Bool) → ℕ → Bool
@@ -108,5 +108,5 @@ pub every-at : (t : ℕ → Bool) (n i : ℕ) → every t n ≡ true → i < n �
 unfolding every
 every-at t zero i e h = absurd (omega arith)
 every-at t (suc n) i e h =
-    let w = both_true (t n) (every t n) e in
+    let w = and_parts (t n) (every t n) e in
     cases (eqb i n) (λ z. rw (eqb-true i n z) w.0) (λ z. every-at t n i w.1 (omega (arith, eqb-false i n z)))

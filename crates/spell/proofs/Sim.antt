@@ -11,7 +11,8 @@ use borrow.Author.Tests.{eq-eqb, eqb-false, eqb-true, ltb-true, ne_eqb}
 use native.Mathlib.Omega.{arith}
 use native.Mathlib.Numerals.{add-one}
 use Rattle.spell.proofs.Alike.{afters-alike, afters-keep, alike, alikes, beq-is}
-use Rattle.spell.proofs.Language.{both, both_true}
+use Rattle.std.proofs.lemmas.Bool.{and_parts}
+use Rattle.spell.proofs.Language.{both}
 use Rattle.spell.proofs.Same.{every-at, sames-is}
 use Rattle.spell.proofs.Tested.{along, byte_right, bytes-right, cell_right, cells_right, empty, row_right, rows_right, sort, stands, state_right, states-right, step_right}
 use Rattle.spell.proofs.Ways.{sort_count, sort_of, ways}
@@ -32,9 +33,9 @@ pub record Byte (b : ℕ) : Type 0 where
 pub byte : (b : ℕ) → b < 256 → Byte b
 unfolding byte_right
 byte b h =
-    let w = both_true (alike b (sort (get_or sort_of b 0)) text) _ (every-at byte_right 256 b bytes-right h) in
-    let v = both_true (ltb (get_or sort_of b 0) sort_count) _ w.1 in
-    let u = both_true (eqb (get_or kinds b 0) (get_or kinds (sort (get_or sort_of b 0)) 0)) _ v.1 in
+    let w = and_parts (alike b (sort (get_or sort_of b 0)) text) _ (every-at byte_right 256 b bytes-right h) in
+    let v = and_parts (ltb (get_or sort_of b 0) sort_count) _ w.1 in
+    let u = and_parts (eqb (get_or kinds b 0) (get_or kinds (sort (get_or sort_of b 0)) 0)) _ v.1 in
     record { like = w.0; sorted = ltb-true _ _ v.0; one-kind = eqb-true _ _ u.0; kind = ltb-true _ _ u.1 }
 
 follows-small : (q b : ℕ) → q < states → b < 256 → follows q b < states
@@ -70,11 +71,11 @@ stands-step q b hq hb =
 
 state-ends : (q : ℕ) → q < states → any_ends (stands q) ≡ eqb q last_state
 unfolding state_right
-state-ends q h = beq-is _ _ (both_true (beq (any_ends (stands q)) (eqb q last_state)) _ (every-at state_right states q states-right h)).0
+state-ends q h = beq-is _ _ (and_parts (beq (any_ends (stands q)) (eqb q last_state)) _ (every-at state_right states q states-right h)).0
 
 state-empty : (q : ℕ) → q < states → empty (stands q) ≡ eqb q 0
 unfolding state_right
-state-empty q h = beq-is _ _ (both_true (beq (any_ends (stands q)) (eqb q last_state)) _ (every-at state_right states q states-right h)).1
+state-empty q h = beq-is _ _ (and_parts (beq (any_ends (stands q)) (eqb q last_state)) _ (every-at state_right states q states-right h)).1
 
 -- ---- runs
 

@@ -13,9 +13,9 @@ fn follows(ks: &[u8; 256], rs: &[u16; 1240], row: usize, b: u8) -> usize
     requires { (ks.now ≡ kinds) × (rs.now ≡ steps) × (row + kind_count ≤ cell_count) }
     ensures { (result ≡ row_after row b) × (result + kind_count ≤ cell_count) }
 {
-    let at = basics::wide(b);
-    let to = row + basics::wide(ks[at]);
-    basics::wide_u16(rs[to])
+    let kind = usize::from(ks[usize::from(b)]);
+    let to = row + kind;
+    usize::from(rs[to])
 }
 
 // The run over the tables.
@@ -37,6 +37,7 @@ fn scan(ks: &[u8; 256], rs: &[u16; 1240], text: &[u8]) -> Result<(), usize>
 }
 
 // 16, TEXT.
+#[tactic(auto, unfolding(crate::specs::Rows::kinds, crate::specs::Rows::rows, crate::specs::Table::steps))]
 pub fn spelling(text: &[u8]) -> Result<(), usize>
     ensures { result ≡ spelling_of text.now }
 {

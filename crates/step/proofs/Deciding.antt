@@ -44,8 +44,8 @@ pub not-waiting : (ps : List Process) (p : ℕ) {k : ℕ} {t : Told} → k ≡ (
 not-waiting ps p e ne h = absurd (ne (e ∙ h))
 
 -- what fits is within the limits
-pub room_for : (lim : Limits) (n m : ℕ) (pl : Plan) {b : Bool} → b ≡ fits_in lim.procs lim.vars n m pl → b ≡ true → (n + pl.count ≤ lim.procs) × (m + pl.fresh ≤ lim.vars)
-room_for lim n m pl eb q = (fits-procs lim.procs lim.vars n m pl (sym eb ∙ q), fits-vars lim.procs lim.vars n m pl (sym eb ∙ q))
+pub room_for : (lim : Limits) (n m : ℕ) (pl : Plan) {b : Bool} → b ≡ fits_in lim.procs lim.vars n m pl.count pl.fresh → b ≡ true → (n + pl.count ≤ lim.procs) × (m + pl.fresh ≤ lim.vars)
+room_for lim n m pl eb q = (fits-procs lim.procs lim.vars n m pl.count pl.fresh (sym eb ∙ q), fits-vars lim.procs lim.vars n m pl.count pl.fresh (sym eb ∙ q))
 
 module _ (lim : Limits) (s : List ℕ) (r c : ℕ) (l : Lent) (i : Inside lim s r c l) where
   abbrev pr : Program
@@ -76,9 +76,9 @@ module _ (lim : Limits) (s : List ℕ) (r c : ℕ) (l : Lent) (i : Inside lim s 
 
   pub rule-asks : Usable lim → lim.vars ≤ 60000 → (p : ℕ) → p < proc_count l.head → {n m : ℕ} → n ≡ proc_count l.head → n ≤ 65535 → m ≡ var_count l.head
       → {t : Told} → ((at (procs_of l.procs (proc_count l.head)) p).mode ≡ 3 → Tells (procs_of l.procs (proc_count l.head)) p t)
-      → (r ≤ 32) × (c ≤ 64) × (n * row_size ≤ length l.procs) × (n ≤ 65535) × (m * cell_size ≤ length l.vars) × (m ≤ 60000) × (p < n) × Legal pr (state_in l.procs n l.vars m) p
+      → (n ≤ 65535) × (m ≤ 60000) × (p < n) × Legal pr (state_in l.procs n l.vars m) p
       × ((at (procs_of l.procs n) p).mode ≡ 3 → Tells (procs_of l.procs n) p t)
-  rule-asks ok few p h en hn em told = (i.relations, i.clauses, rw en i.rows, hn, rw em i.cells, omega (arith, i.vars_most, few, em), rw en h, may-move ok p h en em, told_of l.procs p en told)
+  rule-asks ok few p h en hn em told = (hn, omega (arith, i.vars_most, few, em), rw en h, may-move ok p h en em, told_of l.procs p en told)
 
   pub fits-asks : {n m : ℕ} → n ≡ proc_count l.head → m ≡ var_count l.head → (n ≤ lim.procs) × (m ≤ lim.vars)
   fits-asks en em = (rw en i.procs_most, rw em i.vars_most)
@@ -86,9 +86,9 @@ module _ (lim : Limits) (s : List ℕ) (r c : ℕ) (l : Lent) (i : Inside lim s 
 -- ---- what the callees of the writing ask
 
 module _ (lim : Limits) (l : Lent) (p : ℕ) (pl : Plan) (can : Carries lim l p pl) {n m : ℕ} (en : n ≡ proc_count l.head) (em : m ≡ var_count l.head) where
-  pub write-asks : ((n + pl.count) * row_size ≤ length l.procs) × (pl.count ≤ new_most) × (p < n) × Falls (procs_of l.procs n) × ((m + pl.fresh) * cell_size ≤ length l.vars) × (pl.changes.count ≤ 4)
+  pub write-asks : ((n + pl.count) * row_size ≤ length l.procs) × (pl.count ≤ new_most) × (p < n) × Falls (procs_of l.procs n) × ((m + pl.fresh) * cell_size ≤ length l.vars)
       × Within (m + pl.fresh) pl.changes.count pl.changes.list × (n ≤ most_rows)
-  write-asks = (rw en can.rows, can.new, rw en can.mover, rw en can.falls, rw em can.cells, can.changes, λ j u. let x = can.within j u in (omega (arith, x.0, em), x.1), rw en can.marks)
+  write-asks = (rw en can.rows, can.new, rw en can.mover, rw en can.falls, rw em can.cells, λ j u. let x = can.within j u in (omega (arith, x.0, em), x.1), rw en can.marks)
 
   pub head-asks : Usable lim → (length l.head ≡ head_size) × (n + pl.count ≤ 65535) × (m + pl.fresh ≤ 65535) × (p ≤ 65535)
   head-asks ok =
@@ -120,7 +120,7 @@ module _ (lim : Limits) (s : List ℕ) (r c : ℕ) (l : Lent) (p : ℕ) (h : p <
   unfolding step_tables move
   step-by = rw (there, rule_is)
 
-  room-is : fits_in lim.procs lim.vars n m pl ≡ fits lim (tables_in l).state (delta_of pl)
+  room-is : fits_in lim.procs lim.vars n m pl.count pl.fresh ≡ fits lim (tables_in l).state (delta_of pl)
   unfolding tables_in
   room-is =
       let a = procs-length l.procs (proc_count l.head) in
@@ -135,7 +135,7 @@ module _ (lim : Limits) (s : List ℕ) (r c : ℕ) (l : Lent) (p : ℕ) (h : p <
   pub rule-made : pl.acts ≡ true → rule_of (program_of s r c) (tables_in l).state p ≡ by_rule pl.mv (delta_of pl)
   rule-made e = rule_is ∙ applied-some pl e
 
-  module _ (e : pl.acts ≡ true) {b : Bool} (eb : b ≡ fits_in lim.procs lim.vars n m pl) where
+  module _ (e : pl.acts ≡ true) {b : Bool} (eb : b ≡ fits_in lim.procs lim.vars n m pl.count pl.fresh) where
     -- 11: there is no room for what it makes
     pub step-full : b ≡ false → step_in lim s r c l p ≡ unmade 11
     step-full q = step-by ∙ rw (applied-some pl e, sym room-is ∙ sym eb ∙ q) (unfold step_by in refl)

@@ -63,13 +63,13 @@ module _ (lim : Limits) (s : List ℕ) (r c : ℕ) (l : Lent) (i : Inside lim s 
   pub planned-still : pl.acts ≡ false → {f : Refusal} → f ≡ refusal 10 0 → PlannedSays lim s r c l p (Err f)
   planned-still e ef = refused_by ef (step-still lim s r c l p h en em pl is e)
 
-  module _ (e : pl.acts ≡ true) {b : Bool} (eb : b ≡ fits_in lim.procs lim.vars n m pl) where
+  module _ (e : pl.acts ≡ true) {b : Bool} (eb : b ≡ fits_in lim.procs lim.vars n m pl.count pl.fresh) where
     pub planned-full : b ≡ false → {f : Refusal} → f ≡ refusal 11 0 → PlannedSays lim s r c l p (Err f)
     planned-full q ef = refused_by ef (step-full lim s r c l p h en em pl is e eb q)
 
-    pub planned-made : b ≡ true → lim.procs ≤ most_rows → pl.count ≤ new_most → pl.changes.count ≤ 4 → Within m pl.changes.count pl.changes.list
+    pub planned-made : b ≡ true → lim.procs ≤ most_rows → pl.count ≤ new_most → Within m pl.changes.count pl.changes.list
         → PlannedSays lim s r c l p (Ok pl)
-    planned-made q most few changes w = record {
+    planned-made q most few w = record {
       step = step-made lim s r c l p h en em pl is e eb q;
       plain = λ z. no-refusal z;
       rule = λ z. rw (← plan-is z) (rule-made lim s r c l p h en em pl is e);
@@ -89,7 +89,6 @@ module _ (lim : Limits) (s : List ℕ) (r c : ℕ) (l : Lent) (i : Inside lim s 
               few_procs = omega (arith, f.0);
               few-vars = omega (arith, f.1);
               new = few;
-              changes = changes;
               within = rw em at w;
             }
 

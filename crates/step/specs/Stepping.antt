@@ -43,7 +43,6 @@ pub record Carries (lim : Limits) (l : Lent) (p : ℕ) (pl : Plan) : Type 0 wher
   pub few_procs : proc_count l.head + pl.count ≤ lim.procs
   pub few-vars : var_count l.head + pl.fresh ≤ lim.vars
   pub new : pl.count ≤ new_most
-  pub changes : pl.changes.count ≤ 4
   pub within : Within (var_count l.head) pl.changes.count pl.changes.list
 
 -- Refusals 10, 11: what is decided before a step is made: what refuses it, with no offset; where nothing does, the rule that applies and a plan that can be written

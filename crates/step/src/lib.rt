@@ -1,23 +1,22 @@
 // The step by number: the move of one process, over lent bytes.
+// Kept, head, processes and variables as three rows: the head of crate `bound` says why.
 #![tactic(auto)]
 
-ghost use Rattle.std.specs.Prelude.{◌≡◌, ◌*◌, ◌<◌, ◌≤◌, length};
+ghost use Rattle.rows.specs.Views.{processes_in};
+ghost use Rattle.std.specs.Prelude.{◌≡◌, ◌<◌, ◌≤◌};
 ghost use Rattle.children.specs.Telling.{Tells};
 ghost use Rattle.entry.specs.Entered.{Inside};
 ghost use Rattle.parlog.specs.Limits.{small};
 ghost use Rattle.parlog.specs.Run.{counted};
-ghost use Rattle.parlog.specs.Tables.{at, lent, proc_count, procs_of, row_size};
-ghost use Rattle.program_index.specs.Indexed.{Indexed};
+ghost use Rattle.parlog.specs.Tables.{at, lent, proc_count, procs_of};
 ghost use Rattle.step.specs.Stepping.{CarriedOut, Carries, PlannedSays, StepSays, SteppedSays};
 
 use children::Told;
 use move_plan::Plan;
 use parlog::{Answer, Move, codes};
-
-// The limits of a run.
-const PROCS: usize = codes::MOST_PROCS;
-
-const VARS: usize = codes::MOST_VARS;
+use program_index::Image;
+use rows::Processes;
+use vars::Variables;
 
 // One step more; the largest number stays.
 fn count(steps: u32) -> u32
@@ -28,26 +27,31 @@ fn count(steps: u32) -> u32
 
 // What the step of process p will do, in tables that keep the rules, or what refuses it; it only reads.
 pub fn planned(
-    image: &[u8],
-    rels: usize,
-    clauses: usize,
-    ix: &[u16; program_index::SIZE],
+    image: &Image,
     head: &[u8],
     procs: &[u8],
     vars: &[u8],
     p: usize,
     told: Told,
 ) -> Answer<Plan>
-    requires { Inside small image.now rels clauses (lent head.now procs.now vars.now) × (p < proc_count head.now) × ((at (procs_of procs.now (proc_count head.now)) p).mode ≡ 3 → Tells (procs_of procs.now (proc_count head.now)) p told) × Indexed image.now rels clauses ix.now }
-    ensures { PlannedSays small image.now rels clauses (lent head.now procs.now vars.now) p result }
+    requires { Inside small image.now.bytes.now image.now.relations image.now.clauses (lent head.now procs.now vars.now) × (p < proc_count head.now) × ((at (procs_of procs.now (proc_count head.now)) p).mode ≡ 3 → Tells (procs_of procs.now (proc_count head.now)) p told) }
+    ensures { PlannedSays small image.now.bytes.now image.now.relations image.now.clauses (lent head.now procs.now vars.now) p result }
 {
     let n = head::proc_count(head);
     let m = head::var_count(head);
-    let plan = moves::rule_of(image, rels, clauses, ix, procs, n, vars, m, p, told);
+    let used = Processes {
+        bytes: procs,
+        count: n,
+    };
+    let cells = Variables {
+        bytes: vars,
+        count: m,
+    };
+    let plan = moves::rule_of(image, &used, &cells, p, told);
     if !plan.acts {
         return Err(entry::refusal(codes::STILL));
     }
-    if !move_plan::fits(PROCS, VARS, n, m, plan) {
+    if !move_plan::fits(entry::PROCS, entry::VARS, n, m, plan.count, plan.fresh) {
         return Err(entry::refusal(codes::ROOM));
     }
     Ok(plan)
@@ -67,32 +71,29 @@ pub fn carry_out(head: &mut [u8], procs: &mut [u8], vars: &mut [u8], p: usize, p
 
 // The step of process p, in tables that keep the rules; nothing is written before it is known to be made.
 pub fn stepped(
-    image: &[u8],
-    rels: usize,
-    clauses: usize,
-    ix: &[u16; program_index::SIZE],
+    image: &Image,
     head: &mut [u8],
     procs: &mut [u8],
     vars: &mut [u8],
     p: usize,
     told: Told,
 ) -> Answer<Move>
-    requires { Inside small image.now rels clauses (lent head.old procs.old vars.old) × (p < proc_count head.old) × ((at (procs_of procs.old (proc_count head.old)) p).mode ≡ 3 → Tells (procs_of procs.old (proc_count head.old)) p told) × Indexed image.now rels clauses ix.now }
-    ensures { SteppedSays small image.now rels clauses (lent head.old procs.old vars.old) p result head.new procs.new vars.new }
+    requires { Inside small image.now.bytes.now image.now.relations image.now.clauses (lent head.old procs.old vars.old) × (p < proc_count head.old) × ((at (procs_of procs.old (proc_count head.old)) p).mode ≡ 3 → Tells (procs_of procs.old (proc_count head.old)) p told) }
+    ensures { SteppedSays small image.now.bytes.now image.now.relations image.now.clauses (lent head.old procs.old vars.old) p result head.new procs.new vars.new }
 {
-    let plan = planned(image, rels, clauses, ix, head, procs, vars, p, told)?;
+    let plan = planned(image, head, procs, vars, p, told)?;
     let mv = plan.mv;
     carry_out(head, procs, vars, p, plan);
     Ok(mv)
 }
 
 // What process p is told of its children; only one that waits asks.
-pub fn ask(procs: &[u8], n: usize, p: usize) -> Told
-    requires { (n * row_size ≤ length procs.now) × (n ≤ 65535) }
-    ensures { (at (procs_of procs.now n) p).mode ≡ 3 → Tells (procs_of procs.now n) p result }
+pub fn ask(procs: &Processes, p: usize) -> Told
+    requires { procs.now.count ≤ 65535 }
+    ensures { (at (processes_in procs.now) p).mode ≡ 3 → Tells (processes_in procs.now) p result }
 {
-    if rows::mode_at(procs, n, p) == codes::WAITING {
-        return children::asked(procs, n, p);
+    if procs.mode_at(p) == codes::WAITING {
+        return children::asked(procs, p);
     }
     children::nothing()
 }
@@ -110,15 +111,25 @@ pub fn step(
     let mut ix = [0u16; program_index::SIZE];
     let e = entry::enter(image, head, procs, vars, &mut ix);
     // Kept in each call: docs/DECISIONS.md asks that each takes the load's answer apart by `let .. else`.
-    let Ok((rels, clauses)) = e else {
+    let Ok((relations, clauses)) = e else {
         let r = load::refusal(e);
         return Err(r);
+    };
+    let accepted = Image {
+        bytes: image,
+        relations,
+        clauses,
+        index: &ix,
     };
     let p = process as usize;
     let n = head::proc_count(head);
     if n <= p {
         return Err(entry::refusal(codes::NODE));
     }
-    let told = ask(procs, n, p);
-    stepped(image, rels, clauses, &ix, head, procs, vars, p, told)
+    let used = Processes {
+        bytes: procs,
+        count: n,
+    };
+    let told = ask(&used, p);
+    stepped(&accepted, head, procs, vars, p, told)
 }

@@ -1,6 +1,6 @@
 -- The places that a row names: the tests in the code's order are the definitions'.
 use mathlib.Core.Path.{◌∙◌, ◌≡◌, ap, refl, sym}
-use mathlib.Core.Bool.{◌&&◌, ◌||◌, Bool, cond, false, not, true}
+use mathlib.Core.Bool.{◌&&◌, ◌||◌, Bool, cond, false, not, true, and-true, and-false, and_assoc}
 use mathlib.Core.List.{List}
 use Prim.Native.Nat.{◌+◌, ◌<◌, ◌≤◌, suc, zero, ℕ}
 use lib.Dec.{eqb, leb, ltb}
@@ -15,7 +15,6 @@ use Rattle.parlog.specs.TableRules.{block_in, call_in, clause_in, equality_in, f
 use Rattle.parlog.specs.declared.Process.{Process}
 use Rattle.parlog.specs.declared.Spot.{Spot}
 use Rattle.place.proofs.Clauses.{clause-count}
-use Rattle.row_tests.proofs.Laws.{and_one}
 use Rattle.table_rules.specs.Parts.{behind_call, behind_goal, behind_literal}
 
 -- ---- clauses
@@ -98,33 +97,25 @@ told_none h a = rw h
 
 -- ---- all that a row's tag and mode read
 
-pub and_none : (b : Bool) → (b && false) ≡ false
-and_none true = refl
-and_none false = refl
-
-and-more : (a b c : Bool) → ((a && b) && c) ≡ (a && (b && c))
-and-more true b c = refl
-and-more false b c = refl
-
 -- what is below is at most
 below-most : (a b : ℕ) → ltb a b ≡ (leb a b && ltb a b)
-below-most a b = split (ltb a b) (λ e. rw (e, le-leb a b (let h : a < b = ltb-true a b e in omega arith))) (λ e. rw (e, and_none))
+below-most a b = split (ltb a b) (λ e. rw (e, le-leb a b (let h : a < b = ltb-true a b e in omega arith))) (λ e. rw (e, and-false))
 
 stage-order : (g w u : Bool) (a b : ℕ) → ((g && true) && (cond w (ltb a b) (leb a b) && u)) ≡ ((g && (leb a b && u)) && implies w (ltb a b))
 stage-order false w u a b = refl
-stage-order true true true a b = rw (and_one (ltb a b), and_one (leb a b)) (below-most a b)
-stage-order true true false a b = rw (and_none (ltb a b), and_none (leb a b))
-stage-order true false u a b = sym (and_one (leb a b && u))
+stage-order true true true a b = rw (and-true (ltb a b), and-true (leb a b)) (below-most a b)
+stage-order true true false a b = rw (and-false (ltb a b), and-false (leb a b))
+stage-order true false u a b = sym (and-true (leb a b && u))
 
 block-order : (g f l e b : Bool) → ((g && f) && (l && (e && b))) ≡ (((g && l) && e) && (b && f))
 block-order false f l e b = refl
-block-order true f false e b = and_none f
-block-order true f true false b = and_none f
-block-order true f true true false = and_none f
-block-order true f true true true = and_one f
+block-order true f false e b = and-false f
+block-order true f true false b = and-false f
+block-order true f true true false = and-false f
+block-order true f true true true = and-true f
 
 search-order : (g f l e b : Bool) → ((g && f) && (l && (e && b))) ≡ ((((g && l) && e) && b) && f)
-search-order g f l e b = block-order g f l e b ∙ sym (and-more ((g && l) && e) b f)
+search-order g f l e b = block-order g f l e b ∙ sym (and_assoc ((g && l) && e) b f)
 
 wait-order : (g f l e w b : Bool) → ((g && f) && (l && (e && cond w b true))) ≡ (((g && l) && e) && (implies w b && f))
 wait-order g f l e true b = block-order g f l e b
@@ -138,23 +129,23 @@ module _ (pr : Program) (n : ℕ) (x : Process) where
       → ((goal_in pr n z && implies ((eqb t 3 || eqb t 4) && (eqb x.mode 4 && eqb x.result 1)) (found_in pr n z)) && behind_goal t (eqb x.mode 3) pr n z)
       ≡ (places_ok (tag_of t) pr n z && going_ok (tag_of t) pr n x)
   unfolding behind_goal behind_literal behind_call places_ok going_ok tag_of call_in equality_in literal_in try_in
-  placed-code zero h = simp and_one
+  placed-code zero h = simp and-true
   placed-code (suc zero) h = stage-order (goal_in pr n z) (eqb x.mode 3) (not (split_at pr z)) z.stage (length (goal_at pr z))
-  placed-code (suc (suc zero)) h = simp (and_one, and-more)
+  placed-code (suc (suc zero)) h = simp (and-true, and_assoc)
   placed-code (suc (suc (suc zero))) h =
       wait-order (goal_in pr n z) (implies (succeeds x) (found_in pr n z)) (ltb z.literal (length (stage_at pr z))) (not (is_equality (literal_at pr z))) (eqb x.mode 3) (block_in pr z)
   placed-code (suc (suc (suc (suc zero)))) h =
       search-order (goal_in pr n z) (implies (succeeds x) (found_in pr n z)) (ltb z.literal (length (stage_at pr z))) (not (is_equality (literal_at pr z))) (block_in pr z)
-  placed-code (suc (suc (suc (suc (suc zero))))) h = simp (and_one, and-more)
-  placed-code (suc (suc (suc (suc (suc (suc zero)))))) h = simp (and_one, and-more)
+  placed-code (suc (suc (suc (suc (suc zero))))) h = simp (and-true, and_assoc)
+  placed-code (suc (suc (suc (suc (suc (suc zero)))))) h = simp (and-true, and_assoc)
   placed-code (suc (suc (suc (suc (suc (suc (suc zero))))))) h = absurd (h refl)
   placed-code (suc (suc (suc (suc (suc (suc (suc (suc t)))))))) h =
       rw (ne_eqb (suc (suc (suc (suc (suc (suc (suc (suc t)))))))) 3 (λ e. omega arith), ne_eqb (suc (suc (suc (suc (suc (suc (suc (suc t)))))))) 4 (λ e. omega arith), le-ltb (suc (suc (suc (suc (suc (suc (suc (suc t)))))))) 2 (omega arith), lt-ltb 7 (suc (suc (suc (suc (suc (suc (suc (suc t)))))))) (omega arith))
-      (simp (and_one, and-more))
+      (simp (and-true, and_assoc))
 
   pub placed-guard : x.tag ≡ 7 → {b : Bool} → b ≡ found_in pr n z → b ≡ (places_ok (tag_of x.tag) pr n z && going_ok (tag_of x.tag) pr n x)
   unfolding places_ok going_ok tag_of
-  placed-guard h e = rw (h, e, and_one)
+  placed-guard h e = rw (h, e, and-true)
 
   module _ (h : x.tag ≡ 7 → ⊥) {u w q g f a : Bool} (eu : u ≡ (eqb x.tag 3 || eqb x.tag 4)) (ew : w ≡ (eqb x.mode 4 && eqb x.result 1)) (eq : q ≡ (u && w))
       (eg : g ≡ goal_in pr n z) (ef : f ≡ implies q (found_in pr n z)) (ea : a ≡ (g && f)) where

@@ -1,6 +1,6 @@
 -- The kin of a row, what it says of itself, and the row as a whole.
 use mathlib.Core.Path.{◌∙◌, ◌≡◌, refl, sym}
-use mathlib.Core.Bool.{◌&&◌, ◌||◌, Bool, false, not, true}
+use mathlib.Core.Bool.{◌&&◌, ◌||◌, Bool, false, not, true, and-false}
 use mathlib.Core.List.{List}
 use Prim.Native.Nat.{◌<◌, ◌≤◌, suc, zero, ℕ}
 use lib.Dec.{eqb, leb, ltb}
@@ -12,7 +12,6 @@ use Rattle.parlog.specs.Scan.{implies}
 use Rattle.parlog.specs.TableRules.{all_below, going_ok, kin_ok, known, makes_tag, notes_ok, places_ok, result_ok, row_ok}
 use Rattle.parlog.specs.Tables.{at, noted}
 use Rattle.parlog.specs.declared.Process.{Process}
-use Rattle.table_rules.proofs.Places.{and_none}
 
 -- ---- kin
 
@@ -43,10 +42,10 @@ own_is n i x ek er et ea e = rw (e, ea, ek, er, et)
 
 row-order : (k r t m p g : Bool) → (k && (m && (r && (p && (g && t))))) ≡ ((k && (r && t)) && (m && (p && g)))
 row-order false r t m p g = refl
-row-order true r t false p g = sym (and_none (r && t))
+row-order true r t false p g = sym (and-false (r && t))
 row-order true false t true p g = refl
-row-order true true t true false g = sym (and_none t)
-row-order true true t true true false = sym (and_none t)
+row-order true true t true false g = sym (and-false t)
+row-order true true t true true false = sym (and-false t)
 row-order true true false true true true = refl
 row-order true true true true true true = refl
 

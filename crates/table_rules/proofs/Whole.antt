@@ -1,6 +1,6 @@
 -- Scans over the rows, and the tables as a whole.
 use mathlib.Core.Path.{◌∙◌, ◌≡◌, ap, refl, sym}
-use mathlib.Core.Bool.{◌&&◌, Bool, false, true, true≢false}
+use mathlib.Core.Bool.{◌&&◌, Bool, false, true, true≢false, and-false}
 use mathlib.Core.List.{List}
 use Prim.Native.Nat.{◌*◌, ◌+◌, ◌<◌, ◌≤◌, suc, zero, ℕ}
 use lib.Dec.{eqb, leb, ltb}
@@ -9,7 +9,8 @@ use borrow.Author.Tests.{leb-true}
 use native.Mathlib.Omega.{arith}
 use native.Mathlib.Numerals.{add-one}
 use Rattle.parlog.proofs.Assume.{full-sizes}
-use Rattle.parlog.proofs.Bools.{and-true, split}
+use Rattle.std.proofs.lemmas.Bool.{and_parts}
+use Rattle.parlog.proofs.Bools.{split}
 use Rattle.parlog.proofs.Scans.{every-at}
 use Rattle.parlog.specs.Limits.{Limits}
 use Rattle.parlog.specs.Program.{Program}
@@ -17,7 +18,6 @@ use Rattle.parlog.specs.Scan.{every, implies}
 use Rattle.parlog.specs.TableRules.{binding_ok, cell_known, counts_ok, full_size, lent_ok, row_ok, state_ok, tables_ok, var_ok}
 use Rattle.parlog.specs.Tables.{binding_at, binding_by, cell_size, head_size, Lent, marker_last, number_at, proc_count, procs_of, row_size, sort_at, tables_in, var_count, vars_in}
 use Rattle.rows.proofs.Tables.{procs-length}
-use Rattle.table_rules.proofs.Places.{and_none}
 use Rattle.table_rules.specs.Parts.{cell_ok}
 use Rattle.vars.proofs.Tables.{vars-at, vars-length}
 
@@ -56,10 +56,10 @@ cell-is l n v h em e = rw (e, em, vars-at l n v h)
 -- ---- the tables
 
 whole-order : (k c r v m : Bool) → (k && ((c && (r && v)) && m)) ≡ ((c && m) && ((k && v) && r))
-whole-order k false r v m = and_none k
-whole-order k true r v false = ap (λ (b : Bool). k && b) (and_none (r && v)) ∙ and_none k
+whole-order k false r v m = and-false k
+whole-order k true r v false = ap (λ (b : Bool). k && b) (and-false (r && v)) ∙ and-false k
 whole-order false true r v true = refl
-whole-order true true false v true = sym (and_none v)
+whole-order true true false v true = sym (and-false v)
 whole-order true true true v true = refl
 
 pub size_is : (most cap : ℕ) (h l w : List ℕ) {a b : Bool} → a ≡ (eqb (length l) (most * row_size) && eqb (length w) (cap * cell_size)) → b ≡ (eqb (length h) head_size && a)
@@ -108,10 +108,10 @@ module _ (most cap : ℕ) (pr : Program) (h l w : List ℕ) where
       module _ (p v k g : ℕ) {b : Bool} (eb : b ≡ counts_code p v k g) where
         counts : b ≡ true → (p ≤ most) × (v ≤ cap)
         counts t =
-            let x = and-true (leb 1 p && (leb p most && (leb v cap && leb g v))) (ltb k p) (sym eb ∙ t) in
-            let y = and-true (leb 1 p) (leb p most && (leb v cap && leb g v)) x.0 in
-            let z = and-true (leb p most) (leb v cap && leb g v) y.1 in
-            (leb-true p most z.0, leb-true v cap (and-true (leb v cap) (leb g v) z.1).0)
+            let x = and_parts (leb 1 p && (leb p most && (leb v cap && leb g v))) (ltb k p) (sym eb ∙ t) in
+            let y = and_parts (leb 1 p) (leb p most && (leb v cap && leb g v)) x.0 in
+            let z = and_parts (leb p most) (leb v cap && leb g v) y.1 in
+            (leb-true p most z.0, leb-true v cap (and_parts (leb v cap) (leb g v) z.1).0)
 
         module _ (ep : p ≡ proc_count h) (ev : v ≡ var_count h) (ek : k ≡ marker_last h) (eg : g ≡ pr.goal_vars) where
           pub rows_fit : b ≡ true → p * row_size ≤ length l

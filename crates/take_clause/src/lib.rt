@@ -4,24 +4,31 @@
 ghost use Rattle.std.specs.Prelude.{true, ◌≡◌, ◌≤◌, drop, length};
 ghost use Rattle.lay_literal.specs.Lows.{lows};
 ghost use Rattle.lay_text.specs.Laying.{Writes};
-ghost use Rattle.mode_table.specs.Moded.{Moded};
+ghost use Rattle.mode_table.specs.Held.{lines_in};
 ghost use Rattle.name_index.specs.Index.{Indexed};
 ghost use Rattle.read_clause.specs.Parts.{part_of, PartIn};
-ghost use Rattle.read_names.specs.Tables.{Finds, modes_from};
+ghost use Rattle.read_names.specs.Tables.{Finds};
 ghost use Rattle.take_clause.specs.TakesClause.{ask_front, clause_front, front_bytes, said_at, starting, taken_as, TakesAsk, TakesClause, TakesPart, TakesParts};
-ghost use Rattle.take_term.specs.Takes.{Ready, rows, stands};
+ghost use Rattle.take_term.specs.Lent.{rows_in, Same};
+ghost use Rattle.take_term.specs.Takes.{Ready, stands};
 ghost use Rattle.text_names.specs.Bytes.{front};
 ghost use Rattle.text_program.specs.Source.{read_body, read_clause};
 
 use lay_text::To;
-use mode_table::Lines;
+use mode_table::Relations;
 use parlog::codes;
 use read_clause::{ClauseAt, Part};
 use read_names::Entry;
-use take_term::Reading;
+use take_term::{Draft, Reading, VARIABLES};
 
-// One more than the variables that a clause may have.
-const VARIABLES: usize = codes::MOST_VARIABLES + 1;
+// What is to be taken next: its place in the text, that of its record in the image, and how many constants there are.
+// Kept without a fact of its own: that the place is in the text and the constants are in the table ties it to a text and a draft, which are lent beside it.
+#[derive(Clone, Copy)]
+pub struct Next {
+    pub from: usize,
+    pub at: usize,
+    pub consts: usize,
+}
 
 // What was taken: the place behind it in the text and in the image, how many constants there are; a clause's relation and whether it ends in `;`; whether it has no more than it may have, whether each call has the arity of its mode line, and whether each has a mode line.
 #[derive(Clone, Copy)]
@@ -62,6 +69,8 @@ fn behind(w: Reading, at: usize) -> Reading
 
 // ---- the front of a record
 
+// Kept, a row and a place: a front is laid before what was taken, at a place that its record has, so that a `lay_text::Writer` is no plainer.
+
 // How long a record is, and its kind.
 fn front_of(out: &mut [u8], at: usize, size: usize, kind: usize) -> To
     ensures { Writes out.old (record { at = at; named = true }) (lows (front_bytes size kind)) true out.new result }
@@ -101,21 +110,10 @@ fn ask_front(out: &mut [u8], at: usize, size: usize, vars: usize) -> To
 // ---- terms, guard and body
 
 // A goal where it stands; where there is none, a byte tells so.
-fn part(
-    s: &[u8],
-    rels: &[usize],
-    arities: &[usize],
-    chains: &[u16],
-    lines: Lines,
-    out: &mut [u8],
-    consts: &mut [usize],
-    links: &mut [u16],
-    vars: &mut [usize],
-    w: Reading,
-    p: Part,
-) -> Reading
-    requires { Ready s.now (rows out.old consts.old links.old vars.old) w × Moded s.now rels.now arities.now chains.now lines × PartIn s.now p }
-    ensures { TakesPart s.now (modes_from s.now lines.from) (rows out.old consts.old links.old vars.old) w (part_of s.now p) (rows out.new consts.new links.new vars.new) result }
+fn part(relations: &Relations, draft: &mut Draft<VARIABLES>, w: Reading, p: Part) -> Reading
+    requires { Ready relations.now.text.now (rows_in draft.old) w × PartIn relations.now.text.now p }
+    ensures lent { Same draft.old draft.new }
+    ensures taken { TakesPart relations.now.text.now (lines_in relations.now) (rows_in draft.old) w (part_of relations.now.text.now p) (rows_in draft.new) result }
 {
     match p {
         Part::Absent => {
@@ -123,62 +121,40 @@ fn part(
                 at: w.at,
                 named: true,
             };
-            let next = lay_literal::number(out, to, 0);
+            let next = lay_literal::number(draft.out, to, 0);
             behind(w, next.at)
         }
         Part::Goal(at) => {
             let v = take_term::move_to(w, at, 0);
-            take_goal::goal(s, rels, arities, chains, lines, out, consts, links, vars, v)
+            take_goal::goal(relations, draft, v)
         }
         Part::Body(at) => {
             let v = take_term::move_to(w, at, 0);
-            take_goal::body(s, rels, arities, chains, lines, out, consts, links, vars, v)
+            take_goal::body(relations, draft, v)
         }
     }
 }
 
-// Terms, guard and body of a clause; `m` tells of the mode lines.
-fn parts(
-    s: &[u8],
-    rels: &[usize],
-    arities: &[usize],
-    chains: &[u16],
-    m: Lines,
-    out: &mut [u8],
-    consts: &mut [usize],
-    links: &mut [u16],
-    vars: &mut [usize],
-    w: Reading,
-    c: ClauseAt,
-) -> Reading
-    requires { Ready s.now (rows out.old consts.old links.old vars.old) w × Moded s.now rels.now arities.now chains.now m × (w.end ≡ c.terms) × PartIn s.now c.guard × PartIn s.now c.body }
-    ensures { TakesParts s.now (modes_from s.now m.from) (rows out.old consts.old links.old vars.old) w (said_at s.now c) (rows out.new consts.new links.new vars.new) result }
+// Terms, guard and body of a clause.
+fn parts(relations: &Relations, draft: &mut Draft<VARIABLES>, w: Reading, c: ClauseAt) -> Reading
+    requires { Ready relations.now.text.now (rows_in draft.old) w × (w.end ≡ c.terms) × PartIn relations.now.text.now c.guard × PartIn relations.now.text.now c.body }
+    ensures lent { Same draft.old draft.new }
+    ensures taken { TakesParts relations.now.text.now (lines_in relations.now) (rows_in draft.old) w (said_at relations.now.text.now c) (rows_in draft.new) result }
 {
-    let a = take_term::terms(s, out, consts, links, vars, w);
-    let b = part(
-        s, rels, arities, chains, m, out, consts, links, vars, a, c.guard,
-    );
-    part(
-        s, rels, arities, chains, m, out, consts, links, vars, b, c.body,
-    )
+    let a = take_term::terms(relations.text, draft, w);
+    let b = part(relations, draft, a, c.guard);
+    part(relations, draft, b, c.body)
 }
 
 // ---- records
 
 // The relation of the name at a place.
-fn relation_at(
-    s: &[u8],
-    rels: &[usize],
-    arities: &[usize],
-    chains: &[u16],
-    lines: Lines,
-    from: usize,
-) -> Entry
-    requires { (from ≤ length s.now) × Moded s.now rels.now arities.now chains.now lines }
-    ensures { Finds (modes_from s.now lines.from) (front (drop from s.now)) result }
+fn relation_at(relations: &Relations, from: usize) -> Entry
+    requires { (from ≤ length relations.now.text.now) }
+    ensures { Finds (lines_in relations.now) (front (drop from relations.now.text.now)) result }
 {
-    let word = name_index::name_at(s, from);
-    mode_table::relation(s, rels, arities, chains, lines, from, word.chain)
+    let word = name_index::name_at(relations.text, from);
+    relations.find(from, word.chain)
 }
 
 // What was taken; it is right only with at most 16 variables.
@@ -205,65 +181,43 @@ fn told(end: usize, number: usize, semicolon: bool, right: bool, x: Reading) -> 
     }
 }
 
-// The clause at a place; it opens a block or not.
-pub fn clause(
-    s: &[u8],
-    rels: &[usize],
-    arities: &[usize],
-    chains: &[u16],
-    lines: Lines,
-    out: &mut [u8],
-    consts: &mut [usize],
-    links: &mut [u16],
-    from: usize,
-    at: usize,
-    n: usize,
-    opens: bool,
-) -> Taken
-    requires { (from ≤ length s.now) × (at ≤ 65536) × Indexed s.now consts.old links.old n × Moded s.now rels.now arities.now chains.now lines }
-    ensures { TakesClause s.now (modes_from s.now lines.from) out.old consts.old at n opens (read_clause (drop from s.now)) out.new consts.new links.new result }
+// The clause that is next; it opens a block or not.
+pub fn clause(relations: &Relations, draft: &mut Draft<VARIABLES>, next: Next, opens: bool) -> Taken
+    requires { (next.from ≤ length relations.now.text.now) × (next.at ≤ 65536) × Indexed relations.now.text.now draft.old.consts.now draft.old.links.now next.consts }
+    ensures lent { Same draft.old draft.new }
+    ensures taken { TakesClause relations.now.text.now (lines_in relations.now) draft.old.out.now draft.old.consts.now next.at next.consts opens (read_clause (drop next.from relations.now.text.now)) draft.new.out.now draft.new.consts.now draft.new.links.now result }
 {
-    let c = read_clause::clause(s, from);
-    let head = relation_at(s, rels, arities, chains, lines, from);
-    let mut vars = [0; VARIABLES];
+    let Next { from, at, consts } = next;
+    let c = read_clause::clause(relations.text, from);
+    let head = relation_at(relations, from);
+    draft.vars = [0; VARIABLES];
     let fits = c.arity == head.arity.unwrap_or(0);
-    let w = start(
-        c.terms,
-        at + codes::CLAUSE_HEAD,
-        n,
-        fits,
-        head.arity.is_some(),
+    let known = head.arity.is_some();
+    let w = start(c.terms, at + codes::CLAUSE_HEAD, consts, fits, known);
+    let x = parts(relations, draft, w, c);
+    clause_front(
+        draft.out,
+        at,
+        x.at - at,
+        head.number,
+        c.arity,
+        opens,
+        x.vars,
     );
-    let x = parts(
-        s, rels, arities, chains, lines, out, consts, links, &mut vars, w, c,
-    );
-    clause_front(out, at, x.at - at, head.number, c.arity, opens, x.vars);
     told(c.next, head.number, c.semicolon, c.right, x)
 }
 
-// The goal at a place.
-pub fn ask(
-    s: &[u8],
-    rels: &[usize],
-    arities: &[usize],
-    chains: &[u16],
-    lines: Lines,
-    out: &mut [u8],
-    consts: &mut [usize],
-    links: &mut [u16],
-    from: usize,
-    at: usize,
-    n: usize,
-) -> Taken
-    requires { (from ≤ length s.now) × (at ≤ 65536) × Indexed s.now consts.old links.old n × Moded s.now rels.now arities.now chains.now lines }
-    ensures { TakesAsk s.now (modes_from s.now lines.from) out.old consts.old at n (read_body (drop from s.now)) out.new consts.new links.new result }
+// The goal that is next.
+pub fn ask(relations: &Relations, draft: &mut Draft<VARIABLES>, next: Next) -> Taken
+    requires { (next.from ≤ length relations.now.text.now) × (next.at ≤ 65536) × Indexed relations.now.text.now draft.old.consts.now draft.old.links.now next.consts }
+    ensures lent { Same draft.old draft.new }
+    ensures taken { TakesAsk relations.now.text.now (lines_in relations.now) draft.old.out.now draft.old.consts.now next.at next.consts (read_body (drop next.from relations.now.text.now)) draft.new.out.now draft.new.consts.now draft.new.links.now result }
 {
-    let body = read_goal::body(s, from);
-    let mut vars = [0; VARIABLES];
-    let w = start(from, at + codes::GOAL_AT, n, true, true);
-    let x = take_goal::body(
-        s, rels, arities, chains, lines, out, consts, links, &mut vars, w,
-    );
-    ask_front(out, at, x.at - at, x.vars);
+    let Next { from, at, consts } = next;
+    let body = read_goal::body(relations.text, from);
+    draft.vars = [0; VARIABLES];
+    let w = start(from, at + codes::GOAL_AT, consts, true, true);
+    let x = take_goal::body(relations, draft, w);
+    ask_front(draft.out, at, x.at - at, x.vars);
     told(x.end, 0, false, body.right, x)
 }

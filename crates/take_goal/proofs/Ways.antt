@@ -49,9 +49,6 @@ module _ {o p : List ℕ} {w x : Reading} {n : ℕ} (f : Puts o w n p x) where
   puts-end : x.end ≡ w.end
   puts-end = ap (λ (r : Reading). r.end) f.state
 
-  pub puts-ready : {s t l v : List ℕ} → Ready s (rows o t l v) w → Ready s (rows p t l v) x
-  puts-ready r = rw f.state (record { inside = r.inside; index = r.index; vars = r.vars })
-
   module _ {s t l v : List ℕ} {rest : List ℕ} {items : ℕ} {terms : List Name} {bs : List Name → List Name → List ℕ} {g k : Bool} {b : Rows} {y : Reading} where
     -- a number laid, and a taker behind it
     puts-before : Takes s (rows p t l v) x rest items terms bs g k b y → Takes s (rows o t l v) w rest items terms (λ cs vs. n ∷ bs cs vs) g k b y
@@ -68,15 +65,6 @@ takes-number n t e =
     let m = t.small in
     let z = t.size in
     takes-counted 0 n t (writes_byte n (omega arith) e) refl
-
--- the chains of a table stay as many
-pub links-same : {s : List ℕ} {a : Rows} {w : Reading} {rest : List ℕ} {items : ℕ} {terms : List Name} {bs : List Name → List Name → List ℕ} {g k : Bool} {b : Rows} {x : Reading} →
-    Ready s a w → Takes s a w rest items terms bs g k b x → length b.links ≡ length a.links
-links-same r t =
-    let e = r.index.size in
-    let f = t.index.size in
-    let z = t.consts.size in
-    omega arith
 
 -- ---- literals
 

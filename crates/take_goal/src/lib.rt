@@ -4,21 +4,23 @@
 ghost use Rattle.std.specs.Prelude.{false, true, [], ◌∷◌, ◌≡◌, ◌≤◌, drop, length};
 ghost use Rattle.lay.specs.Lay.{laid};
 ghost use Rattle.lay_literal.specs.Lows.{lows};
-ghost use Rattle.mode_table.specs.Moded.{Moded};
+ghost use Rattle.mode_table.specs.Held.{lines_in};
 ghost use Rattle.name_index.specs.Index.{chain_of};
-ghost use Rattle.read_names.specs.Tables.{modes_from};
 ghost use Rattle.take_goal.specs.TakesGoal.{TakesEquality, TakesGoal, TakesLiteral, TakesStage};
 ghost use Rattle.take_goal.specs.Turns.{Puts, TakesLiterals, TakesStages};
-ghost use Rattle.take_term.specs.Takes.{Ready, rows};
+ghost use Rattle.take_term.specs.Lent.{rows_in, Same};
+ghost use Rattle.take_term.specs.Takes.{Ready};
 ghost use Rattle.text_names.specs.Bytes.{front, past};
 ghost use Rattle.text_program.specs.Source.{literal_by, read_body, read_goal, read_literal, row};
 
 use lay_text::To;
-use mode_table::Lines;
+use mode_table::Relations;
 use parlog::codes;
-use take_term::Reading;
+use take_term::{Draft, Reading};
 
 // ---- numbers
+
+// Kept, a row and a place: the place is one of the numbers of a `Reading`, and a byte is laid over one far behind it, so that a `lay_text::Writer` is no plainer.
 
 // A number as a byte at a place of the image.
 fn patch(out: &mut [u8], at: usize, n: usize)
@@ -43,49 +45,37 @@ fn number(out: &mut [u8], w: Reading, n: usize) -> Reading
 // ---- literals
 
 // An equality of two terms.
-fn equality(
-    s: &[u8],
-    out: &mut [u8],
-    consts: &mut [usize],
-    links: &mut [u16],
-    vars: &mut [usize],
-    w: Reading,
-) -> Reading
-    requires { Ready s.now (rows out.old consts.old links.old vars.old) w }
-    ensures { TakesEquality s.now (rows out.old consts.old links.old vars.old) w (literal_by true (drop w.end s.now)) (rows out.new consts.new links.new vars.new) result }
+fn equality<const V: usize>(s: &[u8], draft: &mut Draft<V>, w: Reading) -> Reading
+    requires { Ready s.now (rows_in draft.old) w }
+    ensures lent { Same draft.old draft.new }
+    ensures taken { TakesEquality s.now (rows_in draft.old) w (literal_by true (drop w.end s.now)) (rows_in draft.new) result }
 {
-    let a = number(out, w, codes::EQUALITY);
-    let b = number(out, a, codes::EQUALITY_ARITY);
-    let c = take_term::term(s, out, consts, links, vars, b);
+    let a = number(draft.out, w, codes::EQUALITY);
+    let b = number(draft.out, a, codes::EQUALITY_ARITY);
+    let c = take_term::term(s, draft, b);
     let d = take_term::move_to(c, text_names::after_mark(s, c.end), codes::EQUALITY_ARITY);
-    let e = take_term::term(s, out, consts, links, vars, d);
+    let e = take_term::term(s, draft, d);
     take_term::move_to(e, e.end, codes::EQUALITY_ARITY)
 }
 
 // A call of the relation of the name here, which is in a chain, with the terms behind it; tested by the way.
-fn call(
-    s: &[u8],
-    rels: &[usize],
-    arities: &[usize],
-    chains: &[u16],
-    lines: Lines,
-    out: &mut [u8],
-    consts: &mut [usize],
-    links: &mut [u16],
-    vars: &mut [usize],
+fn call<const V: usize>(
+    relations: &Relations,
+    draft: &mut Draft<V>,
     w: Reading,
     behind: usize,
     chain: usize,
 ) -> Reading
-    requires { Ready s.now (rows out.old consts.old links.old vars.old) w × Moded s.now rels.now arities.now chains.now lines × (drop behind s.now ≡ past (drop w.end s.now)) × (behind ≤ length s.now) × (chain ≡ chain_of (front (drop w.end s.now))) }
-    ensures { TakesLiteral s.now (modes_from s.now lines.from) (rows out.old consts.old links.old vars.old) w (literal_by false (drop w.end s.now)) (rows out.new consts.new links.new vars.new) result }
+    requires { Ready relations.now.text.now (rows_in draft.old) w × (drop behind relations.now.text.now ≡ past (drop w.end relations.now.text.now)) × (behind ≤ length relations.now.text.now) × (chain ≡ chain_of (front (drop w.end relations.now.text.now))) }
+    ensures lent { Same draft.old draft.new }
+    ensures taken { TakesLiteral relations.now.text.now (lines_in relations.now) (rows_in draft.old) w (literal_by false (drop w.end relations.now.text.now)) (rows_in draft.new) result }
 {
-    let entry = mode_table::relation(s, rels, arities, chains, lines, w.end, chain);
-    let a = number(out, w, entry.number);
-    let b = number(out, a, 0);
+    let entry = relations.find(w.end, chain);
+    let a = number(draft.out, w, entry.number);
+    let b = number(draft.out, a, 0);
     let from = take_term::move_to(b, behind, 0);
-    let c = take_term::terms(s, out, consts, links, vars, from);
-    patch(out, a.at, c.count);
+    let c = take_term::terms(relations.text, draft, from);
+    patch(draft.out, a.at, c.count);
     Reading {
         fits: c.fits & (c.count == entry.arity.unwrap_or(0)),
         declared: c.declared & entry.arity.is_some(),
@@ -94,152 +84,93 @@ fn call(
 }
 
 // A literal.
-fn literal(
-    s: &[u8],
-    rels: &[usize],
-    arities: &[usize],
-    chains: &[u16],
-    lines: Lines,
-    out: &mut [u8],
-    consts: &mut [usize],
-    links: &mut [u16],
-    vars: &mut [usize],
-    w: Reading,
-) -> Reading
-    requires { Ready s.now (rows out.old consts.old links.old vars.old) w × Moded s.now rels.now arities.now chains.now lines }
-    ensures { TakesLiteral s.now (modes_from s.now lines.from) (rows out.old consts.old links.old vars.old) w (read_literal (drop w.end s.now)) (rows out.new consts.new links.new vars.new) result }
+fn literal<const V: usize>(relations: &Relations, draft: &mut Draft<V>, w: Reading) -> Reading
+    requires { Ready relations.now.text.now (rows_in draft.old) w }
+    ensures lent { Same draft.old draft.new }
+    ensures taken { TakesLiteral relations.now.text.now (lines_in relations.now) (rows_in draft.old) w (read_literal (drop w.end relations.now.text.now)) (rows_in draft.new) result }
 {
-    let word = name_index::name_at(s, w.end);
-    let behind = text_names::skip_blanks(s, word.end);
-    if place::byte_at(s, behind) == read_goal::EQUALS {
-        return equality(s, out, consts, links, vars, w);
+    let word = name_index::name_at(relations.text, w.end);
+    let behind = text_names::skip_blanks(relations.text, word.end);
+    if place::byte_at(relations.text, behind) == read_goal::EQUALS {
+        return equality(relations.text, draft, w);
     }
-    call(
-        s, rels, arities, chains, lines, out, consts, links, vars, w, behind, word.chain,
-    )
+    call(relations, draft, w, behind, word.chain)
 }
 
 // ---- stages and goals
 
 // Literals with a comma between them.
-fn literals(
-    s: &[u8],
-    rels: &[usize],
-    arities: &[usize],
-    chains: &[u16],
-    lines: Lines,
-    out: &mut [u8],
-    consts: &mut [usize],
-    links: &mut [u16],
-    vars: &mut [usize],
-    w: Reading,
-) -> Reading
-    requires { Ready s.now (rows out.old consts.old links.old vars.old) w × Moded s.now rels.now arities.now chains.now lines }
-    ensures { TakesLiterals s.now (modes_from s.now lines.from) (rows out.old consts.old links.old vars.old) w (row read_literal 44 (drop w.end s.now)) (rows out.new consts.new links.new vars.new) result }
+// Kept beside `stages`, like `take_term::names`: one loop for both would take what an item is, reads and lays as a closure with ghost arguments.
+fn literals<const V: usize>(relations: &Relations, draft: &mut Draft<V>, w: Reading) -> Reading
+    requires { Ready relations.now.text.now (rows_in draft.old) w }
+    ensures lent { Same draft.old draft.new }
+    ensures taken { TakesLiterals relations.now.text.now (lines_in relations.now) (rows_in draft.old) w (row read_literal 44 (drop w.end relations.now.text.now)) (rows_in draft.new) result }
 {
     let mut x = w;
-    let most = s.len() - w.end;
+    let most = relations.text.len() - w.end;
     for n in 0..most {
-        x = literal(s, rels, arities, chains, lines, out, consts, links, vars, x);
-        if place::byte_at(s, x.end) != read_goal::COMMA {
+        x = literal(relations, draft, x);
+        if place::byte_at(relations.text, x.end) != read_goal::COMMA {
             return take_term::move_to(x, x.end, n + 1);
         }
-        x = take_term::move_to(x, text_names::after_mark(s, x.end), n + 1);
+        x = take_term::move_to(x, text_names::after_mark(relations.text, x.end), n + 1);
     }
     take_term::move_to(x, x.end, most)
 }
 
 // A stage: how many literals, and the literals.
-fn stage(
-    s: &[u8],
-    rels: &[usize],
-    arities: &[usize],
-    chains: &[u16],
-    lines: Lines,
-    out: &mut [u8],
-    consts: &mut [usize],
-    links: &mut [u16],
-    vars: &mut [usize],
-    w: Reading,
-) -> Reading
-    requires { Ready s.now (rows out.old consts.old links.old vars.old) w × Moded s.now rels.now arities.now chains.now lines }
-    ensures { TakesStage s.now (modes_from s.now lines.from) (rows out.old consts.old links.old vars.old) w (row read_literal 44 (drop w.end s.now)) (rows out.new consts.new links.new vars.new) result }
+fn stage<const V: usize>(relations: &Relations, draft: &mut Draft<V>, w: Reading) -> Reading
+    requires { Ready relations.now.text.now (rows_in draft.old) w }
+    ensures lent { Same draft.old draft.new }
+    ensures taken { TakesStage relations.now.text.now (lines_in relations.now) (rows_in draft.old) w (row read_literal 44 (drop w.end relations.now.text.now)) (rows_in draft.new) result }
 {
-    let a = number(out, w, 0);
-    let b = literals(s, rels, arities, chains, lines, out, consts, links, vars, a);
-    patch(out, w.at, b.count);
+    let a = number(draft.out, w, 0);
+    let b = literals(relations, draft, a);
+    patch(draft.out, w.at, b.count);
     b
 }
 
 // Stages with `&` between them.
-fn stages(
-    s: &[u8],
-    rels: &[usize],
-    arities: &[usize],
-    chains: &[u16],
-    lines: Lines,
-    out: &mut [u8],
-    consts: &mut [usize],
-    links: &mut [u16],
-    vars: &mut [usize],
-    w: Reading,
-) -> Reading
-    requires { Ready s.now (rows out.old consts.old links.old vars.old) w × Moded s.now rels.now arities.now chains.now lines }
-    ensures { TakesStages s.now (modes_from s.now lines.from) (rows out.old consts.old links.old vars.old) w (row (row read_literal 44) 38 (drop w.end s.now)) (rows out.new consts.new links.new vars.new) result }
+// Kept, like `literals`.
+fn stages<const V: usize>(relations: &Relations, draft: &mut Draft<V>, w: Reading) -> Reading
+    requires { Ready relations.now.text.now (rows_in draft.old) w }
+    ensures lent { Same draft.old draft.new }
+    ensures taken { TakesStages relations.now.text.now (lines_in relations.now) (rows_in draft.old) w (row (row read_literal 44) 38 (drop w.end relations.now.text.now)) (rows_in draft.new) result }
 {
     let mut x = w;
-    let most = s.len() - w.end;
+    let most = relations.text.len() - w.end;
     for n in 0..most {
-        x = stage(s, rels, arities, chains, lines, out, consts, links, vars, x);
-        if place::byte_at(s, x.end) != read_goal::AMPERSAND {
+        x = stage(relations, draft, x);
+        if place::byte_at(relations.text, x.end) != read_goal::AMPERSAND {
             return take_term::move_to(x, x.end, n + 1);
         }
-        x = take_term::move_to(x, text_names::after_mark(s, x.end), n + 1);
+        x = take_term::move_to(x, text_names::after_mark(relations.text, x.end), n + 1);
     }
     take_term::move_to(x, x.end, most)
 }
 
 // A goal: how many stages, and the stages.
-pub fn goal(
-    s: &[u8],
-    rels: &[usize],
-    arities: &[usize],
-    chains: &[u16],
-    lines: Lines,
-    out: &mut [u8],
-    consts: &mut [usize],
-    links: &mut [u16],
-    vars: &mut [usize],
-    w: Reading,
-) -> Reading
-    requires { Ready s.now (rows out.old consts.old links.old vars.old) w × Moded s.now rels.now arities.now chains.now lines }
-    ensures { TakesGoal s.now (modes_from s.now lines.from) (rows out.old consts.old links.old vars.old) w (read_goal (drop w.end s.now)) (rows out.new consts.new links.new vars.new) result }
+// Kept beside `stage`: one function for both would take what stands behind the count as a closure that is lent the draft, under a contract for any; these four lines are no longer.
+pub fn goal<const V: usize>(relations: &Relations, draft: &mut Draft<V>, w: Reading) -> Reading
+    requires { Ready relations.now.text.now (rows_in draft.old) w }
+    ensures lent { Same draft.old draft.new }
+    ensures taken { TakesGoal relations.now.text.now (lines_in relations.now) (rows_in draft.old) w (read_goal (drop w.end relations.now.text.now)) (rows_in draft.new) result }
 {
-    let a = number(out, w, 0);
-    let b = stages(s, rels, arities, chains, lines, out, consts, links, vars, a);
-    patch(out, w.at, b.count);
+    let a = number(draft.out, w, 0);
+    let b = stages(relations, draft, a);
+    patch(draft.out, w.at, b.count);
     b
 }
 
 // A goal, or nothing where the line ends.
-pub fn body(
-    s: &[u8],
-    rels: &[usize],
-    arities: &[usize],
-    chains: &[u16],
-    lines: Lines,
-    out: &mut [u8],
-    consts: &mut [usize],
-    links: &mut [u16],
-    vars: &mut [usize],
-    w: Reading,
-) -> Reading
-    requires { Ready s.now (rows out.old consts.old links.old vars.old) w × Moded s.now rels.now arities.now chains.now lines }
-    ensures { TakesGoal s.now (modes_from s.now lines.from) (rows out.old consts.old links.old vars.old) w (read_body (drop w.end s.now)) (rows out.new consts.new links.new vars.new) result }
+pub fn body<const V: usize>(relations: &Relations, draft: &mut Draft<V>, w: Reading) -> Reading
+    requires { Ready relations.now.text.now (rows_in draft.old) w }
+    ensures lent { Same draft.old draft.new }
+    ensures taken { TakesGoal relations.now.text.now (lines_in relations.now) (rows_in draft.old) w (read_body (drop w.end relations.now.text.now)) (rows_in draft.new) result }
 {
-    let mark = place::byte_at(s, w.end);
+    let mark = place::byte_at(relations.text, w.end);
     if (mark == read_goal::DOT) | (mark == read_goal::SEMICOLON) {
-        return number(out, take_term::move_to(w, w.end, 0), 0);
+        return number(draft.out, take_term::move_to(w, w.end, 0), 0);
     }
-    goal(s, rels, arities, chains, lines, out, consts, links, vars, w)
+    goal(relations, draft, w)
 }

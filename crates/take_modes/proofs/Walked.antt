@@ -93,14 +93,13 @@ module _ (s t l : List ℕ) (n : ℕ) (x : Name) {u k : List ℕ} {r : Added} (r
       let h = ap length new-names in
       omega arith
 
-  pub enter-line : {o a q b : List ℕ} (at count : ℕ) → b ≡ set a n count → q ≡ laid o at (lows (modes_front count)) → EntersLine s x count o t a n at q u b k
-  enter-line at count e f =
+  pub enter-line : {a b : List ℕ} (count : ℕ) → b ≡ set a n count → EntersLine s x count t a n u b k
+  enter-line count e =
       record {
         names = rw (← new-count) new-names;
         index = rw (← new-count) one.index;
         table = one.adds.size;
         arities = e;
-        bytes = f;
       }
 
 -- ---- one line
@@ -140,14 +139,6 @@ tested-goes true right known h g e = never 6 g e
 tested-goes false false known h g e = never 4 g e
 tested-goes false true false h g e = never 5 g e
 tested-goes false true true h g e = record { few = refl; right = refl; fresh = refl; goes = sym (ap (in_goes g) e) }
-
--- a refusal has a number
-tested-refuses : (many right known : Bool) (h : Progress) (n : ℕ) → tested many right known false h ≡ Err n → 0 < n
-unfolding tested
-tested-refuses true right known h n e = let z = ap in_refuses e in omega arith
-tested-refuses false false known h n e = let z = ap in_refuses e in omega arith
-tested-refuses false true false h n e = let z = ap in_refuses e in omega arith
-tested-refuses false true true h n e = never n h (sym e)
 
 -- ---- the loop
 
@@ -268,9 +259,9 @@ module _ {s : List ℕ} {m : ℕ} {o q t a l : List ℕ} {p at : ℕ} {g : Progr
       line-fresh = leb-true g.relations (look (names_at s (take g.relations t)) (front (drop r.name s))) line-passes.fresh
 
       -- a line more
-      pub walk-on : {q2 u b2 k : List ℕ} → 0 < left → EntersLine s (front (drop r.name s)) r.count q1 t a g.relations at q2 u b2 k → ModesLeft s m o q2 u b2 k r.end (at + 5 + r.count) h (left - 1)
+      pub walk-on : {q2 u b2 k : List ℕ} → 0 < left → EntersLine s (front (drop r.name s)) r.count t a g.relations u b2 k → q2 ≡ laid q1 at (lows (modes_front r.count)) → ModesLeft s m o q2 u b2 k r.end (at + 5 + r.count) h (left - 1)
       unfolding joined
-      walk-on {q2} {u} {b2} {k} some in_table =
+      walk-on {q2} {u} {b2} {k} some in_table front_laid =
           let x = (read_mode_line (drop p s)).value in
           let L = here.moded.lines in
           let few = line-few in
@@ -280,7 +271,7 @@ module _ {s : List ℕ} {m : ℕ} {o q t a l : List ℕ} {p at : ℕ} {g : Progr
           let J = joined relation_bytes (modes_of L) in
           let row : joined relation_bytes (modes_of (L ++ (x ∷ []))) ≡ J ++ relation_bytes x.modes =
           ap (joined relation_bytes) (map-append (λ (y : ModeLine). y.modes) L (x ∷ [])) ∙ joined-append relation_bytes (modes_of L) (x.modes ∷ []) ∙ ap (λ (y : List ℕ). J ++ y) (append-nil (relation_bytes x.modes)) in
-          let laid-now : q2 ≡ laid q at (lows (relation_bytes x.modes)) = line-bytes q q1 q2 at r.count x.modes c line.bytes in_table.bytes in
+          let laid-now : q2 ≡ laid q at (lows (relation_bytes x.modes)) = line-bytes q q1 q2 at r.count x.modes c line.bytes front_laid in
           let at-end : at ≡ 0 + length (lows J) = let w = lows-length J in let y = here.place in omega arith in
           let w = in_table.table in
           let z = here.moded.size in

@@ -39,13 +39,12 @@ pub record ReadsLine (s : List ℕ) (p : ℕ) (o : List ℕ) (at : ℕ) (q : Lis
 abbrev pub modes_front : ℕ → List ℕ
 modes_front count = word_bytes (5 + count) ++ (word_bytes 1 ++ (count ∷ []))
 
--- a line in the tables: its name is number n, with so many modes, and its record begins at a place
-pub record EntersLine (s : List ℕ) (x : Name) (count : ℕ) (o t a : List ℕ) (n at : ℕ) (q u b l : List ℕ) : Type 0 where
+-- a line in the tables: its name is number n, with so many modes
+pub record EntersLine (s : List ℕ) (x : Name) (count : ℕ) (t a : List ℕ) (n : ℕ) (u b l : List ℕ) : Type 0 where
   pub names : names_at s (take (n + 1) u) ≡ names_at s (take n t) ++ (x ∷ [])
   pub index : Indexed s u l (n + 1)
   pub table : length u ≡ length t
   pub arities : b ≡ set a n count
-  pub bytes : q ≡ laid o at (lows (modes_front count))
 
 -- what is known behind a mode line
 abbrev pub one_more : Progress → Progress

@@ -15,6 +15,7 @@ ghost use Rattle.text_program.specs.Source.{read_brackets, read_mode, row};
 
 use lay_text::To;
 use mode_table::Lines;
+use name_index::Table;
 use parlog::{Answer, Progress, Refusal, codes};
 use read_goal::Span;
 
@@ -28,6 +29,17 @@ pub struct Modes {
     pub rest: usize,
     pub at: usize,
     pub known: Progress,
+}
+
+// How many numbers serve for the chains of any mode lines: how many chains there are, and how many names there may be.
+pub const LINKS: usize = name_index::CHAINS + codes::MOST_RELATIONS;
+
+// Mode lines in tables with room for R: the places of their names with their chains, L numbers, and how many modes each has.
+#[derive(Drop)]
+pub struct Tables<const R: usize, const L: usize> {
+    pub places: [usize; R],
+    pub arities: [usize; R],
+    pub links: [u16; L],
 }
 
 // A mode line: the place of its name, the name's chain, the place behind the line, and how many modes it has.
@@ -51,6 +63,8 @@ fn mode(s: &[u8], at: usize) -> usize
 }
 
 // Modes with a comma between them, laid into the row.
+// Kept, a loop beside `read_names::modes` and a row with a place: the other loop lays nothing, and the bytes are laid by lay_literal, which takes a row and a place; the front of the record comes before them, and later.
+// Kept here, at `brackets`, `read_line` and `mode_lines`, that the place is in the text: the head of crate `read_goal` says why.
 fn marks(out: &mut [u8], w: To, s: &[u8], at: usize) -> Span
     requires { at ≤ length s.now }
     ensures { Spans s.now (row read_mode 44 (drop at s.now)).rest (length (row read_mode 44 (drop at s.now)).value) true result × (out.new ≡ laid out.old w.at (lows (row read_mode 44 (drop at s.now)).value)) }
@@ -122,18 +136,23 @@ fn read_line(s: &[u8], out: &mut [u8], p: usize, at: usize) -> Line
 }
 
 // The tests of a mode line.
-fn test_line(
+fn test_line<const R: usize, const L: usize>(
     s: &[u8],
-    rels: &[usize],
-    chains: &[u16],
+    tables: &Tables<R, L>,
     g: Progress,
     line: Line,
 ) -> Result<Progress, u8>
-    requires { (line.name ≤ length s.now) × (line.chain ≡ chain_of (front (drop line.name s.now))) × Indexed s.now rels.now chains.now g.relations × (g.relations ≤ 32) }
-    ensures { result ≡ tested (leb 32 g.relations) (leb line.count 4) (leb g.relations (look (names_at s.now (take g.relations rels.now)) (front (drop line.name s.now)))) false (one_more g) }
+    requires { (line.name ≤ length s.now) × (line.chain ≡ chain_of (front (drop line.name s.now))) × Indexed s.now tables.now.places tables.now.links g.relations × (g.relations ≤ 32) }
+    ensures { result ≡ tested (leb 32 g.relations) (leb line.count 4) (leb g.relations (look (names_at s.now (take g.relations tables.now.places)) (front (drop line.name s.now)))) false (one_more g) }
 {
     let n = g.relations;
-    let fresh = name_index::find(s, rels, chains, n, line.name, line.chain).is_none();
+    let names = Table {
+        text: s,
+        places: &tables.places,
+        links: &tables.links,
+        count: n,
+    };
+    let fresh = names.find(line.name, line.chain).is_none();
     let next = Progress {
         relations: n + 1,
         kind: codes::RELATION_KIND,
@@ -150,7 +169,7 @@ fn test_line(
 
 // The bytes of a relation's record before its modes.
 fn begin(out: &mut [u8], at: usize, count: usize)
-    requires { (at ≤ 16384) × (count ≤ 4) }
+    requires { count ≤ 4 }
     ensures { out.new ≡ laid out.old at (lows (modes_front count)) }
 {
     let w = To { at, named: true };
@@ -159,23 +178,20 @@ fn begin(out: &mut [u8], at: usize, count: usize)
     lay_literal::number(out, b, count);
 }
 
-// A new mode line into the tables, as number n, and what its record has before the modes.
-fn enter(
-    s: &[u8],
-    out: &mut [u8],
-    rels: &mut [usize],
-    arities: &mut [usize],
-    chains: &mut [u16],
-    n: usize,
-    at: usize,
-    line: Line,
-)
-    requires { (line.name ≤ length s.now) × (line.chain ≡ chain_of (front (drop line.name s.now))) × Indexed s.now rels.old chains.old n × (n < length rels.old) × (length arities.old ≡ length rels.old) × (n ≤ look (names_at s.now (take n rels.old)) (front (drop line.name s.now))) × (at ≤ 16384) × (line.count ≤ 4) }
-    ensures { EntersLine s.now (front (drop line.name s.now)) line.count out.old rels.old arities.old n at out.new rels.new arities.new chains.new }
+// A new mode line into the tables, as number n.
+fn enter<const R: usize, const L: usize>(s: &[u8], tables: &mut Tables<R, L>, n: usize, line: Line)
+    requires { (line.name ≤ length s.now) × (line.chain ≡ chain_of (front (drop line.name s.now))) × Indexed s.now tables.old.places tables.old.links n × (n < R) × (n ≤ look (names_at s.now (take n tables.old.places)) (front (drop line.name s.now))) }
+    ensures { EntersLine s.now (front (drop line.name s.now)) line.count tables.old.places tables.old.arities n tables.new.places tables.new.arities tables.new.links }
 {
-    name_index::add(s, rels, chains, n, line.name, line.chain);
-    arities[n] = line.count;
-    begin(out, at, line.count);
+    name_index::add(
+        s,
+        &mut tables.places,
+        &mut tables.links,
+        n,
+        line.name,
+        line.chain,
+    );
+    tables.arities[n] = line.count;
 }
 
 // What is told of the mode lines.
@@ -194,16 +210,14 @@ fn told(m: usize, p: usize, g: Progress, at: usize) -> Modes
 }
 
 // The mode lines from a place on, up to the first that is refused.
-pub fn mode_lines(
+pub fn mode_lines<const R: usize, const L: usize>(
     s: &[u8],
     m: usize,
     out: &mut [u8],
-    rels: &mut [usize],
-    arities: &mut [usize],
-    chains: &mut [u16],
+    tables: &mut Tables<R, L>,
 ) -> Answer<Modes>
-    requires { (m ≤ length s.now) × (32 ≤ length rels.old) × (length arities.old ≡ length rels.old) × Indexed s.now rels.old chains.old 0 }
-    ensures { TakesModes s.now m out.old out.new rels.new arities.new chains.new result }
+    requires { (m ≤ length s.now) × (32 ≤ R) × Indexed s.now tables.old.places tables.old.links 0 }
+    ensures { TakesModes s.now m out.old out.new tables.new.places tables.new.arities tables.new.links result }
 {
     let mut p = m;
     let mut at = 0;
@@ -220,11 +234,12 @@ pub fn mode_lines(
         }
         let line = read_line(s, out, p, at);
         let n = g.relations;
-        match test_line(s, rels, chains, g, line) {
+        match test_line(s, tables, g, line) {
             Err(number) => return Err(Refusal { number, offset: at }),
             Ok(next) => g = next,
         }
-        enter(s, out, rels, arities, chains, n, at, line);
+        enter(s, tables, n, line);
+        begin(out, at, line.count);
         at = at + codes::RELATION_MODES + line.count;
         p = line.end;
     }

@@ -225,24 +225,12 @@ module _ {s : List ℕ} {ms : List ModeLine} {o t : List ℕ} {from at n : ℕ} 
           size = turn.takes.line.size ∙ far.size;
         }
 
-    -- fewer may be left
-    pub far-less : r.next.number ≤ 0 → r.next.left < w.left
-    far-less h = go verdict refl
-      where
-        go : (d : Result Progress ℕ) → verdict ≡ d → r.next.left < w.left
-        go (Ok next) e = let z = ap (λ (c : Clauses). c.left) (turn.next ∙ ap (λ (d : Result Progress ℕ). turned_by d w turn.taken) e) in omega arith
-        go (Err m) e = absurd (let a : kept (Err m) = rw e at turn.kept in let z = ap (λ (c : Clauses). c.number) (turn.next ∙ ap (λ (d : Result Progress ℕ). turned_by d w turn.taken) e) in let i = a.0 in omega arith)
-
     pub far-stop : 0 < r.next.number → TakesClauses s ms o t from at n g q v k r.next
     far-stop h = go verdict refl
       where
         go : (d : Result Progress ℕ) → verdict ≡ d → TakesClauses s ms o t from at n g q v k r.next
         go (Ok next) e = absurd (let z = ap (λ (c : Clauses). c.number) (turn.next ∙ ap (λ (d : Result Progress ℕ). turned_by d w turn.taken) e) in omega arith)
         go (Err m) e = let a : kept (Err m) = rw e at turn.kept in rw (turn.next, e) (refused m e a.0)
-
--- rows keep their lengths
-pub turn-links : {s : List ℕ} {ms : List ModeLine} {p u : List ℕ} {w : Clauses} {opens : Bool} {q v k : List ℕ} {r : Behind} (l : List ℕ) → Indexed s u l w.consts → Turns s ms p u w opens q v k r → length k ≡ length l
-turn-links l i turn = let a = i.size in let b = turn.takes.line.index.size in let c = turn.takes.line.consts.size in omega arith
 
 -- what was known at the start, told otherwise
 pub known_as : {s : List ℕ} {ms : List ModeLine} {o t : List ℕ} {from at n : ℕ} {g h : Progress} {p u l : List ℕ} {w : Clauses} → g ≡ h → TakesClauses s ms o t from at n g p u l w → TakesClauses s ms o t from at n h p u l w

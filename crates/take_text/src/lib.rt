@@ -3,16 +3,17 @@
 
 ghost use Rattle.std.specs.Prelude.{◌≡◌, ◌≤◌, length};
 ghost use Rattle.judge_text.specs.Tests.{Counted, kept};
-ghost use Rattle.mode_table.specs.Moded.{Moded};
+ghost use Rattle.mode_table.specs.Held.{lines_in};
 ghost use Rattle.name_index.specs.Index.{Indexed};
-ghost use Rattle.read_names.specs.Tables.{modes_from};
+ghost use Rattle.take_term.specs.Lent.{Same};
 ghost use Rattle.take_text.specs.TakesText.{TakesClauses};
 ghost use Rattle.take_text.specs.Turned.{started, taken_said, turned_by, Turns};
 
-use mode_table::Lines;
+use mode_table::Relations;
 use parlog::{Progress, codes};
 use read_goal::ARROW;
-use take_clause::Taken;
+use take_clause::{Next, Taken};
+use take_term::{Draft, VARIABLES};
 
 // How far the clauses were taken: the place in the text and how many may still follow, the number of the first refusal, or 0, and the place of its record, or the place behind all; how many constants there are, what is known there, and whether each call so far has a mode line.
 // Kept: no Result, since the places, `left` and `declared` are read behind a refusal too.
@@ -92,24 +93,17 @@ fn turned(v: Result<Progress, u8>, w: Clauses, c: Taken) -> Clauses
 }
 
 // One clause more.
-fn turn(
-    s: &[u8],
-    rels: &[usize],
-    arities: &[usize],
-    chains: &[u16],
-    lines: Lines,
-    out: &mut [u8],
-    consts: &mut [usize],
-    links: &mut [u16],
-    w: Clauses,
-    opens: bool,
-) -> Behind
-    requires { (w.end ≤ length s.now) × (w.at ≤ 65536) × Indexed s.now consts.old links.old w.consts × Moded s.now rels.now arities.now chains.now lines × Counted w.known × (1 ≤ w.left) }
-    ensures { Turns s.now (modes_from s.now lines.from) out.old consts.old w opens out.new consts.new links.new result }
+fn turn(relations: &Relations, draft: &mut Draft<VARIABLES>, w: Clauses, opens: bool) -> Behind
+    requires { (w.end ≤ length relations.now.text.now) × (w.at ≤ 65536) × Indexed relations.now.text.now draft.old.consts.now draft.old.links.now w.consts × Counted w.known × (1 ≤ w.left) }
+    ensures lent { Same draft.old draft.new }
+    ensures taken { Turns relations.now.text.now (lines_in relations.now) draft.old.out.now draft.old.consts.now w opens draft.new.out.now draft.new.consts.now draft.new.links.now result }
 {
-    let c = take_clause::clause(
-        s, rels, arities, chains, lines, out, consts, links, w.end, w.at, w.consts, opens,
-    );
+    let next = Next {
+        from: w.end,
+        at: w.at,
+        consts: w.consts,
+    };
+    let c = take_clause::clause(relations, draft, next, opens);
     let v = test(w.known, opens, c.number, c.right, c.fits);
     Behind {
         next: turned(v, w, c),
@@ -132,35 +126,29 @@ fn start(left: usize, from: usize, n: usize, at: usize, known: Progress) -> Clau
     }
 }
 
-// The clauses from a place on, up to the first that is refused.
+// The clauses that are next, up to the first that is refused.
 pub fn clause_lines(
-    s: &[u8],
-    rels: &[usize],
-    arities: &[usize],
-    chains: &[u16],
-    lines: Lines,
-    out: &mut [u8],
-    consts: &mut [usize],
-    links: &mut [u16],
-    from: usize,
-    n: usize,
-    at: usize,
+    relations: &Relations,
+    draft: &mut Draft<VARIABLES>,
+    next: Next,
     known: Progress,
 ) -> Clauses
-    requires { (from ≤ length s.now) × Indexed s.now consts.old links.old n × Moded s.now rels.now arities.now chains.now lines × Counted known × (known.clauses ≡ 0) × (at ≤ 16384) }
-    ensures { TakesClauses s.now (modes_from s.now lines.from) out.old consts.old from at n known out.new consts.new links.new result }
+    requires { (next.from ≤ length relations.now.text.now) × Indexed relations.now.text.now draft.old.consts.now draft.old.links.now next.consts × Counted known × (known.clauses ≡ 0) × (next.at ≤ 16384) }
+    ensures lent { Same draft.old draft.new }
+    ensures taken { TakesClauses relations.now.text.now (lines_in relations.now) draft.old.out.now draft.old.consts.now next.from next.at next.consts known draft.new.out.now draft.new.consts.now draft.new.links.now result }
 {
-    let mut w = start(s.len() - from, from, n, at, known);
+    let Next { from, at, consts } = next;
+    let s = relations.text;
+    let mut w = start(s.len() - from, from, consts, at, known);
     let mut before = from;
     let mut semicolon = false;
+    // Kept, a loop by a test: `left` is told with the answer, and goes down where a clause is taken (`turned`).
     while 0 < w.left {
         if place::byte_at(s, w.end) == ARROW {
             return w;
         }
         let opens = semicolon & text_names::same_name(s, before, w.end);
-        let t = turn(
-            s, rels, arities, chains, lines, out, consts, links, w, opens,
-        );
+        let t = turn(relations, draft, w, opens);
         before = w.end;
         semicolon = t.semicolon;
         w = t.next;

@@ -11,7 +11,7 @@ use borrow.Author.Tests.{eqb-false, le-ltb, lt-ltb}
 use native.Mathlib.Omega.{arith}
 use Rattle.load.proofs.Accepted.{accepted}
 use Rattle.parlog.proofs.Along.{list_length}
-use Rattle.parlog.proofs.Bools.{true-and}
+use Rattle.std.proofs.lemmas.Bool.{and_from}
 use Rattle.parlog.proofs.Scans.{below_suc}
 use Rattle.parlog.specs.Load.{load_of, long}
 use Rattle.parlog.specs.Orders.{Each}
@@ -55,7 +55,7 @@ known-first f r k d h = rw (look-first f r k d h, firsts-length f r, lt-ltb k r 
 all_map : {A B : Type 0} (P : A → Type 0) (f : B → Bool) (g : A → B) → ((x : A) → P x → f (g x) ≡ true) → (xs : List A) → Each P xs → all_of f (map g xs) ≡ true
 unfolding all_of
 all_map P f g h [] p = refl
-all_map P f g h (x ∷ xs) p = true-and (f (g x)) (all_of f (map g xs)) (h x p.0) (all_map P f g h xs p.1)
+all_map P f g h (x ∷ xs) p = and_from (f (g x)) (all_of f (map g xs)) (h x p.0) (all_map P f g h xs p.1)
 
 module _ (r : ℕ) (nm : List ℕ) (d : Distinct (entry_name nm) r) where
   abbrev rels : List Name
@@ -77,9 +77,9 @@ module _ (r : ℕ) (nm : List ℕ) (d : Distinct (entry_name nm) r) where
   clauses-declared [] m = refl
   clauses-declared (c ∷ cs) m =
       let a = m.0 in
-      true-and (clause_declared rels (said_clause r nm c (next_mark cs))) (all_of (clause_declared rels) (said_clauses r nm cs))
-      (true-and (known rels (entry_name nm c.rel)) (goal_declared rels (said_goal r nm c.guard) && goal_declared rels (said_goal r nm c.body)) (known-first (entry_name nm) r c.rel d a.known)
-      (true-and (goal_declared rels (said_goal r nm c.guard)) (goal_declared rels (said_goal r nm c.body)) (goal-declared c.guard a.guard) (goal-declared c.body a.body)))
+      and_from (clause_declared rels (said_clause r nm c (next_mark cs))) (all_of (clause_declared rels) (said_clauses r nm cs))
+      (and_from (known rels (entry_name nm c.rel)) (goal_declared rels (said_goal r nm c.guard) && goal_declared rels (said_goal r nm c.body)) (known-first (entry_name nm) r c.rel d a.known)
+      (and_from (goal_declared rels (said_goal r nm c.guard)) (goal_declared rels (said_goal r nm c.body)) (goal-declared c.guard a.guard) (goal-declared c.body a.body)))
       (clauses-declared cs m.1)
 
 -- ---- the call
@@ -104,7 +104,7 @@ module _ (nm : List ℕ) (pr : Program) (n : ℕ) (made : Made pr) (fit : Prints
 
   declares : declared p ≡ true
   unfolding declared
-  declares = rw (relations-are nm pr n made fit) (parts (true-and _ _ (clauses-declared r nm fit.relations pr.clauses made.clauses) (goal-declared r nm fit.relations pr.goal made.goal)))
+  declares = rw (relations-are nm pr n made fit) (parts (and_from _ _ (clauses-declared r nm fit.relations pr.clauses made.clauses) (goal-declared r nm fit.relations pr.goal made.goal)))
     where
       parts : (all_of (clause_declared (firsts (entry_name nm) r)) (said_clauses r nm pr.clauses) && goal_declared (firsts (entry_name nm) r) (said_goal r nm pr.goal)) ≡ true →
           (all_of (clause_declared (firsts (entry_name nm) r)) p.clauses && goal_declared (firsts (entry_name nm) r) p.goal) ≡ true

@@ -8,6 +8,8 @@ use lib.ListN.{length}
 use borrow.Author.Tests.{eqb-true, le-leb, leb-true, lt-leb, ne_eqb}
 use native.Mathlib.Omega.{arith}
 use Rattle.parlog.proofs.Bools.{and-true, not_so, or_left, or_right}
+use Rattle.std.proofs.Common.{⊎_elim}
+use Rattle.std.proofs.lemmas.Bool.{or_cases}
 use Rattle.spell.specs.Forms.{in_span}
 use Rattle.text_names.specs.Bytes.{back, first, front, is_blank, is_capital, is_name, is_small, skip}
 use Rattle.text_names.specs.Entries.{entry_from, entry_name, is_entry}
@@ -15,10 +17,6 @@ use Rattle.text_names.specs.Names.{Name}
 use Rattle.text_program.specs.Source.{mode_word}
 
 -- ---- bytes
-
-pub or_cases : {P : Type 0} (a b : Bool) → (a || b) ≡ true → (a ≡ true → P) → (b ≡ true → P) → P
-or_cases true b e f g = f refl
-or_cases false b e f g = g e
 
 span-low : (a n b : ℕ) → in_span a n b ≡ true → a ≤ b
 span-low a n b e = leb-true a b (and-true (leb a b) (leb b (a + n)) e).0
@@ -48,9 +46,9 @@ small-no-capital b e = not_so (is_capital b) (λ f. let h = small_low b e in let
 name-high : (b : ℕ) → is_name b ≡ true → 48 ≤ b
 unfolding is_name is_small is_capital
 name-high b e =
-    or_cases (in_span 97 25 b) _ e (λ f. let h = span-low 97 25 b f in omega arith)
-    (λ g. or_cases (in_span 65 25 b) _ g (λ f. let h = span-low 65 25 b f in omega arith)
-    (λ h. or_cases (in_span 48 9 b) _ h (λ f. span-low 48 9 b f) (λ f. let z = eqb-true b 95 f in omega arith)))
+    ⊎_elim (λ f. let h = span-low 97 25 b f in omega arith)
+    (λ g. ⊎_elim (λ f. let h = span-low 65 25 b f in omega arith)
+    (λ h. ⊎_elim (λ f. span-low 48 9 b f) (λ f. let z = eqb-true b 95 f in omega arith) (or_cases (in_span 48 9 b) _ h)) (or_cases (in_span 65 25 b) _ g)) (or_cases (in_span 97 25 b) _ e)
 
 pub name-solid : (b : ℕ) → is_name b ≡ true → is_blank b ≡ false
 unfolding is_blank
@@ -61,10 +59,10 @@ name-solid b e =
 -- a letter is no mark
 pub letter-high : (b : ℕ) → (is_small b || is_capital b) ≡ true → 65 ≤ b
 unfolding is_small is_capital
-letter-high b e = or_cases (in_span 97 25 b) _ e (λ f. let h = span-low 97 25 b f in omega arith) (λ f. span-low 65 25 b f)
+letter-high b e = ⊎_elim (λ f. let h = span-low 97 25 b f in omega arith) (λ f. span-low 65 25 b f) (or_cases (in_span 97 25 b) _ e)
 
 pub letter-name : (b : ℕ) → (is_small b || is_capital b) ≡ true → is_name b ≡ true
-letter-name b e = or_cases (is_small b) (is_capital b) e (small-name b) (capital-name b)
+letter-name b e = ⊎_elim (small-name b) (capital-name b) (or_cases (is_small b) (is_capital b) e)
 
 -- ---- names
 

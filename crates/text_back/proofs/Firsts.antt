@@ -7,7 +7,7 @@ use Prim.Native.Nat.{◌<◌, ◌≤◌, suc, zero, ℕ}
 use lib.ListN.{length, length-append}
 use borrow.Author.Tests.{le-ltb, lt-ltb}
 use native.Mathlib.Omega.{arith}
-use Rattle.parlog.proofs.Bools.{not_so}
+use Rattle.std.proofs.lemmas.Bool.{false_from_ne_true}
 use Rattle.parlog.proofs.Scans.{below_suc}
 use Rattle.parlog.specs.Orders.{Each}
 use Rattle.text_back.specs.Back.{Appear, Distinct, first_time, firsts, met_before, no_more}
@@ -17,7 +17,7 @@ use Rattle.text_names.specs.Names.{add, adds, look, Name, same_name}
 -- ---- the same name
 
 not_same : (x y : Name) → x ≢ y → same_name x y ≡ false
-not_same x y h = not_so (same_name x y) (λ e. h (same-is x y e))
+not_same x y h = false_from_ne_true (same_name x y) (λ e. h (same-is x y e))
 
 look-other : (y x : Name) → y ≢ x → look (y ∷ []) x ≡ 1
 unfolding look

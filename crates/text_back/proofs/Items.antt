@@ -7,7 +7,7 @@ use lib.Dec.{eqb}
 use lib.ListN.{length, length-append}
 use borrow.Author.Tests.{eq-eqb, eqb-false, eqb-true, le-leb, ne_eqb}
 use native.Mathlib.Omega.{arith}
-use Rattle.parlog.proofs.Bools.{or_right}
+use Rattle.std.proofs.lemmas.Bool.{or_right}
 use Rattle.parlog.specs.Orders.{Each}
 use Rattle.parlog.specs.Program.{Goal, Literal}
 use Rattle.parlog.specs.declared.Term.{Term}

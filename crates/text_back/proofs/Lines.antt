@@ -7,7 +7,7 @@ use lib.Dec.{eqb}
 use lib.ListN.{length, length-append}
 use borrow.Author.Tests.{lt-leb, ne_eqb}
 use native.Mathlib.Omega.{arith}
-use Rattle.parlog.proofs.Bools.{and-true}
+use Rattle.std.proofs.lemmas.Bool.{and_parts}
 use Rattle.parlog.specs.Image.{is_input}
 use Rattle.parlog.specs.Orders.{Each}
 use Rattle.parlog.specs.Program.{Clause, Goal, Literal, Program}
@@ -420,7 +420,7 @@ module _ (r : ℕ) (nm : List ℕ) where
   modes-back (suc n) k (ms ∷ mss) rest l o d h e =
       let t = mode_lines_text r nm (suc k) mss ++ rest in
       let v : ModeLine = record { name = entry_name nm k; modes = ms } in
-      let p = and-true (is_entry nm k) (relations_named r nm (suc k) mss) d in
+      let p = and_parts (is_entry nm k) (relations_named r nm (suc k) mss) d in
       ap (lines_for (suc n) is_mode_line read_mode_line) (append_assoc (mode_line_text r nm k ms) (mode_lines_text r nm (suc k) mss) rest)
       ∙ lines-one is_mode_line read_mode_line n (mode_line_text r nm k ms ++ t) t v (is-mode-line k ms t p.0) (mode-back k ms t p.0 o.0 ∙ ap (got v) (modes-solid (suc k) mss rest h))
       ∙ ap (cons_got v) (modes-back n (suc k) mss rest (omega arith) o.1 p.1 h e)

@@ -12,7 +12,8 @@ use native.Mathlib.Omega.{arith}
 use Rattle.load.proofs.Accepted.{accepted, ClauseRight, Right}
 use Rattle.load.proofs.Inside.{ask-fields, clause-fields}
 use Rattle.parlog.proofs.Along.{along-add, list_length}
-use Rattle.parlog.proofs.Bools.{and-true, split}
+use Rattle.std.proofs.lemmas.Bool.{and_parts}
+use Rattle.parlog.proofs.Bools.{split}
 use Rattle.parlog.specs.Body.{clause_body, goal_range, literal_count, mode_range, modes_range, relation_body, stage_range, stages_range}
 use Rattle.parlog.specs.Image.{body_at, guard_at, literal_end, mode_end, stage_end, term_at, term_end}
 use Rattle.parlog.specs.Load.{load_of}
@@ -39,8 +40,8 @@ each-tested : {A : Type 0} (P : A → Type 0) (f g : ℕ → Bool) (read : ℕ �
 unfolding list_of each
 each-tested P f g read next h zero at d e = tt
 each-tested P f g read next h (suc n) at d e =
-    let a = and-true (f at) (each f next n (next at)) d in
-    let b = and-true (g at) (each g next n (next at)) e in
+    let a = and_parts (f at) (each f next n (next at)) d in
+    let b = and_parts (g at) (each g next n (next at)) e in
     (h at a.0 b.0, each-tested P f g read next h n (next at) a.1 b.1)
 
 row-tested : {A : Type 0} (P : A → Type 0) (f : ℕ → Bool) (read : ℕ → A) (next : ℕ → ℕ) → ((i : ℕ) → f i ≡ true → P (read i)) → (n at : ℕ) → 1 ≤ n → each f next n at ≡ true → RowOk P (list_of read next n at)
@@ -55,8 +56,8 @@ module _ (s : List ℕ) where
   unfolding relation_body modes_of
   modes-made at e =
       let n = byte_at s (at + 4) in
-      let a = and-true (leb n 4) (modes_range s n (at + 5) && eqb (at + 5 + n) (record_end s at)) e in
-      let b = and-true (modes_range s n (at + 5)) (eqb (at + 5 + n) (record_end s at)) a.1 in
+      let a = and_parts (leb n 4) (modes_range s n (at + 5) && eqb (at + 5 + n) (record_end s at)) e in
+      let b = and_parts (modes_range s n (at + 5)) (eqb (at + 5 + n) (record_end s at)) a.1 in
       each-tested ModeOk (mode_range s) (mode_range s) (byte_at s) mode_end (λ i x y. leb-true (byte_at s i) 1 x) n (at + 5) b.0 b.0
 
   -- ---- goals
@@ -64,14 +65,14 @@ module _ (s : List ℕ) where
   module _ (r vars : ℕ) where
     relation-known : (q a : ℕ) → relation_named s r q a ≡ true → q < r
     unfolding relation_named
-    relation-known q a e = ltb-true q r (and-true (ltb q r) _ e).0
+    relation-known q a e = ltb-true q r (and_parts (ltb q r) _ e).0
 
     literal-made : (at : ℕ) → literal_named s r vars at ≡ true → LiteralMade r (literal_of s at)
     unfolding literal_named literal_of
     literal-made at e =
         let q = byte_at s at in
         let a = byte_at s (at + 1) in
-        let w = (and-true (cond (eqb q 255) (eqb a 2) (relation_named s r q a)) (terms_named s vars a (at + 2)) e).0 in
+        let w = (and_parts (cond (eqb q 255) (eqb a 2) (relation_named s r q a)) (terms_named s vars a (at + 2)) e).0 in
         record {
           pair = λ z. list_length (term_at s) term_end a (at + 2) ∙ eqb-true a 2 (rw (eq-eqb q 255 z) at w);
           known = λ z. relation-known q a (rw (ne_eqb q 255 z) at w);
@@ -81,14 +82,14 @@ module _ (s : List ℕ) where
     unfolding stage_range stage_of
     stage-made at d e =
         let n = byte_at s at in
-        row-tested (LiteralMade r) (literal_named s r vars) (literal_of s) (literal_end s) literal-made n (at + 1) (leb-true 1 n (and-true (leb 1 n) _ d).0) e
+        row-tested (LiteralMade r) (literal_named s r vars) (literal_of s) (literal_end s) literal-made n (at + 1) (leb-true 1 n (and_parts (leb 1 n) _ d).0) e
 
     goal-made : (at : ℕ) → goal_range s at ≡ true → goal_named s r vars at ≡ true → GoalMade r (goal_of s at)
     unfolding goal_range goal_named goal_of
     goal-made at d e =
         let n = byte_at s at in
-        let a = and-true (leb n 8) (stages_range s n (at + 1) && leb (literal_count s n (at + 1)) 8) d in
-        let b = and-true (stages_range s n (at + 1)) (leb (literal_count s n (at + 1)) 8) a.1 in
+        let a = and_parts (leb n 8) (stages_range s n (at + 1) && leb (literal_count s n (at + 1)) 8) d in
+        let b = and_parts (stages_range s n (at + 1)) (leb (literal_count s n (at + 1)) 8) a.1 in
         each-tested (RowOk (LiteralMade r)) (stage_range s) (stage_named s r vars) (stage_of s) (stage_end s) stage-made n (at + 1) b.0 e
 
   -- ---- clauses
@@ -98,8 +99,8 @@ module _ (s : List ℕ) where
   clause-made r at p =
       let v = byte_at s (at + 7) in
       let f = clause-fields s at p.body in
-      let a = and-true (terms_named s v (byte_at s (at + 5)) (at + 8)) (goal_named s r v (guard_at s at) && goal_named s r v (body_at s at)) p.names in
-      let b = and-true (goal_named s r v (guard_at s at)) (goal_named s r v (body_at s at)) a.1 in
+      let a = and_parts (terms_named s v (byte_at s (at + 5)) (at + 8)) (goal_named s r v (guard_at s at) && goal_named s r v (body_at s at)) p.names in
+      let b = and_parts (goal_named s r v (guard_at s at)) (goal_named s r v (body_at s at)) a.1 in
       record {
         known = relation-known r v (byte_at s (at + 4)) (byte_at s (at + 5)) p.head;
         vars = f.vars;
@@ -109,7 +110,7 @@ module _ (s : List ℕ) where
 
   mark-small : (at : ℕ) → clause_body s at ≡ true → byte_at s (at + 6) ≤ 1
   unfolding clause_body
-  mark-small at e = leb-true (byte_at s (at + 6)) 1 (and-true (leb (byte_at s (at + 6)) 1) _ (and-true (leb (byte_at s (at + 5)) 4) _ e).1).0
+  mark-small at e = leb-true (byte_at s (at + 6)) 1 (and_parts (leb (byte_at s (at + 6)) 1) _ (and_parts (leb (byte_at s (at + 5)) 4) _ e).1).0
 
   -- ---- marks
 

@@ -7,7 +7,7 @@ use lib.Dec.{eqb}
 use lib.ListN.{length}
 use borrow.Author.Tests.{eqb-false}
 use native.Mathlib.Omega.{arith}
-use Rattle.parlog.proofs.Bools.{and-true, true-and}
+use Rattle.std.proofs.lemmas.Bool.{and_parts, and_from}
 use Rattle.parlog.specs.Orders.{Each}
 use Rattle.parlog.specs.Program.{Clause, Goal, Literal, Program}
 use Rattle.parlog.specs.declared.Term.{Term}
@@ -25,7 +25,7 @@ use Rattle.text_program.specs.Printing.{clause_named, goal_named, literal_named,
 each_all : {A : Type 0} (f : A → Bool) (xs : List A) → Each (λ x. f x ≡ true) xs → all_of f xs ≡ true
 unfolding all_of
 each_all f [] e = refl
-each_all f (x ∷ xs) e = true-and (f x) (all_of f xs) e.0 (each_all f xs e.1)
+each_all f (x ∷ xs) e = and_from (f x) (all_of f xs) e.0 (each_all f xs e.1)
 
 abbrev pub ConstantNamed : ℕ → List ℕ → ℕ → Type 0
 ConstantNamed r nm c = is_entry nm (r + c) ≡ true
@@ -43,7 +43,7 @@ module _ (r : ℕ) (nm : List ℕ) (relations : (k : ℕ) → k < r → is_entry
     where
       go : (b : Bool) → eqb l.rel 255 ≡ b → all_of (term_named r nm) l.args ≡ true → cond b (all_of (term_named r nm) l.args) (is_entry nm l.rel && all_of (term_named r nm) l.args) ≡ true
       go true f e = e
-      go false f e = true-and (is_entry nm l.rel) (all_of (term_named r nm) l.args) (relations l.rel (m.known (eqb-false l.rel 255 f))) e
+      go false f e = and_from (is_entry nm l.rel) (all_of (term_named r nm) l.args) (relations l.rel (m.known (eqb-false l.rel 255 f))) e
 
   abbrev Args : Literal → Type 0
   Args l = Each (TermOk r nm) l.args
@@ -60,14 +60,14 @@ module _ (r : ℕ) (nm : List ℕ) (relations : (k : ℕ) → k < r → is_entry
       let g = terms_of_goal c.guard in
       let b = terms_of_goal c.body in
       let f = each_right (TermOk r nm) c.head (g ++ b) e in
-      true-and (is_entry nm c.rel) _ (relations c.rel m.known)
-      (true-and (all_of (term_named r nm) c.head) _ (each_all (term_named r nm) c.head (each_left (TermOk r nm) c.head (g ++ b) e))
-      (true-and (goal_named r nm c.guard) (goal_named r nm c.body) (goal-named c.guard m.guard (each_left (TermOk r nm) g b f)) (goal-named c.body m.body (each_right (TermOk r nm) g b f))))
+      and_from (is_entry nm c.rel) _ (relations c.rel m.known)
+      (and_from (all_of (term_named r nm) c.head) _ (each_all (term_named r nm) c.head (each_left (TermOk r nm) c.head (g ++ b) e))
+      (and_from (goal_named r nm c.guard) (goal_named r nm c.body) (goal-named c.guard m.guard (each_left (TermOk r nm) g b f)) (goal-named c.body m.body (each_right (TermOk r nm) g b f))))
 
   relations-named : (k : ℕ) (mss : List (List ℕ)) → k + length mss ≤ r → relations_named r nm k mss ≡ true
   unfolding relations_named
   relations-named k [] h = refl
-  relations-named k (ms ∷ mss) h = true-and (is_entry nm k) (relations_named r nm (suc k) mss) (relations k (omega arith)) (relations-named (suc k) mss (omega arith))
+  relations-named k (ms ∷ mss) h = and_from (is_entry nm k) (relations_named r nm (suc k) mss) (relations k (omega arith)) (relations-named (suc k) mss (omega arith))
 
 -- THE LAW: with a name for each relation and each constant in use, the program can be printed
 pub program-named : (nm : List ℕ) (pr : Program) → Made pr → ((k : ℕ) → k < length pr.relations → is_entry nm k ≡ true) → Each (ConstantNamed (length pr.relations) nm) (constants_in (terms_of pr)) → program_named nm pr ≡ true
@@ -77,8 +77,8 @@ program-named nm pr m rs e =
     let ts = terms-named r nm rs (terms_of pr) e in
     let front = joined terms_of_clause pr.clauses in
     let last = terms_of_goal pr.goal in
-    true-and (relations_named r nm 0 pr.relations) _ (relations-named r nm rs 0 pr.relations (omega arith))
-    (true-and (all_of (clause_named r nm) pr.clauses) (goal_named r nm pr.goal)
+    and_from (relations_named r nm 0 pr.relations) _ (relations-named r nm rs 0 pr.relations (omega arith))
+    (and_from (all_of (clause_named r nm) pr.clauses) (goal_named r nm pr.goal)
     (each_all (clause_named r nm) pr.clauses (each-also (ClauseMade r) (λ c. Each (TermOk r nm) (terms_of_clause c)) (λ c. clause_named r nm c ≡ true) (clause-named r nm rs) pr.clauses m.clauses
     (each-parts (TermOk r nm) terms_of_clause pr.clauses (each_left (TermOk r nm) front last ts))))
     (goal-named r nm rs pr.goal m.goal (each_right (TermOk r nm) front last ts)))
@@ -94,10 +94,10 @@ constants-named r nm (Var v ∷ ts) e = constants-named r nm ts e.1
 named-relation : (r : ℕ) (nm : List ℕ) (k i : ℕ) (mss : List (List ℕ)) → relations_named r nm k mss ≡ true → i < length mss → is_entry nm (k + i) ≡ true
 unfolding relations_named
 named-relation r nm k i [] e h = absurd (omega arith)
-named-relation r nm k zero (ms ∷ mss) e h = let z : k + 0 ≡ k = omega arith in rw z (and-true (is_entry nm k) (relations_named r nm (suc k) mss) e).0
+named-relation r nm k zero (ms ∷ mss) e h = let z : k + 0 ≡ k = omega arith in rw z (and_parts (is_entry nm k) (relations_named r nm (suc k) mss) e).0
 named-relation r nm k (suc i) (ms ∷ mss) e h =
     let z : suc k + i ≡ k + suc i = omega arith in
-    (rw z at (named-relation r nm (suc k) i mss (and-true (is_entry nm k) (relations_named r nm (suc k) mss) e).1 (omega arith)))
+    (rw z at (named-relation r nm (suc k) i mss (and_parts (is_entry nm k) (relations_named r nm (suc k) mss) e).1 (omega arith)))
 
 pub record AllNamed (nm : List ℕ) (pr : Program) : Type 0 where
   pub relations : (k : ℕ) → k < length pr.relations → is_entry nm k ≡ true

@@ -2,13 +2,13 @@
 use mathlib.Core.Path.{◌∙◌, ◌≡◌, ap, refl, sym}
 use mathlib.Core.Logic.{◌⊎◌, inl, inr}
 use mathlib.Core.Bool.{◌&&◌, Bool, cond, false, true}
-use mathlib.Core.List.{[], ◌++◌, ◌∷◌, append_assoc, append-nil, List, map}
+use mathlib.Core.List.{[], ◌++◌, ◌∷◌, append_assoc, append-nil, List, map, map-append, map-map}
 use Prim.Native.Nat.{◌%◌, ◌+◌, ◌<◌, ◌≤◌, suc, ℕ}
 use lib.Dec.{eqb}
 use lib.ListN.{get_or, length}
 use borrow.Author.Tests.{eqb-false, eqb-true, le-leb}
 use native.Mathlib.Omega.{arith}
-use Rattle.parlog.proofs.Bools.{and-true}
+use Rattle.std.proofs.lemmas.Bool.{and_parts}
 use Rattle.parlog.specs.Orders.{Each}
 use Rattle.parlog.specs.Program.{Clause, Goal, Literal, Program}
 use Rattle.parlog.specs.declared.Term.{Term}
@@ -30,10 +30,6 @@ use Rattle.text_program.specs.Printing.{clause_named, goal_named, literal_named,
 use Rattle.text_program.specs.Source.{ModeLine, Source}
 
 -- ---- lists
-
-pub map-append : {A B : Type 0} (f : A → B) (xs ys : List A) → map f (xs ++ ys) ≡ map f xs ++ map f ys
-map-append f [] ys = refl
-map-append f (x ∷ xs) ys = ap (λ (zs : List _). f x ∷ zs) (map-append f xs ys)
 
 pub each_left : {A : Type 0} (P : A → Type 0) (xs ys : List A) → Each P (xs ++ ys) → Each P xs
 each_left P [] ys e = tt
@@ -61,12 +57,8 @@ pub map_same : {A : Type 0} (f : A → A) (xs : List A) → Each (λ x. f x ≡ 
 map_same f [] e = refl
 map_same f (x ∷ xs) e = rw (e.0, map_same f xs e.1)
 
-pub map-twice : {A B C : Type 0} (g : B → C) (f : A → B) (xs : List A) → map g (map f xs) ≡ map (λ x. g (f x)) xs
-map-twice g f [] = refl
-map-twice g f (x ∷ xs) = ap (λ (zs : List _). g (f x) ∷ zs) (map-twice g f xs)
-
 pub map_back : {A B : Type 0} (g : B → A) (f : A → B) (xs : List A) → Each (λ x. g (f x) ≡ x) xs → map g (map f xs) ≡ xs
-map_back g f xs e = map-twice g f xs ∙ map_same (λ x. g (f x)) xs e
+map_back g f xs e = map-map g f xs ∙ map_same (λ x. g (f x)) xs e
 
 pub joined-map : {A B C D : Type 0} (P : A → Type 0) (f : B → List D) (g : A → B) (h : C → D) (k : A → List C) → ((x : A) → P x → f (g x) ≡ map h (k x)) → (xs : List A) → Each P xs → joined f (map g xs) ≡ map h (joined k xs)
 unfolding joined
@@ -120,7 +112,7 @@ pub record Made (pr : Program) : Type 0 where
 pub each_of : {A : Type 0} (f : A → Bool) (P : A → Type 0) → ((x : A) → f x ≡ true → P x) → (xs : List A) → all_of f xs ≡ true → Each P xs
 unfolding all_of
 each_of f P h [] e = tt
-each_of f P h (x ∷ xs) e = let w = and-true (f x) (all_of f xs) e in (h x w.0, each_of f P h xs w.1)
+each_of f P h (x ∷ xs) e = let w = and_parts (f x) (all_of f xs) e in (h x w.0, each_of f P h xs w.1)
 
 module _ (r : ℕ) (nm : List ℕ) where
   terms-ok : (ts : List Term) → all_of (term_named r nm) ts ≡ true → Each (TermOk r nm) ts
@@ -132,7 +124,7 @@ module _ (r : ℕ) (nm : List ℕ) where
     where
       go : (b : Bool) → eqb l.rel 255 ≡ b → cond b (all_of (term_named r nm) l.args) (is_entry nm l.rel && all_of (term_named r nm) l.args) ≡ true → LiteralOk r nm l
       go true f e = record { terms = terms-ok l.args e; pair = m.pair; named = λ h. absurd (h (eqb-true l.rel 255 f)) }
-      go false f e = let w = and-true (is_entry nm l.rel) (all_of (term_named r nm) l.args) e in record { terms = terms-ok l.args w.1; pair = m.pair; named = λ h. w.0 }
+      go false f e = let w = and_parts (is_entry nm l.rel) (all_of (term_named r nm) l.args) e in record { terms = terms-ok l.args w.1; pair = m.pair; named = λ h. w.0 }
 
   stage-ok : (st : List Literal) → RowOk (LiteralMade r) st → all_of (literal_named r nm) st ≡ true → RowOk (LiteralOk r nm) st
   stage-ok [] m e = absurd m
@@ -145,9 +137,9 @@ module _ (r : ℕ) (nm : List ℕ) where
 
   clause-ok : (c : Clause) → ClauseMade r c → clause_named r nm c ≡ true → ClauseOk r nm c
   clause-ok c m e =
-      let a = and-true (is_entry nm c.rel) (all_of (term_named r nm) c.head && (goal_named r nm c.guard && goal_named r nm c.body)) e in
-      let b = and-true (all_of (term_named r nm) c.head) (goal_named r nm c.guard && goal_named r nm c.body) a.1 in
-      let d = and-true (goal_named r nm c.guard) (goal_named r nm c.body) b.1 in
+      let a = and_parts (is_entry nm c.rel) (all_of (term_named r nm) c.head && (goal_named r nm c.guard && goal_named r nm c.body)) e in
+      let b = and_parts (all_of (term_named r nm) c.head) (goal_named r nm c.guard && goal_named r nm c.body) a.1 in
+      let d = and_parts (goal_named r nm c.guard) (goal_named r nm c.body) b.1 in
       record { named = a.0; head = terms-ok c.head b.0; guard = goal-ok c.guard m.guard d.0; body = goal-ok c.body m.body d.1 }
 
   clauses-ok : (cs : List Clause) → Each (ClauseMade r) cs → all_of (clause_named r nm) cs ≡ true → Each (ClauseOk r nm) cs
@@ -157,8 +149,8 @@ pub lines_ok : (nm : List ℕ) (pr : Program) → Made pr → program_named nm p
 unfolding program_named
 lines_ok nm pr m e =
     let r = length pr.relations in
-    let a = and-true (relations_named r nm 0 pr.relations) (all_of (clause_named r nm) pr.clauses && goal_named r nm pr.goal) e in
-    let b = and-true (all_of (clause_named r nm) pr.clauses) (goal_named r nm pr.goal) a.1 in
+    let a = and_parts (relations_named r nm 0 pr.relations) (all_of (clause_named r nm) pr.clauses && goal_named r nm pr.goal) e in
+    let b = and_parts (all_of (clause_named r nm) pr.clauses) (goal_named r nm pr.goal) a.1 in
     record { modes = m.modes; relations = a.0; clauses = clauses-ok r nm pr.clauses m.clauses b.0; goal = goal-ok r nm pr.goal m.goal b.1 }
 
 -- ---- the terms that are said

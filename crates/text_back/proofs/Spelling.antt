@@ -17,7 +17,9 @@ use Rattle.spell.proofs.Exact.{right-accepted}
 use Rattle.spell.specs.Forms.{◌or◌, ◌then◌, Form, in_span, many, read_byte, read-end, read_left, read_more, read_none, read_right, read_then, Reads}
 use Rattle.spell.specs.Grammar.{arrow, blank, blanks, bracketed, byte, clause, ClauseText, goal, goal_line, literal, lower, mark, mode_line, name_byte, perhaps, term, text, word}
 use Rattle.spell.specs.Stuck.{spelling_of}
-use Rattle.text_back.proofs.Begin.{all_name, entry-lower, Lower, lower-spelt, or_cases, Spelt, spelt-begins, spelt-some}
+use Rattle.std.proofs.Common.{⊎_elim}
+use Rattle.std.proofs.lemmas.Bool.{or_cases}
+use Rattle.text_back.proofs.Begin.{all_name, entry-lower, Lower, lower-spelt, Spelt, spelt-begins, spelt-some}
 use Rattle.text_back.proofs.Items.{equality-text, goal-begins, GoalOk, LiteralOk, literals-back, literal_way, stages-back, stage_way, term-commas, term-spelt, TermOk, terms-back, term_way}
 use Rattle.text_back.proofs.Lines.{arrow-skip, blank_skip, clause-split, ClauseOk, clauses-solid, colon-skip, goal-line-solid, guard-split, LinesOk, mode-commas, mode-split, modes-solid, modes-way, mode_way, name-lower, plain-skip, skip_stop, stop_of, Stops, stops-46, stops-by}
 use Rattle.text_back.proofs.Rows.{Back, Between, bracket-split, rest_more, row-split, RowOk, rows_back, Way}
@@ -35,15 +37,18 @@ one_span m b e = rw (e, le-leb m m (omega arith), le-leb m (m + 0) (omega arith)
 blank-reads : (b : ℕ) (s : List ℕ) → is_blank b ≡ true → Reads blank (b ∷ s) s
 unfolding is_blank
 blank-reads b s e =
-    or_cases (in_span 9 1 b) (eqb b 13 || eqb b 32) e (λ f. read_left (read_byte f))
-    (λ g. or_cases (eqb b 13) (eqb b 32) g (λ f. read_right (read_left (read_byte (one_span 13 b (eqb-true b 13 f))))) (λ f. read_right (read_right (read_byte (one_span 32 b (eqb-true b 32 f))))))
+    ⊎_elim (λ f. read_left (read_byte f))
+    (λ g. ⊎_elim (λ f. read_right (read_left (read_byte (one_span 13 b (eqb-true b 13 f))))) (λ f. read_right (read_right (read_byte (one_span 32 b (eqb-true b 32 f))))) (or_cases (eqb b 13) (eqb b 32) g))
+    (or_cases (in_span 9 1 b) (eqb b 13 || eqb b 32) e)
 
 name-reads : (b : ℕ) (s : List ℕ) → is_name b ≡ true → Reads name_byte (b ∷ s) s
 unfolding is_name is_small is_capital
 name-reads b s e =
-    or_cases (in_span 97 25 b) (in_span 65 25 b || (in_span 48 9 b || eqb b 95)) e (λ f. read_left (read_byte f))
-    (λ g. or_cases (in_span 65 25 b) (in_span 48 9 b || eqb b 95) g (λ f. read_right (read_left (read_byte f)))
-    (λ h. or_cases (in_span 48 9 b) (eqb b 95) h (λ f. read_right (read_right (read_left (read_byte f)))) (λ f. read_right (read_right (read_right (read_byte (one_span 95 b (eqb-true b 95 f))))))))
+    ⊎_elim (λ f. read_left (read_byte f))
+    (λ g. ⊎_elim (λ f. read_right (read_left (read_byte f)))
+    (λ h. ⊎_elim (λ f. read_right (read_right (read_left (read_byte f)))) (λ f. read_right (read_right (read_right (read_byte (one_span 95 b (eqb-true b 95 f)))))) (or_cases (in_span 48 9 b) (eqb b 95) h))
+    (or_cases (in_span 65 25 b) (in_span 48 9 b || eqb b 95) g))
+    (or_cases (in_span 97 25 b) (in_span 65 25 b || (in_span 48 9 b || eqb b 95)) e)
 
 pub skip-reads : (s : List ℕ) → Reads blanks s (skip s)
 unfolding skip
@@ -69,7 +74,7 @@ unfolding all_name is_small is_capital
 term-reads [] s p = let h = spelt-some [] p in absurd (omega arith)
 term-reads (b ∷ x) s p =
     let a = names-reads x s (and-true (is_name b) (all_name x) p.all).1 in
-    or_cases (in_span 97 25 b) (in_span 65 25 b) p.letter (λ f. read_then (read_then (read_left (read_byte f)) a) (skip-reads s)) (λ f. read_then (read_then (read_right (read_byte f)) a) (skip-reads s))
+    ⊎_elim (λ f. read_then (read_then (read_left (read_byte f)) a) (skip-reads s)) (λ f. read_then (read_then (read_right (read_byte f)) a) (skip-reads s)) (or_cases (in_span 97 25 b) (in_span 65 25 b) p.letter)
 
 mark-reads : (m : ℕ) (s : List ℕ) → Reads (mark m) (m ∷ s) (skip s)
 mark-reads m s = read_then (read_byte (one_span m m refl)) (skip-reads s)
@@ -114,8 +119,8 @@ module _ {A B : Type 0} (w : Way A B) (b : Back w) (f m : Form) (between : List 
   run_row [] rest o = absurd o
   run_row (x ∷ xs) rest o = run_of (row-split w.text between x xs rest) (run-rests x xs rest o)
 
-in_brackets : {f : Form} {s t u v : List ℕ} → Reads (mark 40) s t → Run f (mark 44) t u → Reads (mark 41) u v → Reads (bracketed f) s v
-in_brackets a (run b d) e = read_right (read_then a (read_then b (read_then d e)))
+pub bracket-reads : {f : Form} {s t u v : List ℕ} → Reads (mark 40) s t → Run f (mark 44) t u → Reads (mark 41) u v → Reads (bracketed f) s v
+bracket-reads a (run b d) e = read_right (read_then a (read_then b (read_then d e)))
 
 comma-one : (s : List ℕ) → Reads (mark 44) (skip ((44 ∷ []) ++ s)) (skip s)
 unfolding skip is_blank
@@ -127,7 +132,7 @@ module _ {A B : Type 0} (w : Way A B) (b : Back w) (f : Form) (m : Between w 44 
   brackets-read [] rest o = read_left read_none
   brackets-read (x ∷ xs) rest o =
       of (ap skip (bracket-split w.text x xs rest))
-      (in_brackets (to ((rows_back w b 44 (44 ∷ []) m).begins (x ∷ xs) (41 ∷ rest) o) (mark-reads 40 (row_text w.text (44 ∷ []) (x ∷ xs) ++ (41 ∷ rest))))
+      (bracket-reads (to ((rows_back w b 44 (44 ∷ []) m).begins (x ∷ xs) (41 ∷ rest) o) (mark-reads 40 (row_text w.text (44 ∷ []) (x ∷ xs) ++ (41 ∷ rest))))
       (run_row w b f (mark 44) (44 ∷ []) (λ y t p. run (items y t p) read-end) comma-one (x ∷ xs) (41 ∷ rest) o) (mark-reads 41 rest))
 
 module _ (r : ℕ) (nm : List ℕ) where

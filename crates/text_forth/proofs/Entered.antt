@@ -7,7 +7,8 @@ use lib.ListN.{drop, get_or, length, take}
 use lib.Seq.{take-length, take-suc}
 use borrow.Author.Tests.{ne_eqb}
 use native.Mathlib.Omega.{arith}
-use Rattle.parlog.proofs.Bools.{and-true, never}
+use Rattle.std.proofs.lemmas.Bool.{and_parts}
+use Rattle.parlog.proofs.Bools.{never}
 use Rattle.parlog.specs.Orders.{Each}
 use Rattle.text_back.proofs.Begin.{all_name, back-of, end-no-name, first_of, front_of, Lower, lower-spelt}
 use Rattle.text_back.specs.Back.{firsts}
@@ -36,7 +37,7 @@ behind-name : (x s : List ℕ) → all_name x ≡ true → behind_entry (x ++ (1
 unfolding behind_entry all_name
 behind-name [] s e = refl
 behind-name (b ∷ x) s e =
-    let w = and-true (is_name b) (all_name x) e in
+    let w = and_parts (is_name b) (all_name x) e in
     rw (ne_eqb b 10 (λ z. never (sym end-no-name ∙ ap is_name (sym z) ∙ w.0))) (behind-name x s w.1)
 
 entry-from : (xs : List Name) (k : ℕ) → Each Lower xs → k < length xs → entry_from (entries xs) k ≡ get_or xs k [] ++ (10 ∷ entries (drop (suc k) xs))

@@ -7,7 +7,8 @@ use lib.Dec.{eqb}
 use lib.ListN.{length}
 use borrow.Author.Tests.{eq-eqb, ne_eqb}
 use native.Mathlib.Omega.{arith}
-use Rattle.parlog.proofs.Bools.{never, not_so}
+use Rattle.std.proofs.lemmas.Bool.{false_from_ne_true}
+use Rattle.parlog.proofs.Bools.{never}
 use Rattle.parlog.specs.Orders.{Each}
 use Rattle.spell.specs.Forms.{◌or◌, ◌then◌, Form, many, read_byte, read-end, read_left, read_more, read_none, read_right, read_then, Reads}
 use Rattle.spell.specs.Grammar.{arrow, blank, blanks, bracketed, byte, clause, ClauseText, goal, lower, mark, mode_line, perhaps, term, text}
@@ -141,7 +142,7 @@ record Behind (m : List ℕ) : Type 0 where
   pub no-small : is_small (first m) ≡ false
 
 stop-behind : (q : ℕ) → Stops q → is_small q ≡ false
-stop-behind q p = not_so (is_small q) (λ e. never (sym p.name ∙ small-name q e))
+stop-behind q p = false_from_ne_true (is_small q) (λ e. never (sym p.name ∙ small-name q e))
 
 arrow-facts : (is_name 60 ≡ false) × (is_blank 60 ≡ false) × (is_small 60 ≡ false)
 unfolding is_name is_small is_capital is_blank

@@ -7,7 +7,8 @@ use lib.Dec.{eqb, leb}
 use lib.ListN.{length}
 use borrow.Author.Tests.{eq-eqb, leb-true, ne_eqb}
 use native.Mathlib.Omega.{arith}
-use Rattle.parlog.proofs.Bools.{and-true, never, not_so, or_left, or_right}
+use Rattle.std.proofs.lemmas.Bool.{and_parts, false_from_ne_true, or_left, or_right}
+use Rattle.parlog.proofs.Bools.{never}
 use Rattle.parlog.specs.Orders.{Each}
 use Rattle.spell.specs.Forms.{◌or◌, ◌then◌, Form, in_span, many, read_byte, read-end, read_left, read_more, read_none, read_right, read_then, Reads, span}
 use Rattle.spell.specs.Grammar.{blank, blanks, bracketed, capital, goal, literal, lower, mark, name_byte, small, term}
@@ -22,7 +23,7 @@ pub data First (P : ℕ → Type 0) : List ℕ → List ℕ → Type 0 where
   one : {b : ℕ} {t : List ℕ} → P b → First P (b ∷ t) t
 
 pub one_byte : (m b : ℕ) → in_span m 0 b ≡ true → b ≡ m
-one_byte m b e = let w = and-true (leb m b) (leb b (m + 0)) e in omega (arith, leb-true m b w.0, leb-true b (m + 0) w.1)
+one_byte m b e = let w = and_parts (leb m b) (leb b (m + 0)) e in omega (arith, leb-true m b w.0, leb-true b (m + 0) w.1)
 
 is-small : (b : ℕ) → in_span 97 25 b ≡ true → is_small b ≡ true
 unfolding is_small
@@ -96,7 +97,7 @@ small-first : {s t : List ℕ} → Reads small s t → First S s t
 small-first = span-first {P = S} is-small
 
 blank-no-name : (b : ℕ) → is_blank b ≡ true → is_name b ≡ false
-blank-no-name b e = not_so (is_name b) (λ f. never (sym (name-solid b f) ∙ e))
+blank-no-name b e = false_from_ne_true (is_name b) (λ f. never (sym (name-solid b f) ∙ e))
 
 -- ---- names and blanks
 

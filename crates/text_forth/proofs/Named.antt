@@ -1,14 +1,14 @@
 -- The program of a parsed text: its terms by their numbers, and its names.
 use mathlib.Core.Path.{◌∙◌, ◌≡◌, ap, refl, sym}
 use mathlib.Core.Bool.{◌&&◌, Bool, cond, false, true}
-use mathlib.Core.List.{[], ◌++◌, ◌∷◌, List, map}
+use mathlib.Core.List.{[], ◌++◌, ◌∷◌, List, map, map-append}
 use Prim.Native.Nat.{ℕ}
 use lib.ListN.{length}
 use Rattle.parlog.specs.Orders.{Each}
 use Rattle.parlog.specs.Program.{Clause, Literal}
 use Rattle.parlog.specs.declared.Term.{Term}
 use Rattle.parlog.specs.declared.Term.TheVariants.{Const, Var}
-use Rattle.text_back.proofs.Numbers.{constants-append, joined-map, map-append}
+use Rattle.text_back.proofs.Numbers.{constants-append, joined-map}
 use Rattle.text_back.specs.Back.{Appear, constants_in, terms_of, terms_of_clause, terms_of_goal, VariablesAppear, variables_in}
 use Rattle.text_forth.proofs.Ordered.{appear-adds}
 use Rattle.text_loads.proofs.Decoded.{anything}

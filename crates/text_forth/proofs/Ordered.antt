@@ -10,7 +10,9 @@ use native.Mathlib.Omega.{arith}
 use Rattle.parlog.proofs.Bools.{never, split}
 use Rattle.parlog.proofs.Scans.{below_suc}
 use Rattle.parlog.specs.Orders.{Each}
-use Rattle.text_back.proofs.Begin.{Lower, or_cases, Spelt}
+use Rattle.std.proofs.Common.{⊎_elim}
+use Rattle.std.proofs.lemmas.Bool.{or_cases}
+use Rattle.text_back.proofs.Begin.{Lower, Spelt}
 use Rattle.text_back.proofs.Numbers.{each-join}
 use Rattle.text_back.specs.Back.{Appear, Distinct, first_time, met_before, no_more}
 use Rattle.text_names.proofs.Added.{add-fresh, add-old, look-adds}
@@ -105,7 +107,7 @@ adds-each P [] ys e p = e
 adds-each P (x ∷ xs) ys e p = adds-each P xs (add ys x) (add-each P ys x e p.0) p.1
 
 spelt-lower : (x : Name) → Spelt x → is_upper x ≡ false → Lower x
-spelt-lower x p e = record { all = p.all; small = or_cases (is_small (first x)) (is_capital (first x)) p.letter (λ f. f) (λ f. never (sym e ∙ f)) }
+spelt-lower x p e = record { all = p.all; small = ⊎_elim (λ f. f) (λ f. never (sym e ∙ f)) (or_cases (is_small (first x)) (is_capital (first x)) p.letter) }
 
 pub lowers-lower : (xs : List Name) → Each Spelt xs → Each Lower (lowers xs)
 unfolding lowers

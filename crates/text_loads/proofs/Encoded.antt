@@ -11,7 +11,7 @@ use native.Mathlib.Omega.{arith}
 use Rattle.load.proofs.Accepted.{accepted, ClauseRight, GoalRight, RelationRight, Right}
 use Rattle.load.proofs.Inside.{ask-fields, clause-fields}
 use Rattle.parlog.proofs.Along.{along-add, along-snoc, along-terms, list_length}
-use Rattle.parlog.proofs.Bools.{and-true}
+use Rattle.std.proofs.lemmas.Bool.{and_parts}
 use Rattle.parlog.specs.Body.{modes_range, relation_body}
 use Rattle.parlog.specs.Image.{body_at, goal_end, guard_at, literal_end, mode_end, stage_end, term_at, term_end, term_of}
 use Rattle.parlog.specs.Program.{clause_of, goal_of, literal_of, modes_of, program_of, stage_of}
@@ -123,8 +123,8 @@ module _ (s : List ℕ) (are : Bytes s) where
   unfolding relation_body
   relation-fields at e =
       let n = byte_at s (at + 4) in
-      let a = and-true (leb n 4) (modes_range s n (at + 5) && eqb (at + 5 + n) (record_end s at)) e in
-      eqb-true (at + 5 + n) (record_end s at) (and-true (modes_range s n (at + 5)) (eqb (at + 5 + n) (record_end s at)) a.1).1
+      let a = and_parts (leb n 4) (modes_range s n (at + 5) && eqb (at + 5 + n) (record_end s at)) e in
+      eqb-true (at + 5 + n) (record_end s at) (and_parts (modes_range s n (at + 5)) (eqb (at + 5 + n) (record_end s at)) a.1).1
 
   relation-bytes : (at : ℕ) → RelationRight s at → drop at s ≡ relation_bytes (modes_of s at) ++ drop (record_end s at) s
   unfolding relation_bytes modes_of

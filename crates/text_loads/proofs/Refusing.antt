@@ -24,7 +24,7 @@ use Rattle.text_loads.proofs.Counted.{At, encoded-kinds, Kinds, row_at}
 use Rattle.text_loads.proofs.Decoded.{clauses, clauses-at, clauses-place, from_start, goal-at, goal-place, relations}
 use Rattle.text_loads.specs.Loads.{ClauseFits, RecordsRefused}
 use Rattle.text_names.specs.Names.{Name}
-use Rattle.text_program.proofs.Fields.{record-end, record-kind, record-length, record-whole}
+use Rattle.text_program.proofs.Fields.{record-end, record-length, record-whole}
 use Rattle.text_program.specs.Encoded.{ask_bytes, clause_bytes, goal_bytes, program_bytes, record_bytes, relation_bytes}
 use Rattle.text_program.specs.Numbered.{joined, program_in, relation_names}
 use Rattle.text_program.specs.Parsing.{image_in, once_by, records_in, repeated, text_verdict}
@@ -50,9 +50,6 @@ module _ (s : List ℕ) (at kind : ℕ) (p : Placed s at kind) where
 
   placed-whole : cut s at ≡ false
   placed-whole = record-whole s kind p.body at p.rest p.stands
-
-  placed-kind : kind_at s at ≡ kind
-  placed-kind = record-kind s kind p.body at p.rest p.stands
 
 relation-placed : (s : List ℕ) (at : ℕ) → At s relation_bytes at → Placed s at 1
 unfolding relation_bytes

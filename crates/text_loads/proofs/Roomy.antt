@@ -7,7 +7,7 @@ use lib.Dec.{eqb}
 use lib.ListN.{drop, length, length-append, length-drop}
 use borrow.Author.Tests.{eqb-true}
 use native.Mathlib.Omega.{arith}
-use Rattle.parlog.proofs.Bools.{and-true}
+use Rattle.std.proofs.lemmas.Bool.{and_parts}
 use Rattle.text_loads.proofs.Parsed.{parse-steps}
 use Rattle.text_loads.proofs.Short.{never-long, passed-short}
 use Rattle.text_loads.specs.Loads.{NamesFit, RowsSuffice}
@@ -204,7 +204,7 @@ mode-line-pays : (s : List ℕ) → is_mode_line s ≡ true → Pays mode_name 0
 unfolding read_mode_line is_mode_line
 mode-line-pays s e =
     let g = read_brackets read_mode (past (past s)) in
-    let w = ap length (same-is (front s) mode_word (and-true (same_name (front s) mode_word) _ e).0) in
+    let w = ap length (same-is (front s) mode_word (and_parts (same_name (front s) mode_word) _ e).0) in
     omega (arith, w, past-less s, past-less (past s), modes-pay (past (past s)), next-less g.rest, size-more (front (past s)) [], size_none)
 
 -- ---- lines

@@ -12,7 +12,7 @@ use native.Mathlib.Omega.{arith}
 use Rattle.load.proofs.Accepted.{all-passed}
 use Rattle.load.proofs.Inside.{ask-fields, clause-fields}
 use Rattle.load.proofs.Room.{few-clauses, few-relations}
-use Rattle.parlog.proofs.Bools.{and-true, or-false}
+use Rattle.std.proofs.lemmas.Bool.{and_parts, or_parts}
 use Rattle.parlog.proofs.Walk.{walk-holds}
 use Rattle.parlog.specs.Body.{ask_body, body_right, clause_body, goal_range, literal_count, literal_range, literals_range, modes_range, relation_body, stage_range, stages_range}
 use Rattle.parlog.specs.Image.{body_at, goal_end, guard_at, literal_end, literals_end, stage_end, stages_end}
@@ -32,20 +32,20 @@ module _ (s : List ℕ) where
   unfolding each along
   literals-reach zero at e = omega arith
   literals-reach (suc n) at e =
-      let w = and-true (literal_range s at) (literals_range s n (literal_end s at)) e in
+      let w = and_parts (literal_range s at) (literals_range s n (literal_end s at)) e in
       let a = leb-true (byte_at s (at + 1)) 4 w.0 in
       let i = literals-reach n (literal_end s at) w.1 in
       omega arith
 
   stage-reach : (at : ℕ) → stage_range s at ≡ true → stage_end s at ≤ at + 1 + 10 * byte_at s at
   unfolding stage_range stage_end
-  stage-reach at e = literals-reach (byte_at s at) (at + 1) (and-true (leb 1 (byte_at s at)) (literals_range s (byte_at s at) (at + 1)) e).1
+  stage-reach at e = literals-reach (byte_at s at) (at + 1) (and_parts (leb 1 (byte_at s at)) (literals_range s (byte_at s at) (at + 1)) e).1
 
   stages-reach : (n at : ℕ) → stages_range s n at ≡ true → stages_end s n at ≤ at + n + 10 * literal_count s n at
   unfolding each along total
   stages-reach zero at e = omega arith
   stages-reach (suc n) at e =
-      let w = and-true (stage_range s at) (stages_range s n (stage_end s at)) e in
+      let w = and_parts (stage_range s at) (stages_range s n (stage_end s at)) e in
       let a = stage-reach at w.0 in
       let i = stages-reach n (stage_end s at) w.1 in
       omega arith
@@ -54,8 +54,8 @@ module _ (s : List ℕ) where
   unfolding goal_range goal_end
   goal-reach at e =
       let n = byte_at s at in
-      let a = and-true (leb n 8) (stages_range s n (at + 1) && leb (literal_count s n (at + 1)) 8) e in
-      let b = and-true (stages_range s n (at + 1)) (leb (literal_count s n (at + 1)) 8) a.1 in
+      let a = and_parts (leb n 8) (stages_range s n (at + 1) && leb (literal_count s n (at + 1)) 8) e in
+      let b = and_parts (stages_range s n (at + 1)) (leb (literal_count s n (at + 1)) 8) a.1 in
       let x = leb-true n 8 a.0 in
       let y = leb-true (literal_count s n (at + 1)) 8 b.1 in
       let i = stages-reach n (at + 1) b.0 in
@@ -67,14 +67,14 @@ module _ (s : List ℕ) where
   unfolding relation_body
   relation-reach at e =
       let n = byte_at s (at + 4) in
-      let a = and-true (leb n 4) (modes_range s n (at + 5) && eqb (at + 5 + n) (record_end s at)) e in
+      let a = and_parts (leb n 4) (modes_range s n (at + 5) && eqb (at + 5 + n) (record_end s at)) e in
       let x = leb-true n 4 a.0 in
-      let y = eqb-true (at + 5 + n) (record_end s at) (and-true (modes_range s n (at + 5)) (eqb (at + 5 + n) (record_end s at)) a.1).1 in
+      let y = eqb-true (at + 5 + n) (record_end s at) (and_parts (modes_range s n (at + 5)) (eqb (at + 5 + n) (record_end s at)) a.1).1 in
       omega arith
 
   clause-arity : (at : ℕ) → clause_body s at ≡ true → byte_at s (at + 5) ≤ 4
   unfolding clause_body
-  clause-arity at e = leb-true (byte_at s (at + 5)) 4 (and-true (leb (byte_at s (at + 5)) 4) _ e).0
+  clause-arity at e = leb-true (byte_at s (at + 5)) 4 (and_parts (leb (byte_at s (at + 5)) 4) _ e).0
 
   clause-reach : (at : ℕ) → clause_body s at ≡ true → record_end s at ≤ at + 194
   clause-reach at e =
@@ -105,9 +105,9 @@ module _ (s : List ℕ) where
   kinds-right : (g : Progress) (kind : ℕ) → kind_fault g kind ≡ false → KindsRight g kind
   unfolding kind_fault
   kinds-right g kind e =
-      let a = or-false (ltb kind 1) (ltb 3 kind || (ltb kind g.kind || eqb g.kind 3)) e in
-      let b = or-false (ltb 3 kind) (ltb kind g.kind || eqb g.kind 3) a.1 in
-      let c = or-false (ltb kind g.kind) (eqb g.kind 3) b.1 in
+      let a = or_parts (ltb kind 1) (ltb 3 kind || (ltb kind g.kind || eqb g.kind 3)) e in
+      let b = or_parts (ltb 3 kind) (ltb kind g.kind || eqb g.kind 3) a.1 in
+      let c = or_parts (ltb kind g.kind) (eqb g.kind 3) b.1 in
       record { least = ltb-false kind 1 a.0; most = ltb-false 3 kind b.0; open-yet = eqb-false g.kind 3 c.1 }
 
   module _ (at : ℕ) (g : Progress) (w : Within at g) (few : too_many g (kind_at s at) ≡ false) (body : body_right s at (kind_at s at) ≡ true) (still : g.kind ≡ 3 → ⊥) where

@@ -1,4 +1,5 @@
 // Names and blanks where they stand in a text.
+// Kept: a text and a place in it, which is at most its end, come as two (`name_end`, `skip_blanks`, `after_mark`, `same_name`). A struct of both is no plainer: each of these answers a place, which the caller keeps with others of the same text, and would need that struct made again.
 #![tactic(auto)]
 
 ghost use Rattle.std.specs.Prelude.{◌≡◌, ◌+◌, ◌-◌, ◌≤◌, drop, length};
@@ -25,6 +26,7 @@ fn in_span(a: u8, z: u8, b: usize) -> bool
 }
 
 // A lower-case letter.
+// Kept beside `is_capital`: one function for both would take their first and last letter, and is `in_span`.
 #[tactic(auto, unfolding(crate::specs::Bytes::is_small))]
 pub fn is_small(b: usize) -> bool
     ensures { result ≡ is_small b }
@@ -61,14 +63,10 @@ fn is_blank(b: usize) -> bool
 // The place behind the name at a place.
 pub fn name_end(s: &[u8], from: usize) -> usize
     requires { from ≤ length s.now }
-    ensures { (drop result s.now ≡ back (drop from s.now)) × (result ≤ length s.now) }
+    ensures { (drop result s.now ≡ back (drop from s.now)) × (result ≤ length s.now) × (from ≤ result) }
 {
-    for i in from..s.len() {
-        if !is_name(place::byte_in(s, i)) {
-            return i;
-        }
-    }
-    s.len()
+    let bytes = s[from..].iter();
+    from + bytes.take_while(|b| is_name(usize::from(**b))).count()
 }
 
 // The place behind the blanks at a place.
@@ -76,12 +74,8 @@ pub fn skip_blanks(s: &[u8], from: usize) -> usize
     requires { from ≤ length s.now }
     ensures { (drop result s.now ≡ skip (drop from s.now)) × (result ≤ length s.now) }
 {
-    for i in from..s.len() {
-        if !is_blank(place::byte_in(s, i)) {
-            return i;
-        }
-    }
-    s.len()
+    let bytes = s[from..].iter();
+    from + bytes.take_while(|b| is_blank(usize::from(**b))).count()
 }
 
 // The place behind a mark and the blanks there.

@@ -7,6 +7,7 @@ use Prim.Native.Nat.{◌<◌, suc}
 use lib.ListN.{length}
 use borrow.Author.Tests.{ltb-false, ltb-true}
 use native.Mathlib.Omega.{arith}
+use Rattle.std.proofs.lemmas.Bool.{and_cases, and_left, and_right}
 use Rattle.parlog.proofs.Bools.{never, not_so}
 use Rattle.text_names.proofs.Looked.{same-is, same_self}
 use Rattle.text_names.specs.Names.{known, look, Name, same_name}
@@ -16,17 +17,6 @@ use Rattle.text_program.specs.Source.{calls, equals, Said, SaidClause, Source}
 use Rattle.text_refusals.specs.Unread.{as_head, behind, Calls, In, in_body, in_front, in_goal, in_guard, in_stage, Mentions, Undeclared}
 
 -- ---- tests of all items
-
-and-false : (a b : Bool) → (a && b) ≡ false → (a ≡ false) ⊎ (b ≡ false)
-and-false true b e = inr e
-and-false false b e = inl refl
-
-false_left : (a b : Bool) → a ≡ false → (a && b) ≡ false
-false_left a b e = rw e
-
-false_right : (a b : Bool) → b ≡ false → (a && b) ≡ false
-false_right true b e = e
-false_right false b e = refl
 
 pub record Failing {A : Type 0} (f : A → Bool) (xs : List A) : Type 0 where
   pub item : A
@@ -44,8 +34,8 @@ all-false f (x ∷ xs) e = go (f x) refl e (all-false f xs)
 
 false-all : {A : Type 0} (f : A → Bool) {x : A} {xs : List A} → In x xs → f x ≡ false → all_of f xs ≡ false
 unfolding all_of
-false-all f {x} (in_front {xs = xs}) e = false_left (f x) (all_of f xs) e
-false-all f (behind {y = y} {xs = xs} i) e = false_right (f y) (all_of f xs) (false-all f i e)
+false-all f {x} (in_front {xs = xs}) e = and_left (f x) (all_of f xs) e
+false-all f (behind {y = y} {xs = xs} i) e = and_right (f y) (all_of f xs) (false-all f i e)
 
 -- ---- names that are known
 
@@ -105,7 +95,7 @@ module _ (p : Source) where
   from-lacks f w = record { name = w.name; mentioned = f w.name w.there; missing = missing-not rels w.name w.unknown }
 
   clause-lacks : (c : SaidClause) → In c p.clauses → clause_declared rels c ≡ false → Undeclared p
-  clause-lacks c i e = head (and-false (known rels c.name) (rests c) e)
+  clause-lacks c i e = head (and_cases (known rels c.name) (rests c) e)
     where
       goals : (goal_declared rels c.guard ≡ false) ⊎ (goal_declared rels c.body ≡ false) → Undeclared p
       goals (inl e) = from-lacks {P = λ x. Calls x c.guard} (λ x y. in_guard i y) (goal-lacks rels c.guard e)
@@ -113,11 +103,11 @@ module _ (p : Source) where
 
       head : (known rels c.name ≡ false) ⊎ (rests c ≡ false) → Undeclared p
       head (inl e) = record { name = c.name; mentioned = as_head i refl; missing = missing-not rels c.name e }
-      head (inr e) = goals (and-false (goal_declared rels c.guard) (goal_declared rels c.body) e)
+      head (inr e) = goals (and_cases (goal_declared rels c.guard) (goal_declared rels c.body) e)
 
   pub declared-not : declared p ≡ false → Undeclared p
   unfolding declared
-  declared-not e = go (and-false (all_of (clause_declared rels) p.clauses) (goal_declared rels p.goal) e)
+  declared-not e = go (and_cases (all_of (clause_declared rels) p.clauses) (goal_declared rels p.goal) e)
     where
       go : (all_of (clause_declared rels) p.clauses ≡ false) ⊎ (goal_declared rels p.goal ≡ false) → Undeclared p
       go (inl e) = let w = all-false (clause_declared rels) p.clauses e in clause-lacks w.item w.among w.fails
@@ -125,13 +115,13 @@ module _ (p : Source) where
 
   clauses-false : {c : SaidClause} → In c p.clauses → clause_declared rels c ≡ false → declared p ≡ false
   unfolding declared
-  clauses-false i e = false_left (all_of (clause_declared rels) p.clauses) (goal_declared rels p.goal) (false-all (clause_declared rels) i e)
+  clauses-false i e = and_left (all_of (clause_declared rels) p.clauses) (goal_declared rels p.goal) (false-all (clause_declared rels) i e)
 
   mentions-false : {x : Name} → Mentions x p → known rels x ≡ false → declared p ≡ false
-  mentions-false (as_head {c} i z) e = clauses-false i (false_left (known rels c.name) (rests c) (rw z e))
-  mentions-false (in_guard {c} i y) e = clauses-false i (false_right (known rels c.name) (rests c) (false_left (goal_declared rels c.guard) (goal_declared rels c.body) (lacks-goal rels y e)))
-  mentions-false (in_body {c} i y) e = clauses-false i (false_right (known rels c.name) (rests c) (false_right (goal_declared rels c.guard) (goal_declared rels c.body) (lacks-goal rels y e)))
-  mentions-false (in_goal y) e = unfold declared in false_right (all_of (clause_declared rels) p.clauses) (goal_declared rels p.goal) (lacks-goal rels y e)
+  mentions-false (as_head {c} i z) e = clauses-false i (and_left (known rels c.name) (rests c) (rw z e))
+  mentions-false (in_guard {c} i y) e = clauses-false i (and_right (known rels c.name) (rests c) (and_left (goal_declared rels c.guard) (goal_declared rels c.body) (lacks-goal rels y e)))
+  mentions-false (in_body {c} i y) e = clauses-false i (and_right (known rels c.name) (rests c) (and_right (goal_declared rels c.guard) (goal_declared rels c.body) (lacks-goal rels y e)))
+  mentions-false (in_goal y) e = unfold declared in and_right (all_of (clause_declared rels) p.clauses) (goal_declared rels p.goal) (lacks-goal rels y e)
 
   -- THE LAW: the test finds it
   pub not-declared : Undeclared p → declared p ≡ false

@@ -44,7 +44,7 @@ search-all f (suc n) = go (search-all f n) (f n) refl
     go (all_pass h) false d = one-fails {k = n} (omega arith) d
     go (all_pass h) true d = all_pass (λ k l. below_suc k n l (λ e. rw e d) (h k))
 
-each_in : {A : Type 0} (P : A → Type 0) {x : A} {xs : List A} → In x xs → Each P xs → P x
+pub each_in : {A : Type 0} (P : A → Type 0) {x : A} {xs : List A} → In x xs → Each P xs → P x
 each_in P in_front e = e.0
 each_in P (behind i) e = each_in P i e.1
 

@@ -4,7 +4,7 @@ use mathlib.Core.List.{List}
 use Prim.Native.Nat.{ℕ}
 use Rattle.spell.specs.Forms.{◌or◌, Form, many, read-end, read_left, read_more, read_none, read_right, read_then, Reads}
 use Rattle.spell.specs.Grammar.{bracketed, clause, ClauseText, goal, goal_line, literal, lower, mark, mode_line, name_byte, perhaps, term, text}
-use Rattle.text_back.proofs.Spelling.{byte_reads, Run, run, run_join}
+use Rattle.text_back.proofs.Spelling.{bracket-reads, byte_reads, Run, run, run_join}
 use Rattle.text_forth.proofs.Followed.{halves_form}
 use Rattle.text_forth.proofs.Follows.{sep}
 use Rattle.text_names.specs.Names.{Name}
@@ -33,9 +33,6 @@ module _ {A : Type 0} (Item : Saying A) (k : ℕ) (f m : Form) (items : (s : Lis
   row-spelled : {s t : List ℕ} {xs : List A} → SaysRow Item k s xs t → Run f m s t
   row-spelled {s} {t} (last_item {x = x} w) = items s x t w
   row-spelled {s} (next_item {t = t} {u = u} {x = x} w a p) = run_join (items s x t w) (marks t u a) (row-spelled p)
-
-bracket-reads : {f : Form} {s t u v : List ℕ} → Reads (mark 40) s t → Run f (mark 44) t u → Reads (mark 41) u v → Reads (bracketed f) s v
-bracket-reads a (run b d) e = read_right (read_then a (read_then b (read_then d e)))
 
 module _ {A : Type 0} (Item : Saying A) (f : Form) (items : (s : List ℕ) (x : A) (t : List ℕ) → Item s x t → Reads f s t) where
   brackets-spelled : {s t : List ℕ} {xs : List A} → SaysBrackets Item s xs t → Reads (bracketed f) s t

@@ -1,4 +1,5 @@
 -- From the case of an answer to its word, and that an image that was made fits.
+use Rattle.std.specs.Int.{to_le_bytes, w16}
 use Rattle.std.specs.Prelude.{Err, Ok, Result, ⊤}
 use Rattle.parlog.specs.Answer.{Answer}
 use mathlib.Core.Path.{◌∙◌, ◌≡◌, ap, refl}
@@ -6,7 +7,7 @@ use mathlib.Core.Bool.{◌&&◌, Bool, false, true}
 use mathlib.Core.List.{List}
 use Prim.Native.Nat.{◌%◌, ◌/◌, ◌≤◌, ℕ}
 use lib.Dec.{leb}
-use lib.ListN.{length}
+use lib.ListN.{get_or, length}
 use borrow.Author.Tests.{le-ltb, ltb-false}
 use native.Mathlib.Omega.{arith}
 use Rattle.parlog.specs.Load.{long}
@@ -31,12 +32,15 @@ refused-told r e k = k ∙ ap (λ (x : Refusal). word (refused_as x)) e
 pub print-told : {a : Answer ℕ} {n t w : ℕ} → a ≡ Ok n → t ≡ told_offset n → w ≡ word (record { refused = 0; a = 0; b = 0; c = t }) → w ≡ word (print_numbers a)
 print-told e h k = rw (k, h, e)
 
-pub parse-told : {a : Answer (ℕ × ℕ)} {n m t w : ℕ} → a ≡ Ok (n, m) → t ≡ told_offset m → w ≡ word (record { refused = 0; a = n % 256; b = n / 256; c = t }) → w ≡ word (parse_numbers a)
-parse-told e h k = rw (k, h, e)
+pub parse-told : {a : Answer (ℕ × ℕ)} {n m p q t w : ℕ} → a ≡ Ok (n, m) → (p ≡ n % 256) × (q ≡ n / 256) → t ≡ told_offset m → w ≡ word (record { refused = 0; a = p; b = q; c = t }) → w ≡ word (parse_numbers a)
+parse-told e f h k = rw (k, f.0, f.1, h, e)
 
 -- a number of two bytes in two parts
 pub parts-fit : (n : ℕ) → n ≤ 65535 → (n % 256 ≤ 255) × (n / 256 ≤ 255)
 parts-fit n h = (omega arith, omega arith)
+
+pub parts-are : {l : List ℕ} {p q : ℕ} (n : ℕ) → n ≤ 65535 → l ≡ to_le_bytes w16 n → p ≡ get_or l 0 0 → q ≡ get_or l 1 0 → (p ≡ n % 256) × (q ≡ n / 256)
+parts-are n h e f g = (rw (f, e), rw (g, e) (omega arith))
 
 -- ---- the image of a text that is parsed has at most 32,768 bytes
 

@@ -6,14 +6,10 @@ ghost use Rattle.parlog.specs.Numbers.{word};
 ghost use Rattle.text_words.specs.Numbers.{ParseFits, parse_numbers, print_numbers};
 
 use parlog::Answer;
-
-// The refusal of a call that is accepted.
-const ACCEPTED: usize = 0;
-
-// How many numbers a byte has.
-const BYTE: usize = 256;
+use words::ACCEPTED;
 
 // Of a print: how many bytes the text has.
+// Kept beside `replay::replay_word`, like the words of crate `words`: each call has numbers by a definition of its own.
 pub fn print_word(a: Answer<usize>) -> u64
     ensures { result ≡ word (print_numbers a) }
 {
@@ -29,7 +25,15 @@ pub fn parse_word(a: Answer<(usize, usize)>) -> u64
     ensures { result ≡ word (parse_numbers a) }
 {
     match a {
-        Ok((n, m)) => words::word(ACCEPTED, n % BYTE, n / BYTE, words::told_number(m)),
+        Ok((n, m)) => {
+            let [low, high] = (n as u16).to_le_bytes();
+            words::word(
+                ACCEPTED,
+                usize::from(low),
+                usize::from(high),
+                words::told_number(m),
+            )
+        }
         Err(r) => words::refused(words::told_refusal(r)),
     }
 }

@@ -1,14 +1,17 @@
 -- Stamps that follow, records that fail a test, and the loops over a trace.
 use Rattle.parlog.specs.Answer.{Answer}
-use Rattle.std.specs.Prelude.{Option, Some, None, Err, Ok}
-use Rattle.std.proofs.Common.{◌≡◌, ℕ, zero, suc, ◌+◌, ◌-◌, ◌*◌, ◌%◌, ◌<◌, ◌≤◌, Bool, true, false, not, ◌||◌, eqb, ltb, ◌≢◌, List, length, sym, refl, ◌∙◌, arith, ltb-false, ltb-true, eq-eqb, ne_eqb, eqb-true}
+use Rattle.std.specs.Prelude.{cond, is_some, Option, Some, None, Err, Ok}
+use Rattle.std.proofs.Common.{◌≡◌, ℕ, zero, suc, ◌+◌, ◌-◌, ◌*◌, ◌%◌, ◌<◌, ◌≤◌, Bool, true, false, not, eqb, ltb, ◌≢◌, List, length, sym, refl, ◌∙◌, arith, ltb-false, ltb-true, eq-eqb, ne_eqb, eqb-true}
 use borrow.Author.Tests.{eqb-false}
-use Rattle.parlog.proofs.Bools.{never, or-false, split}
+use Rattle.parlog.proofs.Bools.{never, split}
 use Rattle.parlog.proofs.Scans.{Lowest, lowest-at, lowest-is, lowest-nothing}
 use Rattle.parlog.proofs.Walk.{whole}
-use Rattle.parlog.specs.Records.{cut, kind_at, record_end, word_at}
+use Rattle.parlog.specs.Records.{cut, kind_at, word_at}
 use Rattle.parlog.specs.declared.Refusal.{Refusal}
-use Rattle.trace.specs.Trace.{fail_if, FaultsSay, fault_tested, faulty, first_fault, first_gap, gap_at, is_gap, known_kind, record_fault, records_in, stamp_at, TestedSays, trace_size, trace_tested}
+use Rattle.trace.specs.declared.Kind.{Kind}
+use Rattle.trace.specs.declared.Kind.TheVariants.{Step, Supply}
+use Rattle.trace.specs.Kinds.{kind_of, kind_or_supply}
+use Rattle.trace.specs.Trace.{fail_if, FaultsSay, fault_tested, faulty, first_fault, first_gap, gap_at, is_gap, known_kind, record_fault, step_kind, supply_kind, records_in, stamp_at, TestedSays, trace_size, trace_tested}
 
 -- ---- stamps
 
@@ -20,10 +23,39 @@ gap-exact before stamp r hb hs hr e = split (eqb r 1)
 
 -- ---- a record
 
--- a record that is not cut has its front
-pub front-there : (s : List ℕ) (at : ℕ) → cut s at ≡ false → at + 4 ≤ length s
-unfolding cut
-front-there s at e = ltb-false (length s) (at + 4) (or-false (ltb (length s) (at + 4)) (ltb (word_at s at) 4 || ltb (length s) (record_end s at)) e).0
+-- a number is of a kind exactly where it is known
+kind-known : (n : ℕ) → is_some (kind_of n) ≡ known_kind n
+kind-known n = split (eqb n step_kind) (λ a. rw a) (λ a. split (eqb n supply_kind) (λ b. rw (a, b)) (λ b. rw (a, b)))
+
+pub known-as : (n : ℕ) {w : ℕ} {k : Option Kind} {q b : Bool} → w ≡ n → k ≡ kind_of w → is_some k ≡ not q → q ≡ b → known_kind n ≡ not b
+known-as n ew ek e t = sym (kind-known n) ∙ rw (ek, ew, t) at e
+
+module _ (n : ℕ) {w : ℕ} (ew : w ≡ n) where
+  pub kind-some : {k : Kind} → Some k ≡ kind_of w → k ≡ kind_or_supply n
+  kind-some {k} e = go (eqb n step_kind) (eqb n supply_kind) (rw ew at e)
+    where
+      go : (a b : Bool) → Some k ≡ cond a (Some Step) (cond b (Some Supply) None) → k ≡ cond a Step Supply
+      go true b z = cc
+      go false true z = cc
+      go false false z = let y : ◌≡◌ {A = ℕ} 0 1 = cc in absurd (omega arith)
+
+  pub kind-none : None ≡ kind_of w → Supply ≡ kind_or_supply n
+  kind-none e = go (eqb n step_kind) (eqb n supply_kind) (rw ew at e)
+    where
+      go : (a b : Bool) → None ≡ cond a (Some Step) (cond b (Some Supply) None) → Supply ≡ cond a Step Supply
+      go true b z = let y : ◌≡◌ {A = ℕ} 0 1 = cc in absurd (omega arith)
+      go false b z = refl
+
+module _ (n : ℕ) {k : Kind} (ek : k ≡ kind_or_supply n) where
+  pub kind-step : k ≡ Step → eqb n step_kind ≡ true
+  kind-step e = split (eqb n step_kind) (λ a. a) (λ a.
+      let z : k ≡ Supply = rw a at ek in
+      let y : ◌≡◌ {A = ℕ} 0 1 = cc in absurd (omega arith))
+
+  pub kind-supply : k ≡ Supply → eqb n step_kind ≡ false
+  kind-supply e = split (eqb n step_kind) (λ a.
+      let z : k ≡ Step = rw a at ek in
+      let y : ◌≡◌ {A = ℕ} 0 1 = cc in absurd (omega arith)) (λ a. a)
 
 module _ (s : List ℕ) (at : ℕ) where
   pub fault-cut : cut s at ≡ true → 2 ≡ record_fault s at

@@ -1,3 +1,4 @@
 pub mod Trace
+pub mod Kinds
 pub mod Instances
 pub mod Formed

@@ -4,16 +4,39 @@
 ghost use Rattle.std.specs.Prelude.{◌≡◌, ◌+◌, ◌*◌, ◌<◌, ◌≤◌, length};
 ghost use Rattle.lay.specs.Lay.{Lays};
 ghost use Rattle.parlog.specs.Records.{kind_at};
-ghost use Rattle.trace.specs.Trace.{first_gap, following, is_gap, known_kind, record_bytes, record_fault, stamp_at, TestedSays, trace_size, what_at, who_at};
+ghost use Rattle.trace.specs.Trace.{first_gap, following, is_gap, record_bytes, record_fault, stamp_at, TestedSays, trace_size, what_at, who_at};
+ghost use Rattle.trace.specs.Kinds.{kind_of, kind_or_supply, number_of};
 ghost use Rattle.trace.specs.Trace.{FaultsSay};
 ghost use Rattle.saved.specs.Reading.{some_fault};
 
 use parlog::{Answer, Refusal, codes};
 
-// The kinds of a trace's records.
-pub const STEP: usize = 32;
+// The kinds of a trace's records, each with its number.
+#[derive(Clone, Copy)]
+pub enum Kind {
+    Step = 32,
+    Supply = 33,
+}
 
-pub const SUPPLY: usize = 33;
+impl Kind {
+    // The kind of this number, where there is one.
+    fn of(number: usize) -> Option<Kind>
+        ensures { result ≡ kind_of number }
+    {
+        match number {
+            32 => Some(Kind::Step),
+            33 => Some(Kind::Supply),
+            _ => None,
+        }
+    }
+
+    // Its number.
+    fn number(self) -> usize
+        ensures { result ≡ number_of self }
+    {
+        self as usize
+    }
+}
 
 // How long a record is, and where its three numbers stand.
 pub const SIZE: usize = 10;
@@ -45,55 +68,83 @@ fn gap(before: u16, stamp: u16) -> bool
     std::num::wrapping_sub_u16(stamp, before) != 1
 }
 
-// ---- a record's numbers
+// ---- a record
 
-// Of record k: what it is.
-// Kept apart, like the three behind it: each is one read, and its name says where.
-pub fn kind(s: &[u8], k: usize) -> usize
-    requires { k * trace_size + trace_size ≤ length s.now }
-    ensures { (result ≡ kind_at s.now (k * trace_size)) × (result ≤ 65535) }
-{
-    place::word_in(s, k * SIZE + codes::RECORD_KIND)
+// A record of a trace, and where it begins.
+#[derive(Clone, Copy)]
+pub struct Record<'a> {
+    trace: &'a [u8],
+    at: usize,
+    ghost inside: { at + trace_size ≤ length trace.now },
 }
 
-// The process or the variable.
-pub fn who(s: &[u8], k: usize) -> usize
-    requires { k * trace_size + trace_size ≤ length s.now }
-    ensures { (result ≡ who_at s.now (k * trace_size)) × (result ≤ 65535) }
-{
-    place::word_in(s, k * SIZE + WHO)
-}
+impl<'a> Record<'a> {
+    // Record k of a trace.
+    pub fn new(trace: &'a [u8], k: usize) -> Self
+        requires { k * trace_size + trace_size ≤ length trace.now }
+        ensures { (result.trace.now ≡ trace.now) × (result.at ≡ k * trace_size) }
+    {
+        Record {
+            trace,
+            at: k * SIZE,
+        }
+    }
 
-// The rule or the value.
-pub fn what(s: &[u8], k: usize) -> usize
-    requires { k * trace_size + trace_size ≤ length s.now }
-    ensures { (result ≡ what_at s.now (k * trace_size)) × (result ≤ 65535) }
-{
-    place::word_in(s, k * SIZE + WHAT)
-}
+    // The number of its kind.
+    // Kept apart, like the three reads below: each is one line, and its name says where.
+    pub fn number(&self) -> usize
+        ensures { (result ≡ kind_at self.now.trace.now self.now.at) × (result ≤ 65535) }
+    {
+        place::word_in(self.trace, self.at + codes::RECORD_KIND)
+    }
 
-// The stamp.
-fn stamp(s: &[u8], k: usize) -> u16
-    requires { k * trace_size + trace_size ≤ length s.now }
-    ensures { result ≡ stamp_at s.now (k * trace_size) }
-{
-    place::word_in(s, k * SIZE + STAMP) as u16
+    // What it is; a trace that was tested has no third kind.
+    pub fn kind(&self) -> Kind
+        ensures { result ≡ kind_or_supply (kind_at self.now.trace.now self.now.at) }
+    {
+        match Kind::of(self.number()) {
+            Some(kind) => kind,
+            None => Kind::Supply,
+        }
+    }
+
+    // The process or the variable.
+    pub fn who(&self) -> usize
+        ensures { (result ≡ who_at self.now.trace.now self.now.at) × (result ≤ 65535) }
+    {
+        place::word_in(self.trace, self.at + WHO)
+    }
+
+    // The rule or the value.
+    pub fn what(&self) -> usize
+        ensures { (result ≡ what_at self.now.trace.now self.now.at) × (result ≤ 65535) }
+    {
+        place::word_in(self.trace, self.at + WHAT)
+    }
+
+    // The stamp.
+    fn stamp(&self) -> u16
+        ensures { result ≡ stamp_at self.now.trace.now self.now.at }
+    {
+        place::word_in(self.trace, self.at + STAMP) as u16
+    }
 }
 
 // A record written.
+// Kept, a row and a place: the writers of crate `saved` have the line.
 pub fn put_record(
     out: &mut [u8],
     at: usize,
-    kind: usize,
+    kind: Kind,
     who: usize,
     what: usize,
     stamp: u16,
 ) -> usize
     requires { at ≤ 4294967280 }
-    ensures { Lays out.old out.new at (record_bytes kind who what stamp) result }
+    ensures { Lays out.old out.new at (record_bytes (number_of kind) who what stamp) result }
 {
     let at = lay::put2(out, at, SIZE);
-    let at = lay::put2(out, at, kind);
+    let at = lay::put2(out, at, kind.number());
     let at = lay::put2(out, at, who);
     let at = lay::put2(out, at, what);
     lay::put2(out, at, stamp as usize)
@@ -101,14 +152,8 @@ pub fn put_record(
 
 // ---- the tests of a trace
 
-// 3, KIND, is what no trace has.
-fn known_kind(kind: usize) -> bool
-    ensures { result ≡ known_kind kind }
-{
-    (kind == STEP) | (kind == SUPPLY)
-}
-
 // The first of the tests 2, 3 and 4 that a record fails.
+#[tactic(auto, using(saved::proofs::Faults::begun))]
 fn record_fault(s: &[u8], at: usize) -> Option<u8>
     requires { at < length s.now }
     ensures { result ≡ some_fault (record_fault s.now at) }
@@ -116,8 +161,8 @@ fn record_fault(s: &[u8], at: usize) -> Option<u8>
     if saved::cut(s, at) {
         return Some(codes::CUT);
     }
-    let known = known_kind(place::word_in(s, at + codes::RECORD_KIND));
-    if !known {
+    let kind = Kind::of(place::word_in(s, at + codes::RECORD_KIND));
+    if kind.is_none() {
         return Some(codes::KIND);
     }
     if place::word_in(s, at) != SIZE {
@@ -146,7 +191,9 @@ fn first_gap(s: &[u8], n: usize) -> Option<usize>
     ensures { result ≡ first_gap s.now n }
 {
     for k in 1..n {
-        if gap(stamp(s, k - 1), stamp(s, k)) {
+        let before = Record::new(s, k - 1);
+        let here = Record::new(s, k);
+        if gap(before.stamp(), here.stamp()) {
             return Some(k);
         }
     }

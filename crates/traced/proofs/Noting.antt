@@ -1,9 +1,8 @@
 -- The ways through the step and the supply that record.
-use Rattle.std.specs.Prelude.{Ok, Err}
-use Rattle.parlog.specs.Answer.{Answer}
-use mathlib.Core.Path.{◌∙◌, ◌≡◌, ap, refl, sym}
+use Rattle.std.specs.Prelude.{Err, Ok}
+use mathlib.Core.Path.{ap, refl, sym, ◌∙◌, ◌≡◌}
 use mathlib.Core.List.{List}
-use Prim.Native.Nat.{◌<◌, ◌≤◌, ℕ}
+use Prim.Native.Nat.{ℕ, ◌<◌, ◌≤◌}
 use lib.ListN.{length}
 use native.Mathlib.Omega.{arith}
 use Rattle.bound.proofs.Rows.{row-says}
@@ -12,21 +11,20 @@ use Rattle.entry.specs.Entered.{EnterSays}
 use Rattle.lay.proofs.Laws.{laid_none}
 use Rattle.lay.specs.Lay.{laid}
 use Rattle.machine.specs.Supplying.{DecidedSays, supply_of, SupplySays}
+use Rattle.move_plan.specs.declared.Plan.{Plan}
+use Rattle.parlog.specs.Answer.{Answer}
 use Rattle.parlog.specs.Calls.{enter, entered, Entry, step_answer, step_call, step_entry, supply_answer, supply_call, supply_entry, turned_away}
-use Rattle.parlog.specs.Limits.{Limits, Usable}
+use Rattle.parlog.specs.Limits.{Limits}
 use Rattle.parlog.specs.Load.{refusal}
 use Rattle.parlog.specs.Numbers.{rule_number}
-use Rattle.parlog.specs.Run.{given, made, Stepping, step_tables, Supplying, supply_tables, ungiven, unmade}
+use Rattle.parlog.specs.Run.{given, made, step_tables, Stepping, supply_tables, Supplying, ungiven, unmade}
 use Rattle.parlog.specs.Tables.{Lent}
 use Rattle.parlog.specs.declared.Move.{Move}
 use Rattle.parlog.specs.declared.Refusal.{Refusal}
 use Rattle.step.specs.Stepping.{PlannedSays, StepSays}
-use Rattle.move_plan.specs.declared.Plan.{Plan}
 use Rattle.trace.specs.Trace.{record_bytes, step_kind, supply_kind, trace_size}
 use Rattle.traced.proofs.Records.{has_room, no_room}
 use Rattle.traced.specs.Traced.{move_record, step_traced_call, step_traces, step_unnoted, supply_record, supply_traced_call, supply_traces, supply_unnoted}
-use Rattle.words.proofs.Fitting.{step_fits}
-use Rattle.words.specs.Fits.{MoveWithin}
 
 -- ---- the step
 
@@ -47,10 +45,6 @@ module _ (lim : Limits) (s : List ℕ) (l : Lent) (p : ℕ) where
   -- a refusal of the plain call is one here
   pub unnoted-as : {f : Refusal} {h ps vs : List ℕ} → StepSays lim s l p (Err f) h ps vs → Err f ≡ step_unnoted (step_call lim s l p).answer
   unnoted-as x = rw (← x.answer)
-
-  -- the rule of a move has its number
-  pub rule-there : Usable lim → {a : Answer Move} {h ps vs : List ℕ} → StepSays lim s l p a h ps vs → {m : Move} → a ≡ Ok m → MoveWithin 4294967295 m
-  rule-there ok x e = rw (sym x.answer ∙ e) at (step_fits lim ok s l p)
 
   module _ {e : Answer (ℕ × ℕ)} (door : EnterSays lim s l e) {r c : ℕ} (q : e ≡ Ok (r, c)) {d : Answer Plan} (says : PlannedSays lim s r c l p d) where
     -- a step that is decided to be refused is refused by its number

@@ -1,4 +1,5 @@
 // Step and supply that record: the plain calls with one row more, in which the move leaves its record.
+// Kept, head, processes and variables as three rows, and the calls beside the plain ones: the heads of crates `bound` and `bound_calls` say why.
 #![tactic(auto)]
 
 ghost use Rattle.std.specs.Prelude.{◌≡◌};
@@ -9,6 +10,8 @@ ghost use Rattle.parlog.specs.Tables.{lent};
 ghost use Rattle.traced.specs.Traced.{step_traced_call, step_unnoted, supply_traced_call, supply_unnoted};
 
 use parlog::{Answer, Move, codes};
+use program_index::Image;
+use rows::Processes;
 
 // ---- a step
 
@@ -18,17 +21,28 @@ fn step_unnoted(image: &[u8], head: &[u8], procs: &[u8], vars: &[u8], process: u
 {
     let mut ix = [0u16; program_index::SIZE];
     let e = entry::enter(image, head, procs, vars, &mut ix);
-    let Ok((rels, clauses)) = e else {
+    // Kept in each call: docs/DECISIONS.md asks that each takes the load's answer apart by `let .. else`.
+    let Ok((relations, clauses)) = e else {
         let r = load::refusal(e);
         return Err(r);
+    };
+    let accepted = Image {
+        bytes: image,
+        relations,
+        clauses,
+        index: &ix,
     };
     let p = process as usize;
     let n = head::proc_count(head);
     if n <= p {
         return Err(entry::refusal(codes::NODE));
     }
-    let told = step::ask(procs, n, p);
-    step::planned(image, rels, clauses, &ix, head, procs, vars, p, told)?;
+    let used = Processes {
+        bytes: procs,
+        count: n,
+    };
+    let told = step::ask(&used, p);
+    step::planned(&accepted, head, procs, vars, p, told)?;
     Err(entry::refusal(codes::ROOM))
 }
 
@@ -49,7 +63,7 @@ pub fn step_traced(
     }
     let m = step::step(image, head, procs, vars, process)?;
     let rule = words::rule_number(m);
-    trace::put_record(trace, 0, trace::STEP, process as usize, rule, stamp);
+    trace::put_record(trace, 0, trace::Kind::Step, process as usize, rule, stamp);
     Ok(m)
 }
 
@@ -86,7 +100,7 @@ pub fn supply_traced(
     trace::put_record(
         trace,
         0,
-        trace::SUPPLY,
+        trace::Kind::Supply,
         variable as usize,
         value as usize,
         stamp,

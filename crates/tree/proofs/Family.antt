@@ -1,5 +1,5 @@
 -- The tree of parents: one law for each way through the code that reads it.
-use Rattle.std.specs.Prelude.{Option, Some, None}
+use Rattle.std.specs.Prelude.{Some, None}
 use mathlib.Core.Path.{◌∙◌, ◌≡◌, refl}
 use mathlib.Core.Logic.{◌≢◌}
 use mathlib.Core.Bool.{◌||◌, cond, false}
@@ -9,13 +9,14 @@ use lib.Dec.{eqb, ltb}
 use lib.ListN.{length}
 use borrow.Author.Tests.{eq-eqb, eqb-false, eqb-true, ltb-false, ltb-true, ne_eqb}
 use native.Mathlib.Omega.{arith}
-use Rattle.parlog.proofs.Bools.{not_so, split}
+use Rattle.std.proofs.lemmas.Bool.{false_from_ne_true}
+use Rattle.parlog.proofs.Bools.{split}
 use Rattle.parlog.proofs.Fine.{below-child, child-lower}
 use Rattle.parlog.proofs.Kin.{below_at, below-test, Kin}
 use Rattle.parlog.specs.Codes.{is_tag, try_clause}
 use Rattle.parlog.specs.Notions.{Below, deeper, next_below}
 use Rattle.parlog.specs.Tables.{at, procs_of, State}
-use Rattle.parlog.specs.Tree.{below, enclosing, first_of, try_above}
+use Rattle.parlog.specs.Tree.{below, enclosing, try_above}
 use Rattle.parlog.specs.declared.Process.{Process}
 use Rattle.rows.proofs.Tables.{procs-length}
 use Rattle.tree.specs.Family.{Childless, Falls}
@@ -46,13 +47,6 @@ module _ (n k : ℕ) (ps : List Process) (a : ℕ) (more : k < n) where
     pub above_on : (v ≡ 5 → ⊥) → try_above (n - k) ps a ≡ try_above (n - (k + 1)) ps u
     above_on h = above_step ∙ rw (ne_eqb a 0 ne, ← eu, ← ev, ne_eqb v 5 h)
 
-module _ (ps : List Process) {f e : Option ℕ} (is : f ≡ e) where
-  pub first-none : f ≡ None → 0 ≡ first_of ps e
-  first-none h = rw (← is, h)
-
-  pub first_found : {c v : ℕ} → f ≡ Some c → v ≡ (at ps c).spot.first → v ≡ first_of ps e
-  first_found h ev = rw (← is, h) ev
-
 -- ---- where parents fall
 
 module _ (ps : List Process) (falls : Falls ps) (p : ℕ) where
@@ -69,7 +63,7 @@ module _ (ps : List Process) (falls : Falls ps) (p : ℕ) where
 
   -- nothing at p or before it is below p
   pub below-low : (a : ℕ) → a < length ps → a ≤ p → below ps p a ≡ false
-  below-low a h l = not_so (below ps p a) (λ e. let u = higher (below_at here p kin a h e) in omega arith)
+  below-low a h l = false_from_ne_true (below ps p a) (λ e. let u = higher (below_at here p kin a h e) in omega arith)
 
   -- one parent up
   pub below_up : (a : ℕ) → a < length ps → p < a → below ps p a ≡ (eqb (at ps a).parent p || below ps p (at ps a).parent)
@@ -94,9 +88,6 @@ module _ (ps : List Process) (falls : Falls ps) (p : ℕ) where
 -- ---- the way to the first child
 
 module _ (l : List ℕ) (n p : ℕ) where
-  pub child-starts : Childless (procs_of l n) p (p + 1)
-  child-starts i u v z = omega arith
-
   pub child-on : (q : ℕ) → Childless (procs_of l n) p q → {v : ℕ} → v ≡ (at (procs_of l n) q).parent → (v ≡ p → ⊥) → Childless (procs_of l n) p (q + 1)
   child-on q free {v} ev ne i u w z = split (ltb i q)
       (λ e. free i u (ltb-true i q e) z)

@@ -1,6 +1,8 @@
 // The tree of parents: the nearest try-clause above a process, and putting all below it to sleep.
+// Kept, for those that write: that parents stand before their children (`Falls`) and that there are marks enough is known of rows that are then written, so that no value could hold it with them.
 #![tactic(auto)]
 
+ghost use Rattle.rows.specs.Views.{processes_in};
 ghost use Rattle.std.specs.Prelude.{◌≡◌, ◌+◌, ◌*◌, ◌≤◌, ◌<◌, length, set};
 ghost use Rattle.parlog.specs.Codes.{dormant};
 ghost use Rattle.parlog.specs.Delta.{with_mode};
@@ -9,7 +11,9 @@ ghost use Rattle.parlog.specs.Tree.{below, enclosing, first_of};
 ghost use Rattle.rows.specs.Rows.{Table};
 ghost use Rattle.tree.specs.Family.{Childless, Falls, FirstChild, Marks, most_rows, slept, slept_below};
 
+use parlog::cases::Mode;
 use parlog::{Process, codes};
+use rows::Processes;
 
 // The most rows that a table may have here: there is a mark for each.
 const MOST_ROWS: usize = 4096;
@@ -17,33 +21,32 @@ const MOST_ROWS: usize = 4096;
 const MARKED: u8 = 1;
 
 // The parent of process i.
-fn parent(procs: &[u8], n: usize, i: usize) -> usize
-    requires { n * row_size ≤ length procs.now }
-    ensures { result ≡ (at (procs_of procs.now n) i).parent }
+fn parent(procs: &Processes, i: usize) -> usize
+    ensures { result ≡ (at (processes_in procs.now) i).parent }
 {
-    usize::from(rows::parent_at(procs, n, i))
+    usize::from(procs.parent_at(i))
 }
 
 // The same for a process known to be there.
-fn above(procs: &[u8], n: usize, a: usize) -> usize
-    requires { (n * row_size ≤ length procs.now) × (a < n) }
-    ensures { result ≡ (at (procs_of procs.now n) a).parent }
+// Kept, that the process is there, here, at `mode` and `is_below` and in crate `turn_search`: it ties a number to the table that is lent beside it. Without it each read would test for rows that are not there, as `parent_at` does.
+fn above(procs: &Processes, a: usize) -> usize
+    requires { a < procs.now.count }
+    ensures { result ≡ (at (processes_in procs.now) a).parent }
 {
-    usize::from(rows::get_u16(procs, a * codes::ROW_SIZE + codes::ROW_PARENT))
+    usize::from(rows::get_u16(procs.bytes, a * codes::ROW_SIZE + codes::ROW_PARENT))
 }
 
 // The nearest try-clause above p.
-fn enclosing(procs: &[u8], n: usize, p: usize) -> Option<usize>
-    requires { n * row_size ≤ length procs.now }
-    ensures { result ≡ enclosing (procs_of procs.now n) p }
+fn enclosing(procs: &Processes, p: usize) -> Option<usize>
+    ensures { result ≡ enclosing (processes_in procs.now) p }
 {
     let mut a = p;
-    for _ in 0..n {
+    for _ in 0..procs.count {
         if a == 0 {
             return None;
         }
-        let over = parent(procs, n, a);
-        if rows::tag_at(procs, n, over) == codes::TRY_CLAUSE {
+        let over = parent(procs, a);
+        if procs.tag_at(over) == codes::TRY_CLAUSE {
             return Some(over);
         }
         a = over;
@@ -51,49 +54,48 @@ fn enclosing(procs: &[u8], n: usize, p: usize) -> Option<usize>
     None
 }
 
-fn first_at(procs: &[u8], n: usize, c: usize) -> usize
-    requires { n * row_size ≤ length procs.now }
-    ensures { result ≡ (at (procs_of procs.now n) c).spot.first }
+fn first_at(procs: &Processes, c: usize) -> usize
+    ensures { result ≡ (at (processes_in procs.now) c).spot.first }
 {
-    usize::from(rows::get(procs, n, c).spot.first)
+    usize::from(procs.get(c).spot.first)
 }
 
 // Its first variable; 0 where there is none.
 // Kept, no Option: 0 for none is what `first_of` says, and a definition keeps its meaning.
-pub fn enclosing_first(procs: &[u8], n: usize, p: usize) -> usize
-    requires { n * row_size ≤ length procs.now }
-    ensures { result ≡ first_of (procs_of procs.now n) (enclosing (procs_of procs.now n) p) }
+pub fn enclosing_first(procs: &Processes, p: usize) -> usize
+    ensures { result ≡ first_of (processes_in procs.now) (enclosing (processes_in procs.now) p) }
 {
-    let Some(c) = enclosing(procs, n, p) else {
+    let Some(c) = enclosing(procs, p) else {
         return 0;
     };
-    first_at(procs, n, c)
+    first_at(procs, c)
 }
 
+// Kept beside `move_plan::with_mode`, which stands above this crate.
 #[tactic(auto, unfolding(parlog::specs::Delta::with_mode))]
 fn dormant(x: Process) -> Process
     ensures { result ≡ with_mode dormant x }
 {
     Process {
-        mode: codes::DORMANT,
+        mode: Mode::Dormant.number(),
         ..x
     }
 }
 
 // The mode of a process known to be there.
-fn mode(procs: &[u8], n: usize, q: usize) -> u8
-    requires { (n * row_size ≤ length procs.now) × (q < n) }
-    ensures { result ≡ (at (procs_of procs.now n) q).mode }
+fn mode(procs: &Processes, q: usize) -> u8
+    requires { q < procs.now.count }
+    ensures { result ≡ (at (processes_in procs.now) q).mode }
 {
-    procs[q * codes::ROW_SIZE + codes::ROW_MODE]
+    procs.bytes[q * codes::ROW_SIZE + codes::ROW_MODE]
 }
 
 // Process q is below p: its parent is p, or is marked.
-fn is_below(procs: &[u8], n: usize, marks: &[u8], p: usize, q: usize) -> bool
-    requires { (n * row_size ≤ length procs.now) × (q < n) × (p < q) × Falls (procs_of procs.now n) × (n ≤ length marks.now) × Marks (procs_of procs.now n) p q marks.now }
-    ensures { result ≡ below (procs_of procs.now n) p q }
+fn is_below(procs: &Processes, marks: &[u8], p: usize, q: usize) -> bool
+    requires { (q < procs.now.count) × (p < q) × Falls (processes_in procs.now) × (procs.now.count ≤ length marks.now) × Marks (processes_in procs.now) p q marks.now }
+    ensures { result ≡ below (processes_in procs.now) p q }
 {
-    let up = above(procs, n, q);
+    let up = above(procs, q);
     if up == p {
         return true;
     }
@@ -106,26 +108,30 @@ fn sleep_one(procs: &mut [u8], n: usize, marks: &mut [u8], p: usize, q: usize)
     ensures table { Table procs.old procs.new (set (procs_of procs.old n) q (slept (procs_of procs.old n) p q)) }
     ensures marks { Marks (procs_of procs.old n) p (q + 1) marks.new }
 {
-    if !is_below(procs, n, marks, p, q) {
+    let used = Processes {
+        bytes: procs,
+        count: n,
+    };
+    if !is_below(&used, marks, p, q) {
         return;
     }
-    let m = mode(procs, n, q);
+    let m = mode(&used, q);
     marks[q] = MARKED;
     if m == codes::DORMANT {
         return;
     }
-    let x = rows::get(procs, n, q);
+    let x = used.get(q);
     let y = dormant(x);
     rows::put(procs, n, q, y);
 }
 
 // The first row behind p whose parent is p.
-fn first_child(procs: &[u8], n: usize, p: usize) -> Option<usize>
-    requires { (n * row_size ≤ length procs.now) × (p < n) }
-    ensures { FirstChild (procs_of procs.now n) n p result }
+fn first_child(procs: &Processes, p: usize) -> Option<usize>
+    requires { p < procs.now.count }
+    ensures { FirstChild (processes_in procs.now) procs.now.count p result }
 {
-    for q in p + 1..n {
-        if above(procs, n, q) == p {
+    for q in p + 1..procs.count {
+        if above(procs, q) == p {
             return Some(q);
         }
     }
@@ -148,7 +154,11 @@ pub fn sleep_below(procs: &mut [u8], n: usize, p: usize)
     requires { (n * row_size ≤ length procs.old) × (p < n) × Falls (procs_of procs.old n) × (n ≤ most_rows) }
     ensures { Table procs.old procs.new (slept_below (procs_of procs.old n) p) }
 {
-    if let Some(first) = first_child(procs, n, p) {
+    let used = Processes {
+        bytes: procs,
+        count: n,
+    };
+    if let Some(first) = first_child(&used, p) {
         sleep_from(procs, n, p, first);
     }
 }

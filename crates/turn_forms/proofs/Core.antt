@@ -5,9 +5,12 @@ use Rattle.parlog.specs.Answer.{Answer}
 use mathlib.Core.Path.{◌∙◌, ◌≡◌, ap, refl, sym}
 use mathlib.Core.Bool.{false}
 use mathlib.Core.List.{[], ◌++◌, ◌∷◌, List}
-use Prim.Native.Nat.{◌%◌, ◌/◌, ℕ}
+use Prim.Native.Nat.{◌%◌, ◌/◌, ◌<◌, ◌≤◌, ℕ}
+use Rattle.std.specs.Int.{to_le_bytes, w16, w32}
 use lib.Dec.{eqb}
 use lib.ListN.{drop, get_or, length, take}
+use native.Mathlib.Omega.{arith}
+use Rattle.rows.proofs.Laws.{high_in, low_in}
 use Rattle.load.specs.Fields.{refusal_of}
 use Rattle.parlog.proofs.Rows.{build-is}
 use Rattle.parlog.specs.Limits.{Limits}
@@ -28,13 +31,17 @@ four : (cs : List ℕ) → length cs ≡ 4 → build (λ (k : ℕ). get_or cs k 
 four cs e = rw e at (build-is (λ (k : ℕ). get_or cs k 0) 0 cs (λ i u. refl))
 
 -- the ten bytes one by one
-pub joined : (cs : List ℕ) (last steps a b : ℕ) → length cs ≡ 4 → a ≡ last % 256 → b ≡ last / 256
-    → get_or cs 0 0 ∷ get_or cs 1 0 ∷ get_or cs 2 0 ∷ get_or cs 3 0 ∷ a ∷ b ∷ steps % 256 ∷ steps / 256 % 256 ∷ steps / 65536 % 256 ∷ steps / 16777216 ∷ []
+pub joined : (cs : List ℕ) (last steps : ℕ) → length cs ≡ 4 → last ≤ 65535 → steps < 4294967296 → {l p : List ℕ} → l ≡ to_le_bytes w16 last → p ≡ to_le_bytes w32 steps
+    → get_or cs 0 0 ∷ get_or cs 1 0 ∷ get_or cs 2 0 ∷ get_or cs 3 0 ∷ get_or l 0 0 ∷ get_or l 1 0 ∷ get_or p 0 0 ∷ get_or p 1 0 ∷ get_or p 2 0 ∷ get_or p 3 0 ∷ []
     ≡ cs ++ marker_bytes (record { last = last; steps = steps })
 unfolding marker_bytes build
-joined cs last steps a b len ea eb =
+joined cs last steps len hl hs {l} {p} el ep =
     let mb : List ℕ = marker_bytes (record { last = last; steps = steps }) in
-    rw (ea, eb) (ap (λ (x : List ℕ). x ++ mb) (four cs len))
+    let a : get_or p 0 0 ≡ steps % 256 = rw ep in
+    let b : get_or p 1 0 ≡ steps / 256 % 256 = rw ep in
+    let c : get_or p 2 0 ≡ steps / 65536 % 256 = rw ep in
+    let d : get_or p 3 0 ≡ steps / 16777216 = rw ep (omega arith) in
+    rw (low_in _ el, high_in _ hl el, a, b, c, d) (ap (λ (x : List ℕ). x ++ mb) (four cs len))
 
 -- ---- the refusal of another size
 

@@ -23,17 +23,11 @@ fn join_head(counts: &[u8], last: u16, steps: u32) -> [u8; 10]
     requires { length counts.now ≡ 4 }
     ensures { result ≡ counts.now ++ marker_bytes (record { last = last; steps = steps }) }
 {
+    let last = last.to_le_bytes();
+    let steps = steps.to_le_bytes();
     [
-        counts[0],
-        counts[1],
-        counts[2],
-        counts[3],
-        basics::low(last),
-        basics::high(last),
-        (steps % 256) as u8,
-        (steps / 256 % 256) as u8,
-        (steps / 65536 % 256) as u8,
-        (steps / 16777216) as u8,
+        counts[0], counts[1], counts[2], counts[3], last[0], last[1], steps[0], steps[1], steps[2],
+        steps[3],
     ]
 }
 

@@ -47,9 +47,6 @@ both false true q v = refl
 both false false q v = refl
 
 module _ (st : State) (n last : ℕ) where
-  pub sweep-start : Swept st n last n None None
-  sweep-start pr = (kept-start (λ i. ltb last i && can_move pr st i) n, kept-start (can_move pr st) n)
-
   pub sweep-next : (q : ℕ) (v w : Option ℕ) → 0 < q → Swept st n last q v w → {c : Bool} → ((pr : Program) → c ≡ can_move pr st (q - 1))
       → {v' w' : Option ℕ} → v' ≡ cond c (cond (ltb last (q - 1)) (Some (q - 1)) v) v → w' ≡ cond c (Some (q - 1)) w → Swept st n last (q - 1) v' w'
   sweep-next q v w h so {c} is ev ew pr =

@@ -1,5 +1,5 @@
 -- The pass from the last row down: the notes of all, and the lowest that can move.
-use Rattle.std.specs.Prelude.{Option, Some, None}
+use Rattle.std.specs.Prelude.{Option, Some}
 use mathlib.Core.Path.{◌∙◌, ◌≡◌, refl, sym}
 use mathlib.Core.Logic.{◌≢◌}
 use mathlib.Core.Bool.{and_comm, Bool, cond, false, true}
@@ -16,7 +16,8 @@ use Rattle.children.specs.Notes.{good_note, hear, heard_by, Noted, note_of, sile
 use Rattle.children.specs.Telling.{Tells}
 use Rattle.children.specs.declared.Note.{Note}
 use Rattle.children.specs.declared.Told.{Told}
-use Rattle.parlog.proofs.Bools.{not_so, split}
+use Rattle.std.proofs.lemmas.Bool.{false_from_ne_true}
+use Rattle.parlog.proofs.Bools.{split}
 use Rattle.parlog.proofs.Fine.{child-lower}
 use Rattle.parlog.proofs.Kin.{child-at}
 use Rattle.parlog.proofs.Repeated.{turn-can}
@@ -50,7 +51,7 @@ module _ (ps : List Process) (n : ℕ) (en : length ps ≡ n) where
   module _ (falls : Falls ps) where
     -- no child of p stands at p or before it
     before : (p i : ℕ) → i ≤ p → i < n → is_child ps p i ≡ false
-    before p i h l = not_so (is_child ps p i) (λ e. let u = child-lower here (record { lower = falls }) p (child-at here p i (omega arith) e) in omega arith)
+    before p i h l = false_from_ne_true (is_child ps p i) (λ e. let u = child-lower here (record { lower = falls }) p (child-at here p i (omega arith) e) in omega arith)
       where
         here : State
         here = record { procs = ps; vars = [] }
@@ -131,9 +132,6 @@ module _ (ps : List Process) (n : ℕ) (en : length ps ≡ n) where
             nobody false e = let v : (at ps q).parent < q = falls q (omega arith) (eqb-false q 0 e) in absurd (omega arith)
 
 module _ {w : ℕ} (ps : List Process) (n q : ℕ) (x : Notes w) where
-  pub all-less : 0 < q → AllNoted ps n q x → AllNoted ps n (suc (q - 1)) x
-  all-less h so = let e : suc (q - 1) ≡ q = omega arith in rw e so
-
   pub all_end : (lo : ℕ) → q ≡ lo → AllNoted ps n q x → AllNoted ps n lo x
   all_end lo e so = rw e at so
 
@@ -145,9 +143,6 @@ turn-there st n last en is {p} e =
     let h = turn-can small any (record { state = st; last = last; steps = 0 }) p (rw en (sym (is any) ∙ e)) in omega (arith, h.0, en)
 
 -- ---- what the children of the process that was found report
-
-pub asks_nothing : {f : Option ℕ} → f ≡ None → {X : Type 0} {p : ℕ} → f ≡ Some p → X
-asks_nothing a b = let z : ◌≡◌ {A = ℕ} 0 1 = cc in absurd (omega arith)
 
 module _ {w : ℕ} (ps : List Process) (n : ℕ) (x : Notes w) (so : AllNoted ps n 0 x) {f : Option ℕ} (there : (p : ℕ) → f ≡ Some p → p < n) where
   pub asks-told : {c : ℕ} → f ≡ Some c → {y : Note} {t : Told} → y ≡ note_in x c → ((p : ℕ) → Noted ps p 0 y → Tells ps p t) → (p : ℕ) → f ≡ Some p → Tells ps p t

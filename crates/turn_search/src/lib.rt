@@ -1,12 +1,14 @@
 // Whose turn it is: one pass from the last row down, in which every process is asked whether it can move, and heard by its parent.
 #![tactic(auto)]
 
-ghost use Rattle.std.specs.Prelude.{◌≡◌, cond, ◌*◌, ◌≤◌, ◌<◌, suc, ℕ, ltb, length, Some};
+ghost use Rattle.vars.specs.Views.{variables_in};
+ghost use Rattle.rows.specs.Views.{processes_in};
+ghost use Rattle.std.specs.Prelude.{◌≡◌, cond, ◌*◌, ◌≤◌, ◌<◌, suc, ℕ, ltb, Some};
 ghost use Rattle.children.specs.Telling.{Tells};
 ghost use Rattle.parlog.specs.Codes.{tag_of};
 ghost use Rattle.parlog.specs.Program.{Program};
 ghost use Rattle.parlog.specs.Run.{can_move, turn_of};
-ghost use Rattle.parlog.specs.Tables.{at, cell_size, noted, procs_of, row_size, vars_in};
+ghost use Rattle.parlog.specs.Tables.{at, noted};
 ghost use Rattle.parlog.specs.Unify.{some_bound};
 ghost use Rattle.move_plan.specs.Plans.{state_in};
 ghost use Rattle.tree.specs.Family.{Falls};
@@ -14,6 +16,8 @@ ghost use Rattle.turn_search.specs.Notes.{AllNoted, AllSaid, asks_of, none_heard
 
 use children::{Note, Told};
 use parlog::codes;
+use rows::Processes;
+use vars::Variables;
 
 // Whose turn it is, and what its children report.
 // Kept, no `Option` of a pair: `run::WhoseSays` says of `who` alone that it follows from the tables, whatever the program.
@@ -72,26 +76,25 @@ fn few(count: u8) -> usize
 }
 
 // One of the variables that process p noted is bound.
-fn wakes(procs: &[u8], n: usize, vars: &[u8], m: usize, p: usize) -> bool
-    requires { (n * row_size ≤ length procs.now) × (m * cell_size ≤ length vars.now) }
-    ensures { result ≡ some_bound (vars_in vars.now m) (noted (at (procs_of procs.now n) p)) }
+fn wakes(procs: &Processes, vars: &Variables, p: usize) -> bool
+    ensures { result ≡ some_bound (variables_in vars.now) (noted (at (processes_in procs.now) p)) }
 {
-    let count = few(rows::count_at(procs, n, p));
-    let notes = rows::notes_at(procs, n, p);
-    unify::some_bound(vars, m, count, notes)
+    let count = few(procs.count_at(p));
+    let notes = procs.notes_at(p);
+    unify::some_bound(vars, &notes[..count])
 }
 
 // A rule applies to process p, once all its children were heard; s is what they said.
-fn can_move(procs: &[u8], n: usize, vars: &[u8], m: usize, p: usize, s: u8) -> bool
-    requires { (n * row_size ≤ length procs.now) × (m * cell_size ≤ length vars.now) × AllSaid (procs_of procs.now n) p s }
-    ensures { (pr : Program) → result ≡ can_move pr (state_in procs.now n vars.now m) p }
+fn can_move(procs: &Processes, vars: &Variables, p: usize, s: u8) -> bool
+    requires { AllSaid (processes_in procs.now) p s }
+    ensures { (pr : Program) → result ≡ can_move pr (state_in procs.now.bytes.now procs.now.count vars.now.bytes.now vars.now.count) p }
 {
-    let mode = rows::mode_at(procs, n, p);
+    let mode = procs.mode_at(p);
     if mode == codes::DORMANT {
         return false;
     }
     if mode == codes::WAITING {
-        let tag = rows::tag_at(procs, n, p);
+        let tag = procs.tag_at(p);
         return tells(tag, s);
     }
     if mode == codes::REPORTING {
@@ -100,7 +103,7 @@ fn can_move(procs: &[u8], n: usize, vars: &[u8], m: usize, p: usize, s: u8) -> b
     if mode < codes::WAITING {
         return true;
     }
-    wakes(procs, n, vars, m, p)
+    wakes(procs, vars, p)
 }
 
 // ---- the notes of all
@@ -163,13 +166,13 @@ impl<const W: usize> Notes<W> {
     }
 
     // The parent of process q hears it; process 0 has none.
-    fn hear_row(&mut self, procs: &[u8], n: usize, q: usize)
-        requires { (n * row_size ≤ length procs.now) × (n ≤ W) × (W ≤ 512) × (q < n) × Falls (procs_of procs.now n) × AllNoted (procs_of procs.now n) n (suc q) self.old }
-        ensures { AllNoted (procs_of procs.now n) n q self.new }
+    fn hear_row(&mut self, procs: &Processes, q: usize)
+        requires { (procs.now.count ≤ W) × (W ≤ 512) × (q < procs.now.count) × Falls (processes_in procs.now) × AllNoted (processes_in procs.now) procs.now.count (suc q) self.old }
+        ensures { AllNoted (processes_in procs.now) procs.now.count q self.new }
     {
-        let up = rows::parent_at(procs, n, q) as usize;
+        let up = procs.parent_at(q) as usize;
         if up < q {
-            let f = children::note_of(procs, n, q);
+            let f = children::note_of(procs, q);
             if f == children::SILENT {
                 self.silent[up] = children::SILENT;
             } else {
@@ -181,65 +184,64 @@ impl<const W: usize> Notes<W> {
 
 // ---- whose turn it is
 
+// Kept here and below: that there are notes enough (`W`) and that parents stand before their children ties the notes, or the last process stepped, to the table that is lent beside them.
 // The next process behind the last that can move, else the lowest that can: one pass over the rows, in which each is heard by its parent.
 fn pass<const W: usize>(
-    procs: &[u8],
-    n: usize,
-    vars: &[u8],
-    m: usize,
+    procs: &Processes,
+    vars: &Variables,
     last: usize,
     notes: &mut Notes<W>,
 ) -> Option<usize>
-    requires { (n * row_size ≤ length procs.now) × (n ≤ W) × (W ≤ 512) × (m * cell_size ≤ length vars.now) × Falls (procs_of procs.now n) × AllNoted (procs_of procs.now n) n n notes.old }
-    ensures { ((pr : Program) → result ≡ turn_of (can_move pr (state_in procs.now n vars.now m)) n last) × AllNoted (procs_of procs.now n) n 0 notes.new }
+    requires { (procs.now.count ≤ W) × (W ≤ 512) × Falls (processes_in procs.now) × AllNoted (processes_in procs.now) procs.now.count procs.now.count notes.old }
+    ensures { ((pr : Program) → result ≡ turn_of (can_move pr (state_in procs.now.bytes.now procs.now.count vars.now.bytes.now vars.now.count)) procs.now.count last) × AllNoted (processes_in procs.now) procs.now.count 0 notes.new }
 {
     let mut behind = None;
     let mut round = None;
-    for q in (0..n).rev() {
+    for q in (0..procs.count).rev() {
         let s = notes.said_to(q);
-        if can_move(procs, n, vars, m, q, s) {
+        if can_move(procs, vars, q, s) {
             round = Some(q);
             if last < q {
                 behind = round;
             }
         }
-        notes.hear_row(procs, n, q);
+        notes.hear_row(procs, q);
     }
     behind.or(round)
 }
 
 // What the children of that process report.
-fn told_of<const W: usize>(procs: &[u8], n: usize, notes: &Notes<W>, who: Option<usize>) -> Told
-    requires { (n * row_size ≤ length procs.now) × (n ≤ W) × AllNoted (procs_of procs.now n) n 0 notes.now × ((p : ℕ) → who ≡ Some p → p < n) }
-    ensures { (p : ℕ) → who ≡ Some p → Tells (procs_of procs.now n) p result }
+fn told_of<const W: usize>(procs: &Processes, notes: &Notes<W>, who: Option<usize>) -> Told
+    requires { (procs.now.count ≤ W) × AllNoted (processes_in procs.now) procs.now.count 0 notes.now × ((p : ℕ) → who ≡ Some p → p < procs.now.count) }
+    ensures { (p : ℕ) → who ≡ Some p → Tells (processes_in procs.now) p result }
 {
     let Some(p) = who else {
         return children::nothing();
     };
-    children::told_by(procs, n, notes.note_of(p))
+    children::told_by(procs, notes.note_of(p))
 }
 
 // Up to so many rows the notes take little room, which is soon set to zero.
 const FEW: usize = 64;
 
 // The same as `next`, for as many rows as the notes have room for.
-fn next_in<const W: usize>(procs: &[u8], n: usize, vars: &[u8], m: usize, last: usize) -> Turn
-    requires { (n * row_size ≤ length procs.now) × (n ≤ W) × (W ≤ 512) × (m * cell_size ≤ length vars.now) × Falls (procs_of procs.now n) × (last < n) }
-    ensures { ((pr : Program) → result.who ≡ turn_of (can_move pr (state_in procs.now n vars.now m)) n last) × ((p : ℕ) → result.who ≡ Some p → Tells (procs_of procs.now n) p result.told) }
+fn next_in<const W: usize>(procs: &Processes, vars: &Variables, last: usize) -> Turn
+    requires { (procs.now.count ≤ W) × (W ≤ 512) × Falls (processes_in procs.now) × (last < procs.now.count) }
+    ensures { ((pr : Program) → result.who ≡ turn_of (can_move pr (state_in procs.now.bytes.now procs.now.count vars.now.bytes.now vars.now.count)) procs.now.count last) × ((p : ℕ) → result.who ≡ Some p → Tells (processes_in procs.now) p result.told) }
 {
     let mut notes = Notes::<W>::new();
-    let who = pass(procs, n, vars, m, last, &mut notes);
-    let told = told_of(procs, n, &notes, who);
+    let who = pass(procs, vars, last, &mut notes);
+    let told = told_of(procs, &notes, who);
     Turn { who, told }
 }
 
 // The next process behind the last that can move, coming round to the last itself, and what its children report.
-pub fn next(procs: &[u8], n: usize, vars: &[u8], m: usize, last: usize) -> Turn
-    requires { (n * row_size ≤ length procs.now) × (n ≤ 512) × (m * cell_size ≤ length vars.now) × Falls (procs_of procs.now n) × (last < n) }
-    ensures { ((pr : Program) → result.who ≡ turn_of (can_move pr (state_in procs.now n vars.now m)) n last) × ((p : ℕ) → result.who ≡ Some p → Tells (procs_of procs.now n) p result.told) }
+pub fn next(procs: &Processes, vars: &Variables, last: usize) -> Turn
+    requires { (procs.now.count ≤ 512) × Falls (processes_in procs.now) × (last < procs.now.count) }
+    ensures { ((pr : Program) → result.who ≡ turn_of (can_move pr (state_in procs.now.bytes.now procs.now.count vars.now.bytes.now vars.now.count)) procs.now.count last) × ((p : ℕ) → result.who ≡ Some p → Tells (processes_in procs.now) p result.told) }
 {
-    if n <= FEW {
-        return next_in::<FEW>(procs, n, vars, m, last);
+    if procs.count <= FEW {
+        return next_in::<FEW>(procs, vars, last);
     }
-    next_in::<{ codes::MOST_PROCS }>(procs, n, vars, m, last)
+    next_in::<{ codes::MOST_PROCS }>(procs, vars, last)
 }

@@ -40,6 +40,11 @@ unfolding value value_of
 top-value vs (Const c) = omega arith
 top-value vs (Var v) = unfold top in (top-chase vs (suc v) v)
 
+-- of the first g variables each is one of as many or more
+pub var-top : (v g n : ℕ) → v < g → g ≤ n → top (Var v) ≤ n
+unfolding top
+var-top v g n h k = omega arith
+
 -- ---- changes
 
 lowers-snoc : (n : ℕ) (cs : List Change) (c : Change) → AllLower n cs → Lowers n c → AllLower n (cs ++ (c ∷ []))

@@ -1,26 +1,30 @@
 -- The laws of pending bindings: one for each way through the code.
-use Rattle.std.specs.Prelude.{Option, None, Some}
-use mathlib.Core.Path.{◌∙◌, ◌≡◌, ap, refl, sym}
-use mathlib.Core.Bool.{◌||◌, Bool, cond, false, not, true}
-use mathlib.Core.List.{[], ◌∷◌, List}
-use Prim.Native.Nat.{◌*◌, ◌+◌, ◌<◌, ◌≤◌, suc, zero, ℕ}
+use Rattle.std.specs.Prelude.{None, Option, Some}
+use mathlib.Core.Path.{ap, refl, sym, ◌∙◌, ◌≡◌}
+use mathlib.Core.Bool.{Bool, cond, false, not, true, ◌||◌}
+use mathlib.Core.List.{[], List, ◌++◌, ◌∷◌}
+use Prim.Native.Nat.{suc, zero, ℕ, ◌*◌, ◌+◌, ◌<◌, ◌≤◌}
 use lib.Dec.{eqb, leb}
 use lib.ListN.{drop, drop_of_length-le, get_or, length, length-set, set, take}
+use Rattle.std.proofs.lemmas.List.{length-take}
 use lib.Seq.{drop-cons, get_or-set_other, get_or-set_same, get_or-take, length-take-le, take-suc-set}
 use borrow.Author.Tests.{eqb-false, eqb-true, le-leb, leb-false, lt-leb}
 use native.Mathlib.Omega.{arith}
 use native.Mathlib.Numerals.{add-one}
-use Rattle.std.specs.List.{list_any}
+use Rattle.parlog.proofs.Unified.{from-clash}
+use Rattle.parlog.specs.Delta.{four_of}
 use Rattle.parlog.specs.Tables.{binding_at, binding_by, binding_of, number_at, sort_at, vars_in}
 use Rattle.parlog.specs.Unify.{bound, changed, chase, clash, follow, is_bound, joined, meet, Outcome, some_bound, unify_from, unify_one, value, value_of}
 use Rattle.parlog.specs.declared.Change.{Change}
 use Rattle.parlog.specs.declared.Met.{Met}
-use Rattle.parlog.specs.declared.Met.TheVariants.{Bind}
+use Rattle.parlog.specs.declared.Met.TheVariants.{Bind, Clash, Same}
 use Rattle.parlog.specs.declared.Pair.{Pair}
 use Rattle.parlog.specs.declared.Term.{Term}
 use Rattle.parlog.specs.declared.Term.TheVariants.{Const, Var}
-use Rattle.unify.specs.Pending.{bound_in, bound_vars, latest, newer_of, no_change, no_pair, outcome, pending, top, under}
-use Rattle.unify.specs.declared.Unified.{Unified}
+use Rattle.std.specs.List.{list_any}
+use Rattle.unify.specs.Pending.{bound_in, bound_vars, latest, newer_of, no_change, no_pair, noted_in, outcome, pending, top, under}
+use Rattle.unify.specs.declared.waiting.Changes.{Changes}
+use Rattle.unify.specs.declared.waiting.Noted.{Noted}
 use Rattle.vars.proofs.Tables.{vars-at, vars-length, vars-past}
 
 -- ---- what is left of a row, and of its first n
@@ -106,31 +110,31 @@ module _ (xs : List Change) (k : ℕ) where
 
 -- ---- one pair
 
-module _ (u : Unified) (g : u.count < 4) (four : length u.binds ≡ 4) where
-  pub joined-bind : (v : ℕ) (t : Term) → outcome (record { ok = true; count = u.count + 1; binds = set u.binds u.count (record { var = v; to = t }) }) ≡ joined (pending u) (Bind v t)
-  unfolding joined outcome pending
-  joined-bind v t = ap bound (rw add-one (take-suc-set u.binds u.count (record { var = v; to = t }) (omega arith)))
+-- what is bound last stands behind the others
+pub with_last : {A : Type 0} (k : ℕ) (xs : List A) (x : A) → k < length xs → take (k + 1) (set xs k x) ≡ take k xs ++ (x ∷ [])
+with_last k xs x h = rw (add-one, take-suc-set xs k x h)
 
-pub outcome-ok : (u : Unified) → u.ok ≡ true → outcome u ≡ bound (pending u)
-unfolding outcome
-outcome-ok u e = rw e
+pub joined-bind : (u : Changes) (v : ℕ) (t : Term) (w : Changes) → pending w ≡ pending u ++ (record { var = v; to = t } ∷ []) → outcome (Some w) ≡ joined (pending u) (Bind v t)
+unfolding joined outcome
+joined-bind u v t w e = ap bound e
 
-pub outcome-clash : (u : Unified) → u.ok ≡ false → outcome u ≡ clash
-unfolding outcome
-outcome-clash u e = rw e
+pub joined-same : (u : Changes) → outcome (Some u) ≡ joined (pending u) Same
+unfolding joined outcome
+joined-same u = refl
+
+pub joined-clash : (u : Changes) → outcome None ≡ joined (pending u) Clash
+unfolding joined outcome
+joined-clash u = refl
 
 -- ---- the variables told
 
-pub bound-ok : (u : Unified) → u.ok ≡ true → bound_in u ≡ bound_vars (outcome u)
-unfolding bound_in bound_vars
-bound-ok u e = rw (outcome-ok u e)
+pub bound-is : (o : Option Changes) → bound_in o ≡ bound_vars (outcome o)
+unfolding bound_in bound_vars outcome
+bound-is None = refl
+bound-is (Some u) = refl
 
-pub bound-clash : (u : Unified) → u.ok ≡ false → u.count ≡ 0 → bound_in u ≡ bound_vars (outcome u)
-unfolding bound_in bound_vars pending
-bound-clash u e z = rw (outcome-clash u e, z)
-
-pub bound-same : (u : Unified) {o : Outcome} → bound_in u ≡ bound_vars (outcome u) → outcome u ≡ o → bound_in u ≡ bound_vars o
-bound-same u e h = e ∙ ap bound_vars h
+pub bound-same : (o : Option Changes) {x : Outcome} → outcome o ≡ x → bound_in o ≡ bound_vars x
+bound-same o e = bound-is o ∙ ap bound_vars e
 
 -- ---- the pairs
 
@@ -139,9 +143,38 @@ module _ (vs : List (Option Term)) (es : List Pair) (k : ℕ) where
   unfolding unify_from
   unify-more o o' h e = rw (rest_on es k no_pair h, e)
 
+  pub unify-clash : (o : Outcome) → k < length es → outcome None ≡ unify_one vs o (get_or es k no_pair) → outcome None ≡ unify_from vs o (drop k es)
+  unfolding outcome
+  unify-clash o h e = sym (from-clash vs (drop (k + 1) es)) ∙ unify-more o clash h e
+
   pub unify-done : (o : Outcome) → length es ≤ k → unify_from vs o (drop k es) ≡ o
   unfolding unify_from
   unify-done o h = rw (drop_of_length-le es {i = k} h)
+
+-- ---- variables noted
+
+-- one more in a row's four places, with zeros behind them
+pub four-with : (k : ℕ) (xs : List ℕ) (v : ℕ) → length xs ≡ 4 → k < 4 → xs ≡ four_of (take k xs) → set xs k v ≡ four_of (take (k + 1) (set xs k v))
+unfolding four_of
+four-with k [] v l h e = absurd (omega arith)
+four-with k (a ∷ []) v l h e = absurd (omega arith)
+four-with k (a ∷ b ∷ []) v l h e = absurd (omega arith)
+four-with k (a ∷ b ∷ c ∷ []) v l h e = absurd (omega arith)
+four-with zero (a ∷ b ∷ c ∷ d ∷ []) v l h e = cc
+four-with (suc zero) (a ∷ b ∷ c ∷ d ∷ []) v l h e = cc
+four-with (suc (suc zero)) (a ∷ b ∷ c ∷ d ∷ []) v l h e = cc
+four-with (suc (suc (suc zero))) (a ∷ b ∷ c ∷ d ∷ []) v l h e = refl
+four-with (suc (suc (suc (suc k)))) (a ∷ b ∷ c ∷ d ∷ []) v l h e = absurd (omega arith)
+four-with k (a ∷ b ∷ c ∷ d ∷ f ∷ xs) v l h e = absurd (omega arith)
+
+-- as many as are counted
+pub noted-many : (s : Noted) → length (noted_in s) ≡ s.count
+unfolding noted_in
+noted-many s = length-take-le s.count s.notes (let f : length s.notes ≡ 4 = ap length s.filled ∙ (unfold four_of in refl) in omega (arith, s.few, f))
+
+pub few-made : (u : Changes) → length (pending u) ≤ 4
+unfolding pending
+few-made u = omega (arith, length-take u.count u.list, u.few)
 
 -- ---- the ways through value_under and unify_one
 
@@ -157,15 +190,11 @@ pub top-var : {t : Term} {v : ℕ} → t ≡ Var v → top t ≡ suc v
 unfolding top
 top-var e = rw e
 
-pub unify-kept : (vs : List (Option Term)) (u : Unified) (p : Pair) → u.ok ≡ false → outcome u ≡ unify_one vs (outcome u) p
-unfolding unify_one
-unify-kept vs u p e = rw (outcome-clash u e)
-
-pub unify-step : (l : List ℕ) (n : ℕ) (u : Unified) (p : Pair) {x y : Term} {m : Met} {o : Outcome} → u.ok ≡ true
+pub unify-step : (l : List ℕ) (n : ℕ) (u : Changes) (p : Pair) {x y : Term} {m : Met} {o : Outcome}
     → x ≡ value (under l n (pending u)) p.left → y ≡ value (under l n (pending u)) p.right → m ≡ meet x y → o ≡ joined (pending u) m
-    → o ≡ unify_one (vars_in l n) (outcome u) p
+    → o ≡ unify_one (vars_in l n) (bound (pending u)) p
 unfolding unify_one under
-unify-step l n u p ok ex ey em eo = rw (outcome-ok u ok, eo, em, ex, ey)
+unify-step l n u p ex ey em eo = rw (eo, em, ex, ey)
 
 pub value-nothing : (l : List ℕ) (n : ℕ) (t : Term) {cs : List Change} {r : Term} → cs ≡ [] → r ≡ value (under l n cs) t → r ≡ value (vars_in l n) t
 unfolding under changed

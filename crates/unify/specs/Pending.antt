@@ -1,12 +1,13 @@
 -- The unifier that the code carries, and what its pending bindings say.
-use Rattle.std.specs.Prelude.{Bool, cond, false, true, [], ◌∷◌, List, map, ◌<◌, ◌≤◌, suc, ℕ, eqb, get_or, length, take, Option, Some}
+use Rattle.std.specs.Prelude.{[], cond, eqb, get_or, length, List, map, None, Option, Some, suc, take, ℕ, ◌<◌, ◌∷◌, ◌≤◌}
 use Rattle.parlog.specs.Tables.{number_code, vars_in}
 use Rattle.parlog.specs.Unify.{bound, changed, clash, Outcome}
 use Rattle.parlog.specs.declared.Change.{Change}
 use Rattle.parlog.specs.declared.Pair.{Pair}
 use Rattle.parlog.specs.declared.Term.{Term}
 use Rattle.parlog.specs.declared.Term.TheVariants.{Const, Var}
-use Rattle.unify.specs.declared.Unified.{Unified}
+use Rattle.unify.specs.declared.waiting.Changes.{Changes}
+use Rattle.unify.specs.declared.waiting.Noted.{Noted}
 
 -- one more than the variable that a term is, 0 for a constant
 unfoldable pub top : Term → ℕ
@@ -15,17 +16,18 @@ top (Var v) = suc v
 
 -- ---- pending bindings
 
--- the bindings of a unifier, in the order made
-unfoldable pub pending : Unified → List Change
-pending u = take u.count u.binds
+-- bindings that wait, in the order made
+unfoldable pub pending : Changes → List Change
+pending cs = take cs.count cs.list
 
-abbrev pub outcome_by : Bool → List Change → Outcome
-outcome_by true cs = bound cs
-outcome_by false cs = clash
+-- what a unifier came to so far; at a clash there is none
+unfoldable pub outcome : Option Changes → Outcome
+outcome None = clash
+outcome (Some cs) = bound (pending cs)
 
--- what a unifier came to so far
-unfoldable pub outcome : Unified → Outcome
-outcome u = outcome_by u.ok (pending u)
+-- the variables noted, in order
+unfoldable pub noted_in : Noted → List ℕ
+noted_in s = take s.count s.notes
 
 -- ---- what is told: the variables bound
 
@@ -39,8 +41,9 @@ bound_vars clash = []
 bound_vars (bound cs) = vars_bound cs
 
 -- the variables that a unifier tells
-unfoldable pub bound_in : Unified → List ℕ
-bound_in u = vars_bound (pending u)
+unfoldable pub bound_in : Option Changes → List ℕ
+bound_in None = []
+bound_in (Some cs) = vars_bound (pending cs)
 
 -- ---- the table under changes
 

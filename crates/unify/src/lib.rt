@@ -1,20 +1,17 @@
 // Values and unifying over the lent variable table. Nothing is written: what a unifier binds is pending, in a struct by value.
 #![tactic(auto)]
 
-ghost use Rattle.std.specs.Prelude.{◌≡◌, true, false, [], ◌+◌, ◌*◌, ◌≤◌, ◌<◌, length, take};
-ghost use Rattle.parlog.specs.Tables.{binding_of, cell_size, vars_in};
+ghost use Rattle.vars.specs.Views.{variables_in};
+ghost use Rattle.std.specs.Prelude.{◌≡◌, ◌+◌, ◌*◌, ◌≤◌, ◌<◌, IfSome, take};
+ghost use Rattle.parlog.specs.Tables.{binding_of};
 ghost use Rattle.parlog.specs.Unify.{bound, is_bound, joined, meet, meet_vars, some_bound, unify, unify_one, value, value_of};
 ghost use Rattle.unify.specs.Pending.{Below, bound_in, bound_vars, latest, newer_of, outcome, pending, top, under};
 
-use parlog::{Change, Met, Pair, Term, codes};
+mod waiting;
 
-// A unifier so far: whether no two constants clashed, and the bindings in the order made.
-#[derive(Clone, Copy)]
-pub struct Unified {
-    pub ok: bool,
-    pub count: usize,
-    pub binds: [Change; codes::MOST_ARITY],
-}
+use parlog::{Change, Met, Pair, Term, codes};
+use vars::Variables;
+pub use waiting::{Changes, Noted};
 
 // What one binding makes of the row b of v.
 fn newer(c: Change, b: Option<Term>, v: u32) -> Option<Term>
@@ -24,25 +21,24 @@ fn newer(c: Change, b: Option<Term>, v: u32) -> Option<Term>
 }
 
 // What v is bound to under the pending bindings, where its row has a binding of its own.
-fn found_in(u: Unified, row: Option<Term>, v: u32) -> Option<Term>
-    requires { (u.count ≤ 4) × (length u.binds ≡ 4) }
+fn found_in(u: Changes, row: Option<Term>, v: u32) -> Option<Term>
     ensures { result ≡ latest (pending u) row v }
 {
     let mut b = row;
-    for c in &u.binds[..u.count] {
+    for c in u.made() {
         b = newer(*c, b, v);
     }
     b
 }
 
 // The constant or unbound variable that v's bindings lead to.
-fn value_of_var(vars: &[u8], n: usize, u: Unified, v: u32) -> Term
-    requires { (n * cell_size ≤ length vars.now) × (v < n) × (u.count ≤ 4) × (length u.binds ≡ 4) }
-    ensures { result ≡ value_of (under vars.now n (pending u)) v }
+fn value_of_var(vars: &Variables, u: Changes, v: u32) -> Term
+    requires { v < vars.now.count }
+    ensures { result ≡ value_of (under vars.now.bytes.now vars.now.count (pending u)) v }
 {
     let mut a = v;
     loop {
-        let row = vars::get(vars, n, a as usize);
+        let row = vars.get(a as usize);
         let b = found_in(u, row, a);
         let Some(t) = b else {
             return Term::Var(a);
@@ -58,39 +54,23 @@ fn value_of_var(vars: &[u8], n: usize, u: Unified, v: u32) -> Term
 }
 
 // A term's value under the pending bindings.
-fn value_under(vars: &[u8], n: usize, u: Unified, t: Term) -> Term
-    requires { (n * cell_size ≤ length vars.now) × (top t ≤ n) × (u.count ≤ 4) × (length u.binds ≡ 4) }
-    ensures { result ≡ value (under vars.now n (pending u)) t }
+fn value_under(vars: &Variables, u: Changes, t: Term) -> Term
+    requires { top t ≤ vars.now.count }
+    ensures { result ≡ value (under vars.now.bytes.now vars.now.count (pending u)) t }
 {
     let Term::Var(v) = t else {
         return t;
     };
-    value_of_var(vars, n, u, v)
-}
-
-// Nothing bound yet.
-// Kept, no `Default`: that of `ok` would be false.
-fn nothing() -> Unified
-    ensures { (outcome result ≡ bound []) × (pending result ≡ []) × (result.count ≡ 0) × (length result.binds ≡ 4) × (bound_in result ≡ bound_vars (outcome result)) }
-{
-    let none = Change {
-        var: 0,
-        to: Term::Const(0),
-    };
-    Unified {
-        ok: true,
-        count: 0,
-        binds: [none; codes::MOST_ARITY],
-    }
+    value_of_var(vars, u, v)
 }
 
 // A term's value under the table's bindings.
-pub fn value_of(vars: &[u8], n: usize, t: Term) -> Term
-    requires { (n * cell_size ≤ length vars.now) × (top t ≤ n) }
-    ensures { result ≡ value (vars_in vars.now n) t }
+pub fn value_of(vars: &Variables, t: Term) -> Term
+    requires { top t ≤ vars.now.count }
+    ensures { result ≡ value (variables_in vars.now) t }
 {
-    let u = nothing();
-    value_under(vars, n, u, t)
+    let u = Changes::none();
+    value_under(vars, u, t)
 }
 
 // Two unbound variables: the higher gives way to the lower.
@@ -123,77 +103,53 @@ fn meet(x: Term, y: Term) -> Met
 }
 
 // The unifier with what two values more come to; a clash binds nothing.
-fn join(u: Unified, m: Met) -> Unified
-    requires { (u.ok ≡ true) × (u.count < 4) × (length u.binds ≡ 4) }
-    ensures { (outcome result ≡ joined (pending u) m) × (result.count ≤ u.count + 1) × (length result.binds ≡ 4) × (bound_in result ≡ bound_vars (outcome result)) }
+fn join(u: Changes, m: Met) -> Option<Changes>
+    requires { u.count < 4 }
+    ensures { (outcome result ≡ joined (pending u) m) × IfSome result (λ r. r.count ≤ u.count + 1) × (bound_in result ≡ bound_vars (outcome result)) }
 {
-    let n = u.count;
-    let mut binds = u.binds;
     match m {
-        Met::Clash => Unified {
-            ok: false,
-            count: 0,
-            binds,
-        },
-        Met::Same => u,
-        Met::Bind(v, t) => {
-            binds[n] = Change { var: v, to: t };
-            Unified {
-                ok: true,
-                count: n + 1,
-                binds,
-            }
-        }
+        Met::Clash => None,
+        Met::Same => Some(u),
+        Met::Bind(v, t) => Some(u.with(Change { var: v, to: t })),
     }
 }
 
-// One pair more; a clash stays one.
-fn unify_one(vars: &[u8], n: usize, u: Unified, p: Pair) -> Unified
-    requires { (n * cell_size ≤ length vars.now) × (top p.left ≤ n) × (top p.right ≤ n) × (u.count < 4) × (length u.binds ≡ 4) × (bound_in u ≡ bound_vars (outcome u)) }
-    ensures { (outcome result ≡ unify_one (vars_in vars.now n) (outcome u) p) × (result.count ≤ u.count + 1) × (length result.binds ≡ 4) × (bound_in result ≡ bound_vars (outcome result)) }
+// One pair more.
+fn unify_one(vars: &Variables, u: Changes, p: Pair) -> Option<Changes>
+    requires { (top p.left ≤ vars.now.count) × (top p.right ≤ vars.now.count) × (u.count < 4) }
+    ensures { (outcome result ≡ unify_one (variables_in vars.now) (bound (pending u)) p) × IfSome result (λ r. r.count ≤ u.count + 1) × (bound_in result ≡ bound_vars (outcome result)) }
 {
-    if !u.ok {
-        return u;
-    }
-    let x = value_under(vars, n, u, p.left);
-    let y = value_under(vars, n, u, p.right);
+    let x = value_under(vars, u, p.left);
+    let y = value_under(vars, u, p.right);
     join(u, meet(x, y))
 }
 
-// The first of these pairs, from the left; it tells the variables bound, in order, and none after a clash.
-pub fn unify(vars: &[u8], n: usize, pairs: [Pair; codes::MOST_ARITY], count: usize) -> Unified
-    requires { (n * cell_size ≤ length vars.now) × (count ≤ 4) × Below n count pairs }
-    ensures { (outcome result ≡ unify (vars_in vars.now n) (take count pairs)) × (result.count ≤ count) × (length result.binds ≡ 4) × (bound_in result ≡ bound_vars (unify (vars_in vars.now n) (take count pairs))) }
+// The first of these pairs, from the left; it tells the variables bound, in order, and a clash, which stays one, tells none.
+// Kept, an array and a count: the caller makes four pairs and knows how many are asked for, which is what the definition takes (`take count pairs`); a slice would be cut at the call.
+pub fn unify(vars: &Variables, pairs: [Pair; codes::MOST_ARITY], count: usize) -> Option<Changes>
+    requires { (count ≤ 4) × Below vars.now.count count pairs }
+    ensures { (outcome result ≡ unify (variables_in vars.now) (take count pairs)) × IfSome result (λ u. u.count ≤ count) × (bound_in result ≡ bound_vars (unify (variables_in vars.now) (take count pairs))) }
 {
-    let mut u = nothing();
+    let mut u = Changes::none();
     for p in &pairs[..count] {
-        u = unify_one(vars, n, u, *p);
+        u = unify_one(vars, u, *p)?;
     }
-    u
+    Some(u)
 }
 
 // Variable v of the first n is bound.
-fn is_bound(vars: &[u8], n: usize, v: usize) -> bool
-    requires { n * cell_size ≤ length vars.now }
-    ensures { result ≡ is_bound (binding_of (vars_in vars.now n) v) }
+fn is_bound(vars: &Variables, v: usize) -> bool
+    ensures { result ≡ is_bound (binding_of (variables_in vars.now) v) }
 {
-    if v < n {
-        return vars[v * codes::CELL_SIZE] != codes::UNBOUND;
+    if v < vars.count {
+        return vars.bytes[v * codes::CELL_SIZE] != codes::UNBOUND;
     }
     false
 }
 
-// Some variable of the first of these notes is bound.
-pub fn some_bound(
-    vars: &[u8],
-    n: usize,
-    count: usize,
-    notes: [u16; codes::MOST_NOTES as usize],
-) -> bool
-    requires { (n * cell_size ≤ length vars.now) × (count ≤ 4) }
-    ensures { result ≡ some_bound (vars_in vars.now n) (take count notes) }
+// Some variable of these notes is bound.
+pub fn some_bound(vars: &Variables, notes: &[u16]) -> bool
+    ensures { result ≡ some_bound (variables_in vars.now) notes.now }
 {
-    notes[..count]
-        .iter()
-        .any(|v| is_bound(vars, n, *v as usize))
+    notes.iter().any(|v| is_bound(vars, *v as usize))
 }

@@ -17,7 +17,7 @@ use Rattle.entry.specs.Entered.{EnterSays, Inside}
 use Rattle.load.specs.Fields.{refusal_of}
 use Rattle.parlog.proofs.Assume.{assume-bindings}
 use Rattle.parlog.proofs.Bindings.{bindings-facts, bindings-test, value_in_lem}
-use Rattle.parlog.proofs.Bools.{and-true}
+use Rattle.std.proofs.lemmas.Bool.{and_parts}
 use Rattle.parlog.proofs.Rows.{build-snoc, rows-byte, rows-length, written_in}
 use Rattle.parlog.proofs.Scans.{build-at, build-length}
 use Rattle.parlog.specs.Limits.{Limits}
@@ -32,7 +32,6 @@ use Rattle.parlog.specs.Unify.{value}
 use Rattle.parlog.specs.declared.Refusal.{Refusal}
 use Rattle.parlog.specs.declared.Term.{Term}
 use Rattle.parlog.specs.declared.Term.TheVariants.{Const, Var}
-use Rattle.unify.specs.Pending.{top}
 use Rattle.values.specs.Values.{gathered, GatherSays, value_in, values_bytes, values_call, ValuesSays}
 use Rattle.vars.proofs.Laws.{cell-length}
 use Rattle.vars.specs.Cells.{put_cell}
@@ -73,10 +72,6 @@ module _ (vs : List (Option Term)) where
 
 -- ---- the loop
 
-pub var-top : (v g n : ℕ) → v < g → g ≤ n → top (Var v) ≤ n
-unfolding top
-var-top v g n h k = omega arith
-
 -- the number of a value has three bytes
 pub value-small : (vs : List (Option Term)) → KeepRules vs → (v g : ℕ) → v < g → g ≤ 255 → {t : Term} → t ≡ value vs (Var v) → number_code (Some t) < 16777216
 value-small vs ok v g h few {t} e = go t (rw (← e) at (value_in_lem vs (bindings-facts vs ok) g (Var v) (lt-ltb v g h)))
@@ -114,8 +109,8 @@ module _ (lim : Limits) (s : List ℕ) (l : Lent) (row : List ℕ) {a : Answer (
 pub inside-ruled : (lim : Limits) (s : List ℕ) (r c : ℕ) (l : Lent) → Inside lim s r c l → KeepRules (vars_in l.vars (var_count l.head))
 unfolding lent_ok tables_in
 inside-ruled lim s r c l i =
-    let a = and-true (full_size lim l) (every (cell_known l.vars) (var_count l.head) && tables_ok lim (program_of s r c) (tables_in l)) i.good in
-    let b = and-true (every (cell_known l.vars) (var_count l.head)) (tables_ok lim (program_of s r c) (tables_in l)) a.1 in
+    let a = and_parts (full_size lim l) (every (cell_known l.vars) (var_count l.head) && tables_ok lim (program_of s r c) (tables_in l)) i.good in
+    let b = and_parts (every (cell_known l.vars) (var_count l.head)) (tables_ok lim (program_of s r c) (tables_in l)) a.1 in
     bindings-test (vars_in l.vars (var_count l.head)) (assume-bindings lim (program_of s r c) (tables_in l).state (tables-state lim (program_of s r c) (tables_in l) b.1))
 
 -- ---- what the rows say

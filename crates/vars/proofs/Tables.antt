@@ -1,10 +1,9 @@
 -- The table as a list of bindings.
-use Rattle.parlog.specs.declared.Term.{Term}
-use Rattle.std.specs.Prelude.{Option, None}
-use mathlib.Core.Path.{◌∙◌, ◌≡◌, ap, refl, sym}
+use Rattle.std.specs.Prelude.{None, Option}
+use mathlib.Core.Path.{ap, refl, sym, ◌∙◌, ◌≡◌}
 use mathlib.Core.Bool.{true}
-use mathlib.Core.List.{◌++◌, List}
-use Prim.Native.Nat.{◌*◌, ◌+◌, ◌-◌, ◌<◌, ◌≤◌, ℕ}
+use mathlib.Core.List.{List, ◌++◌}
+use Prim.Native.Nat.{ℕ, ◌*◌, ◌+◌, ◌-◌, ◌<◌, ◌≤◌}
 use lib.Dec.{eqb, ltb}
 use lib.ListN.{get_or, length, length-append, length-replicate, length-set, replicate, set}
 use borrow.Author.Tests.{eqb-false, eqb-true, ltb-false, ltb-true}
@@ -15,9 +14,10 @@ use Rattle.parlog.proofs.Scans.{build-at, build-length, every-at, every-is}
 use Rattle.parlog.specs.Scan.{every}
 use Rattle.parlog.specs.TableRules.{cell_known}
 use Rattle.parlog.specs.Tables.{binding_at, binding_bytes, binding_of, cell_size, vars_in}
+use Rattle.parlog.specs.declared.Term.{Term}
 use Rattle.rows.proofs.Laws.{wiped-after, wiped-before, wiped-in, wiped-length}
 use Rattle.rows.specs.Rows.{wiped}
-use Rattle.vars.proofs.Laws.{binding-cong, binding-none, binding-other, binding-same, cell-byte-past, known-cong, known-none, known-other, known_same, cell-put-length}
+use Rattle.vars.proofs.Laws.{binding-cong, binding-none, binding-other, binding-same, cell-byte-past, cell-put-length, known-cong, known-none, known-other, known_same}
 use Rattle.vars.specs.Cells.{Cells, put_cell}
 
 pub vars-length : (l : List ℕ) (n : ℕ) → length (vars_in l n) ≡ n
@@ -43,9 +43,6 @@ vars-is l vs h = build-is (binding_at l) None vs h
 
 pub vars-set-length : (l : List ℕ) (n v : ℕ) (b : Option Term) → length (set (vars_in l n) v b) ≡ n
 vars-set-length l n v b = length-set (vars_in l n) v b ∙ vars-length l n
-
-pub vars-more-length : (l : List ℕ) (n k : ℕ) → length (vars_in l n ++ replicate k None) ≡ n + k
-vars-more-length l n k = length-append (vars_in l n) (replicate k None) ∙ rw (vars-length, length-replicate)
 
 -- ---- one row written
 

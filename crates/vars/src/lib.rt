@@ -1,5 +1,5 @@
 // The variable table: a lent row of bytes, one cell of them a variable, read and written a binding at a time.
-// Kept: a row and its count, no slice of structs, since the C interface lends bytes, and the head has the counts.
+// Kept: a row and its count, no slice of structs, since the C interface lends bytes, and the head has the counts. For reading both stand in one value, for writing not, as in crate `rows`.
 #![tactic(auto)]
 
 ghost use Rattle.std.specs.Prelude.{◌≡◌, ◌++◌, ◌+◌, ◌*◌, ◌≤◌, ◌<◌, length, replicate, set, None, Some};
@@ -9,6 +9,7 @@ ghost use Rattle.vars.specs.Cells.{Cells, put_cell};
 use parlog::{Term, codes};
 
 // ---- numbers of three bytes, and terms as sort and number
+// Kept, sorts of cells as numbers: a lent row holds any byte, each has its meaning by `binding_by` (parlog/specs/Tables), and `cell_known` refuses the others by number.
 
 // The number of three bytes, the low one first.
 pub fn join(a: u8, b: u8, c: u8) -> u32
@@ -27,7 +28,8 @@ fn sort_of(t: Term) -> u8
     }
 }
 
-fn number_of(t: Term) -> u32
+// The number of a term.
+pub fn number_of(t: Term) -> u32
     ensures { result ≡ number_code (Some t) }
 {
     match t {
@@ -70,16 +72,31 @@ pub fn put_bound(vars: &mut [u8], v: usize, t: Term)
     vars[b + 3] = number[2];
 }
 
-// The binding of variable v of the first n; past them, unbound.
-pub fn get(vars: &[u8], n: usize, v: usize) -> Option<Term>
-    requires { n * cell_size ≤ length vars.now }
-    ensures { result ≡ binding_of (vars_in vars.now n) v }
-{
-    if v < n {
-        return get_binding(vars, v);
-    }
-    None
+// ---- reading
+
+// The used rows of a variable table: its bytes, and how many rows are used.
+#[derive(Clone, Copy)]
+pub struct Variables<'a> {
+    pub bytes: &'a [u8],
+    pub count: usize,
+    pub ghost whole: { count * cell_size ≤ length bytes.now },
 }
+
+impl<'a> Variables<'a> {
+    ghost use Rattle.vars.specs.Views.{variables_in};
+
+    // The binding of variable v; past the used rows, unbound.
+    pub fn get(&self, v: usize) -> Option<Term>
+        ensures { result ≡ binding_of (variables_in self.now) v }
+    {
+        if v < self.count {
+            return get_binding(self.bytes, v);
+        }
+        None
+    }
+}
+
+// ---- writing
 
 // Variable v of the first n becomes bound to t.
 pub fn bind(vars: &mut [u8], n: usize, v: usize, t: Term)

@@ -8,8 +8,8 @@ use lib.Dec.{ltb}
 use lib.ListN.{length}
 use borrow.Author.Tests.{ltb-false, ltb-true}
 use native.Mathlib.Omega.{arith}
-use Rattle.parlog.proofs.Bools.{never, not_so, split}
-use Rattle.parlog.proofs.Scans.{lowest-at, lowest-is, lowest-none, lowest-nothing}
+use Rattle.parlog.proofs.Bools.{never, split}
+use Rattle.parlog.proofs.Scans.{lowest-is, lowest-nothing}
 use Rattle.parlog.specs.Codes.{is_mode, suspended}
 use Rattle.parlog.specs.Run.{watch_of}
 use Rattle.parlog.specs.Tables.{at}
@@ -23,7 +23,7 @@ suspended_at ps i = is_mode suspended (at ps i).mode
 abbrev pub Quiet : List Process → ℕ → Type 0
 Quiet ps q = (i : ℕ) → i < q → suspended_at ps i ≡ false
 
--- ---- what an answer says
+-- ---- what makes an answer
 
 -- the lowest number of a suspended process
 pub record First (ps : List Process) (i : ℕ) : Type 0 where
@@ -32,18 +32,6 @@ pub record First (ps : List Process) (i : ℕ) : Type 0 where
   pub quiet : Quiet ps i
 
 module _ (ps : List Process) where
-  pub watch-at : (i : ℕ) → watch_of ps ≡ Some i → First ps i
-  unfolding watch_of
-  watch-at i e =
-      let r = lowest-at (suspended_at ps) (length ps) i e in
-      record { there = r.there; suspends = r.passes; quiet = λ j h. not_so (suspended_at ps j) (λ p. absurd (let l = r.least j (omega (arith, r.there)) p in omega arith)) }
-
-  pub watch-none : watch_of ps ≡ None → Quiet ps (length ps)
-  unfolding watch_of
-  watch-none e i h = lowest-none (suspended_at ps) (length ps) i e h
-
-  -- ---- and what makes it
-
   pub watch-first : (i : ℕ) → First ps i → watch_of ps ≡ Some i
   unfolding watch_of
   watch-first i f = lowest-is (suspended_at ps) (length ps) i (record { there = f.there; passes = f.suspends; least = least })

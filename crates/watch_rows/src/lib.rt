@@ -7,6 +7,7 @@ ghost use Rattle.parlog.specs.Run.{watch_of};
 ghost use Rattle.parlog.specs.Tables.{procs_of, row_size};
 
 use parlog::{Process, codes};
+use rows::Processes;
 
 // A process is suspended.
 // Kept as a function of one record: a required form of docs/DECISIONS.md.
@@ -21,8 +22,12 @@ pub fn watch_rows(procs: &[u8]) -> Option<usize>
     ensures { result ≡ watch_of (procs_of procs.now (length procs.now / row_size)) }
 {
     let n = procs.len() / codes::ROW_SIZE;
+    let whole = Processes {
+        bytes: procs,
+        count: n,
+    };
     for q in 0..n {
-        let x = rows::get(procs, n, q);
+        let x = whole.get(q);
         if is_suspended(x) {
             return Some(q);
         }

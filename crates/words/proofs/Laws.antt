@@ -1,16 +1,16 @@
 -- From the case of an answer to its word.
 use Rattle.std.specs.Prelude.{Option, Ok, Some}
 use Rattle.parlog.specs.Answer.{Answer}
-use mathlib.Core.Path.{◌≡◌, refl}
+use mathlib.Core.Path.{◌≡◌}
 use Prim.Native.Nat.{◌<◌, ◌≤◌, ℕ}
 use borrow.Author.Tests.{le-ltb, lt-ltb}
 use native.Mathlib.Omega.{arith}
-use Rattle.parlog.specs.Numbers.{end_number, Numbers, rule_number, run_numbers, step_numbers, touched, variable, watch_numbers, word}
+use Rattle.parlog.specs.Numbers.{end_number, Numbers, run_numbers, step_numbers, touched, watch_numbers, word}
 use Rattle.parlog.specs.declared.End.{End}
 use Rattle.parlog.specs.declared.Move.{Move}
-use Rattle.parlog.specs.declared.Term.{Term}
-use Rattle.parlog.specs.declared.Term.TheVariants.{Const, Var}
-use Rattle.words.specs.Fits.{reached, ToldSays}
+use Rattle.words.specs.Fits.{MoveWithin, reached, ToldSays, touched_by}
+use Rattle.words.specs.declared.Touch.{Touch}
+use Rattle.words.specs.declared.Touch.TheVariants.{Process}
 
 module _ {A : Type 0} {a x : A} (e : a ≡ x) where
   -- the word of a case is the word of the answer
@@ -23,20 +23,12 @@ module _ {A : Type 0} {a x : A} (e : a ≡ x) where
 
 -- ---- a move
 
--- a process is told
-pub told-process : {m x : Move} → m ≡ x → (touched x).number ≤ 4294967295 → ToldSays m (rule_number x) (touched x).sort (touched x).number
-told-process e h = record { rule_is = rw e; sort_is = rw e; number_is = rw e; fits = h }
+-- a process that a move touched
+pub process-fits : {n p : ℕ} (m : Move) {t : Touch} → t ≡ Process p → touched_by t ≡ touched m → MoveWithin n m → p ≤ n
+process-fits m e f h = rw (← f, e) at h
 
-variable-sort : (t : Term) → 1 ≡ (variable t).sort
-variable-sort (Const c) = refl
-variable-sort (Var v) = refl
-
--- a variable is told
-pub told-variable : (f : Term → Move) {m : Move} {t : Term} {n : ℕ} → m ≡ f t → touched (f t) ≡ variable t → (n ≡ (variable t).number) × (n ≤ 4294967295) → ToldSays m (rule_number (f t)) 1 n
-told-variable f {t = t} e q h = record { rule_is = rw e; sort_is = rw (e, q) (variable-sort t); number_is = rw (e, q) h.0; fits = h.1 }
-
-pub move-told : {m : Move} {r s n w : ℕ} → ToldSays m r s n → w ≡ word (record { refused = 0; a = r; b = s; c = n }) → w ≡ word (step_numbers (Ok m))
-move-told t h = rw (h, t.rule_is, t.sort_is, t.number_is)
+pub move-told : {m : Move} {r k w : ℕ} {t : Touch} (x : Touch) → t ≡ x → ToldSays m r t → k ≡ r → w ≡ word (record { refused = 0; a = k; b = (touched_by x).sort; c = (touched_by x).number }) → w ≡ word (step_numbers (Ok m))
+move-told x e t q h = rw (h, ← e, q, t.rule_is, t.touched_is)
 
 -- ---- a run and a watch
 

@@ -1,7 +1,7 @@
 -- A save fits into a word, and an offset is told.
 use Rattle.parlog.specs.Answer.{Answer}
 use Rattle.std.specs.Prelude.{Err, Ok}
-use mathlib.Core.Path.{◌∙◌, ◌≡◌, ap}
+use mathlib.Core.Path.{◌≡◌}
 use mathlib.Core.Bool.{Bool, false, true}
 use mathlib.Core.List.{List}
 use Prim.Native.Nat.{◌≤◌, min, ℕ}
@@ -13,7 +13,6 @@ use Rattle.parlog.proofs.Bools.{split}
 use Rattle.parlog.specs.Calls.{enter, entered, Entry, turned_away}
 use Rattle.parlog.specs.Limits.{Limits}
 use Rattle.parlog.specs.Load.{load_of}
-use Rattle.parlog.specs.Numbers.{refused_as, word}
 use Rattle.parlog.specs.Tables.{Lent}
 use Rattle.parlog.specs.declared.Refusal.{Refusal}
 use Rattle.resume.specs.Calls.{save_by, save_call, save_entry}
@@ -21,7 +20,7 @@ use Rattle.resume.specs.Says.{StoredFew}
 use Rattle.saved.specs.Form.{saved_bytes}
 use Rattle.words.proofs.Fitting.{enter-within, EntryWithin, load_fits}
 use Rattle.words.specs.Fits.{RefusalFits}
-use Rattle.words.specs.Nights.{resume_numbers, SaveFits, told_offset, told_refusal}
+use Rattle.words.specs.Nights.{SaveFits, told_offset, told_refusal}
 
 -- a number as it can be told
 pub told-min : (n : ℕ) → min n 4294967295 ≡ told_offset n
@@ -57,7 +56,3 @@ save-fits lim s l row (Err r) e f = rw (← e) at (save-within lim s l row)
 -- no offset in an image is over 32 bits
 pub image-near : (s : List ℕ) {f : Refusal} → load_of s ≡ Err f → f.offset ≤ 4294967295
 image-near s e = rw e at (load_fits s)
-
--- a refusal told in place of another
-pub resume-told : (r : Refusal) {t : Refusal} {w : ℕ} → t ≡ told_refusal r → w ≡ word (refused_as t) → w ≡ word (resume_numbers (Err r))
-resume-told r e k = k ∙ ap (λ (x : Refusal). word (refused_as x)) e

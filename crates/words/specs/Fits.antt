@@ -3,9 +3,11 @@ use Rattle.parlog.specs.declared.Term.{Term}
 use Rattle.parlog.specs.declared.End.{End}
 use Rattle.parlog.specs.Answer.{Answer}
 use Rattle.std.specs.Prelude.{◌≡◌, cond, ◌≤◌, suc, zero, ℕ, ltb, ⊤, Option, Some, Err, Ok, None}
-use Rattle.parlog.specs.Numbers.{rule_number, touched}
+use Rattle.parlog.specs.Numbers.{process, rule_number, Touched, touched}
 use Rattle.parlog.specs.declared.Move.{Move}
 use Rattle.parlog.specs.declared.Refusal.{Refusal}
+use Rattle.words.specs.declared.Touch.{Touch}
+use Rattle.words.specs.declared.Touch.TheVariants.{Process, Variable}
 
 -- the offset of a refusal
 abbrev pub RefusalFits : Refusal → Type 0
@@ -55,9 +57,12 @@ abbrev pub reached : Option ℕ → Option ℕ
 reached (Some i) = cond (ltb i 4294967296) (Some i) None
 reached None = None
 
--- the rule of a move, the sort of what it touched, and its number
-pub record ToldSays (m : Move) (rule sort number : ℕ) : Type 0 where
+-- what a move touched, as it is told
+abbrev pub touched_by : Touch → Touched
+touched_by (Process p) = process p
+touched_by (Variable v) = record { sort = 1; number = v }
+
+-- the rule of a move, and what it touched
+pub record ToldSays (m : Move) (rule : ℕ) (touch : Touch) : Type 0 where
   pub rule_is : rule ≡ rule_number m
-  pub sort_is : sort ≡ (touched m).sort
-  pub number_is : number ≡ (touched m).number
-  pub fits : number ≤ 4294967295
+  pub touched_is : touched_by touch ≡ touched m

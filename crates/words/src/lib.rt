@@ -3,19 +3,14 @@
 
 ghost use Rattle.std.specs.Prelude.{◌≡◌, ◌≤◌, Ok};
 ghost use Rattle.parlog.specs.Numbers.{end_number, refused_as, rule_number, run_numbers, start_numbers, step_numbers, supply_numbers, term_numbers, value_numbers, variable, watch_numbers, word};
-ghost use Rattle.words.specs.Fits.{MoveWithin, reached, RefusalFits, RunFits, StartFits, StepFits, SupplyFits, ToldSays, ValueFits, ValuesFits};
+ghost use Rattle.words.specs.Fits.{MoveWithin, reached, RefusalFits, RunFits, StartFits, StepFits, SupplyFits, ToldSays, touched_by, ValueFits, ValuesFits};
 ghost use Rattle.values.specs.Values.{values_numbers};
 ghost use Rattle.words.specs.Nights.{resume_numbers, SaveFits, save_numbers, told_offset, told_refusal};
 
 use parlog::{Answer, End, Move, Refusal, Term, codes};
 
 // The refusal of a call that is accepted.
-const ACCEPTED: usize = 0;
-
-// What a move touched.
-const PROCESS: u8 = 0;
-
-const VARIABLE: u8 = 1;
+pub const ACCEPTED: usize = 0;
 
 // What a value is.
 const CONSTANT_VALUE: usize = codes::CONSTANT as usize;
@@ -28,11 +23,19 @@ const SEEN: usize = 1;
 // The highest number of 32 bits.
 const MOST_NUMBER: usize = 4294967295;
 
-// The rule of a move, the sort of what it touched, and the number of that.
+// What a move touched, with its number.
 #[derive(Clone, Copy)]
-struct Told(u8, u8, usize);
+enum Touch {
+    Process(usize),
+    Variable(u32),
+}
+
+// The rule of a move, and what it touched.
+#[derive(Clone, Copy)]
+struct Told(u8, Touch);
 
 // The numbers of an answer as one word.
+#[tactic(auto, unfolding(parlog::specs::Numbers::word))]
 pub fn word(refused: usize, a: usize, b: usize, c: usize) -> u64
     requires { (refused ≤ 255) × (a ≤ 255) × (b ≤ 255) × (c ≤ 4294967295) }
     ensures { result ≡ word (record { refused = refused; a = a; b = b; c = c }) }
@@ -48,6 +51,10 @@ pub fn refused(r: Refusal) -> u64
     word(r.number as usize, 0, 0, r.offset)
 }
 
+// ---- the words of the calls
+
+// Kept, a `match` for each call's answer: each call has numbers by a definition of its own (`start_numbers` and so on), and one function for all would take what an `Ok` tells as a closure, whose contract would stand at each call in place of the `match`.
+
 // Of a start: nothing to tell.
 pub fn start_word(a: Answer<()>) -> u64
     requires { StartFits a }
@@ -61,78 +68,79 @@ pub fn start_word(a: Answer<()>) -> u64
 
 // ---- a move
 
-// The number of a term.
-fn number_of(t: Term) -> usize
-    ensures { (result ≡ (variable t).number) × (result ≤ 4294967295) }
+// A term is told as a variable.
+fn variable(t: Term) -> Touch
+    ensures { touched_by result ≡ variable t }
 {
     match t {
-        Term::Const(k) | Term::Var(k) => k as usize,
+        Term::Const(k) | Term::Var(k) => Touch::Variable(k),
     }
 }
 
 // What there is to tell of a move, rule by rule.
 // Kept: a line for each rule; a `From` would be the same match.
 fn tell(m: Move) -> Told
-    requires { MoveWithin 4294967295 m }
-    ensures { ToldSays m result.0 result.1 result.2 }
+    ensures { ToldSays m result.0 result.1 }
 {
     match m {
-        Move::Ready(p) => Told(1, PROCESS, p),
-        Move::Wake(p) => Told(2, PROCESS, p),
-        Move::Stop(p) => Told(3, PROCESS, p),
-        Move::AndParStart(p) => Told(4, PROCESS, p),
-        Move::AndParSuccess(p) => Told(5, PROCESS, p),
-        Move::AndParFailure(p) => Told(6, PROCESS, p),
-        Move::AndSeqStart(p) => Told(7, PROCESS, p),
-        Move::AndSeqNext(p) => Told(8, PROCESS, p),
-        Move::AndSeqSuccess(p) => Told(9, PROCESS, p),
-        Move::AndSeqFailure(p) => Told(10, PROCESS, p),
-        Move::OrParStart(p) => Told(11, PROCESS, p),
-        Move::OrParSpawn(p) => Told(12, PROCESS, p),
-        Move::OrParSuccess(p) => Told(13, PROCESS, p),
-        Move::OrParFailure(p) => Told(14, PROCESS, p),
-        Move::SeqSearchNone(p) => Told(15, PROCESS, p),
-        Move::SeqSearchStart(p) => Told(16, PROCESS, p),
-        Move::SeqSearchNext(p) => Told(17, PROCESS, p),
-        Move::SeqSearchSuccess(p) => Told(18, PROCESS, p),
-        Move::SeqSearchFailure(p) => Told(19, PROCESS, p),
-        Move::OrSearchStart(p) => Told(20, PROCESS, p),
-        Move::OrSearchCommit(p) => Told(21, PROCESS, p),
-        Move::OrSearchFailure(p) => Told(22, PROCESS, p),
-        Move::TryClauseStart(p) => Told(23, PROCESS, p),
-        Move::TryClauseSuccess(p) => Told(24, PROCESS, p),
-        Move::TryClauseFailure(p) => Told(25, PROCESS, p),
-        Move::InputMatchBind(t) => Told(26, VARIABLE, number_of(t)),
-        Move::InputMatchSuccess(p) => Told(26, PROCESS, p),
-        Move::InputMatchFailure(p) => Told(27, PROCESS, p),
-        Move::InputMatchSuspend(t) => Told(28, VARIABLE, number_of(t)),
-        Move::GuardEvalEmpty(p) => Told(29, PROCESS, p),
-        Move::GuardEvalStart(p) => Told(30, PROCESS, p),
-        Move::GuardEvalSuccess(p) => Told(31, PROCESS, p),
-        Move::GuardEvalFailure(p) => Told(32, PROCESS, p),
-        Move::EquateBind(t) => Told(33, VARIABLE, number_of(t)),
-        Move::EquateSuccess(p) => Told(33, PROCESS, p),
-        Move::EquateFailure(p) => Told(34, PROCESS, p),
-        Move::EquateSuspend(t) => Told(35, VARIABLE, number_of(t)),
+        Move::Ready(p) => Told(1, Touch::Process(p)),
+        Move::Wake(p) => Told(2, Touch::Process(p)),
+        Move::Stop(p) => Told(3, Touch::Process(p)),
+        Move::AndParStart(p) => Told(4, Touch::Process(p)),
+        Move::AndParSuccess(p) => Told(5, Touch::Process(p)),
+        Move::AndParFailure(p) => Told(6, Touch::Process(p)),
+        Move::AndSeqStart(p) => Told(7, Touch::Process(p)),
+        Move::AndSeqNext(p) => Told(8, Touch::Process(p)),
+        Move::AndSeqSuccess(p) => Told(9, Touch::Process(p)),
+        Move::AndSeqFailure(p) => Told(10, Touch::Process(p)),
+        Move::OrParStart(p) => Told(11, Touch::Process(p)),
+        Move::OrParSpawn(p) => Told(12, Touch::Process(p)),
+        Move::OrParSuccess(p) => Told(13, Touch::Process(p)),
+        Move::OrParFailure(p) => Told(14, Touch::Process(p)),
+        Move::SeqSearchNone(p) => Told(15, Touch::Process(p)),
+        Move::SeqSearchStart(p) => Told(16, Touch::Process(p)),
+        Move::SeqSearchNext(p) => Told(17, Touch::Process(p)),
+        Move::SeqSearchSuccess(p) => Told(18, Touch::Process(p)),
+        Move::SeqSearchFailure(p) => Told(19, Touch::Process(p)),
+        Move::OrSearchStart(p) => Told(20, Touch::Process(p)),
+        Move::OrSearchCommit(p) => Told(21, Touch::Process(p)),
+        Move::OrSearchFailure(p) => Told(22, Touch::Process(p)),
+        Move::TryClauseStart(p) => Told(23, Touch::Process(p)),
+        Move::TryClauseSuccess(p) => Told(24, Touch::Process(p)),
+        Move::TryClauseFailure(p) => Told(25, Touch::Process(p)),
+        Move::InputMatchBind(t) => Told(26, variable(t)),
+        Move::InputMatchSuccess(p) => Told(26, Touch::Process(p)),
+        Move::InputMatchFailure(p) => Told(27, Touch::Process(p)),
+        Move::InputMatchSuspend(t) => Told(28, variable(t)),
+        Move::GuardEvalEmpty(p) => Told(29, Touch::Process(p)),
+        Move::GuardEvalStart(p) => Told(30, Touch::Process(p)),
+        Move::GuardEvalSuccess(p) => Told(31, Touch::Process(p)),
+        Move::GuardEvalFailure(p) => Told(32, Touch::Process(p)),
+        Move::EquateBind(t) => Told(33, variable(t)),
+        Move::EquateSuccess(p) => Told(33, Touch::Process(p)),
+        Move::EquateFailure(p) => Told(34, Touch::Process(p)),
+        Move::EquateSuspend(t) => Told(35, variable(t)),
     }
 }
 
 // The number of the rule that a move is.
 pub fn rule_number(m: Move) -> usize
-    requires { MoveWithin 4294967295 m }
     ensures { (result ≡ rule_number m) × (result ≤ 255) }
 {
-    let t = tell(m);
-    t.0 as usize
+    let Told(rule, _) = tell(m);
+    usize::from(rule)
 }
 
-// A move as one word.
+// A move as one word: C is told 0 of a process and 1 of a variable.
 fn move_word(m: Move) -> u64
     requires { MoveWithin 4294967295 m }
     ensures { result ≡ word (step_numbers (Ok m)) }
 {
-    let t = tell(m);
-    word(ACCEPTED, t.0 as usize, t.1 as usize, t.2)
+    let Told(rule, touch) = tell(m);
+    match touch {
+        Touch::Process(p) => word(ACCEPTED, usize::from(rule), 0, p),
+        Touch::Variable(v) => word(ACCEPTED, usize::from(rule), 1, v as usize),
+    }
 }
 
 // Of a step or a turn: the rule, and what it touched.

@@ -4,7 +4,6 @@ use mathlib.Core.Bool.{◌&&◌, and-true as true-right, Bool, true}
 use mathlib.Core.List.{[], ◌++◌, ◌∷◌, List}
 use Prim.Native.Nat.{◌*◌, ◌+◌, ◌-◌, ◌<◌, suc, zero, ℕ}
 use lib.ListN.{get_or, length}
-use borrow.Author.Tests.{eq-eqb, ne_eqb}
 use native.Mathlib.Omega.{arith}
 use Rattle.lay_text.proofs.Lent.{Leaves, leaves_as, leaves_end, leaves_step, wrote-both}
 use Rattle.lay_text.specs.Wrote.{Wrote}
@@ -16,7 +15,7 @@ use Rattle.parlog.specs.Records.{record_end}
 use Rattle.parlog.specs.Scan.{list_of}
 use Rattle.text_names.specs.Entries.{entry_name, is_entry}
 use Rattle.text_program.specs.Parsing.{all_of}
-use Rattle.text_program.specs.Printing.{arrow_mark, bracket_text, clause_named, clauses_text, clause_text, end_mark, goal_named, goal_text, guard_mark, halves_text, next_mark, semicolon_mark, stop_mark, term_named, term_text}
+use Rattle.text_program.specs.Printing.{arrow_mark, bracket_text, clause_named, clauses_text, clause_text, end_mark, goal_named, goal_text, guard_mark, halves_text, next_mark, term_named, term_text}
 use Rattle.write_goal.specs.Rows.{terms_at}
 
 -- ---- guard and body
@@ -63,12 +62,6 @@ module _ (r : ℕ) (nm : List ℕ) {w x : Writer} where
     halves-both m f h u v a c = rw (← e) (ways-both (goal_of s at) (goal_of s body) (λ z. h (f ∙ sym (goal-size s at) ∙ z)) u v a c)
 
 -- ---- a clause
-
-pub end-semicolon : (m : ℕ) → m ≡ 1 → semicolon_mark ≡ end_mark m
-end-semicolon m e = rw (eq-eqb m 1 e)
-
-pub end-stop : (m : ℕ) → (m ≡ 1 → ⊥) → stop_mark ≡ end_mark m
-end-stop m e = rw (ne_eqb m 1 e)
 
 pub clause-told : (r : ℕ) (nm s : List ℕ) (at m rel n : ℕ) {w x x1 x2 x3 : Writer} → rel ≡ get_or s (at + 4) 0 → n ≡ get_or s (at + 5) 0 →
     Wrote w (entry_name nm rel) (is_entry nm rel) x → Wrote x (bracket_text (term_text r nm) (terms_at s n (at + 8))) (all_of (term_named r nm) (terms_at s n (at + 8))) x1 →

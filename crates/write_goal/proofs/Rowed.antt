@@ -53,6 +53,7 @@ module _ {A : Type 0} (text : A → List ℕ) (ok : A → Bool) (mark : List ℕ
     abbrev pub RowAt : ℕ → ℕ → ℕ → Writer → List ℕ → Bool → Writer → Type 0
     RowAt n k q w bs g x = Leaves w bs g x (row_left text mark k (list_of read next (n - k) q)) (all_of ok (list_of read next (n - k) q))
 
+    -- Kept in three answers, where each loop begins, beside bounds of its own: told to use it, the check gave up at a limit in all three.
     pub row-start : (n q : ℕ) (w : Writer) →
         RowAt n 0 q w (row_text text mark (list_of read next n q)) (all_of ok (list_of read next n q)) w
     unfolding row_left

@@ -13,6 +13,7 @@ use entry_table::Names;
 use lay_text::Writer;
 use parlog::{Term, codes};
 
+// Kept apart from the writer that is lent beside it: what is read comes by & and what is written by &mut, so that no step has to promise that it left the source as it was.
 // An accepted image with its names: those of its relations come first.
 #[derive(Clone, Copy)]
 pub struct Source<'a> {
@@ -50,6 +51,7 @@ fn term(w: &mut Writer, s: &Source, at: usize)
 }
 
 // n terms from a place on, with a mark between them.
+// Kept beside `stage`, `goal` and `write_text::modes`: one walk for the four would take two closures, one that writes an item with the same writer and one that tells where the next begins, and bounds of the places that differ, which is no plainer than these lines.
 fn terms(w: &mut Writer, s: &Source, from: usize, n: usize, mark: &[u8])
     requires { (from ≤ 1073741824) × (n ≤ 255) }
     ensures { Wrote w.old (row_text (term_text s.now.relations s.now.names.row.now) mark.now (terms_at s.now.image.now n from)) (all_of (term_named s.now.relations s.now.names.row.now) (terms_at s.now.image.now n from)) w.new }
@@ -91,6 +93,7 @@ fn literal(w: &mut Writer, s: &Source, at: usize)
 }
 
 // The stage at a place.
+// Kept, as `terms` says.
 fn stage(w: &mut Writer, s: &Source, from: usize)
     requires { from ≤ 268435456 }
     ensures { Wrote w.old (row_text (literal_text s.now.relations s.now.names.row.now) comma_mark (stage_of s.now.image.now from)) (all_of (literal_named s.now.relations s.now.names.row.now) (stage_of s.now.image.now from)) w.new }
@@ -107,6 +110,7 @@ fn stage(w: &mut Writer, s: &Source, from: usize)
 }
 
 // The goal at a place.
+// Kept, as `terms` says.
 pub fn goal(w: &mut Writer, s: &Source, from: usize)
     requires { from ≤ 134217728 }
     ensures { Wrote w.old (goal_text s.now.relations s.now.names.row.now (goal_of s.now.image.now from)) (goal_named s.now.relations s.now.names.row.now (goal_of s.now.image.now from)) w.new }

@@ -29,6 +29,7 @@ fn mode(w: &mut Writer, m: usize)
 }
 
 // n modes from a place on.
+// Kept beside `write_goal::terms`, as is said there.
 fn modes(w: &mut Writer, s: &[u8], from: usize, n: usize)
     requires { (from ≤ 1073741824) × (n ≤ 255) }
     ensures { Wrote w.old (row_text mode_text (44 ∷ []) (list_of (byte_at s.now) mode_end n from)) (all_of any_mode (list_of (byte_at s.now) mode_end n from)) w.new }

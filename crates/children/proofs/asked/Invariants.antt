@@ -3,4 +3,4 @@ use Rattle.children.specs.Notes.{Noted}
 use Rattle.children.proofs.asked.Given as goal
 
 abbrev pub invariant-loop-q : goal.invariant-loop-q
-invariant-loop-q l = Noted (procs_of l.procs l.n) l.p l.q l.x
+invariant-loop-q l = Noted (procs_of l.procs.bytes.now l.procs.count) l.p l.q l.x

@@ -2,10 +2,10 @@ use Rattle.parlog.specs.Unify.{pair_of}
 use Rattle.decide.proofs.pair_at.Goals as goal
 
 pub shift-requires : goal.shift-requires
-shift-requires c = c.requires.4
+shift-requires c = c.requires.1
 
 pub head_side-requires : goal.head_side-requires
-head_side-requires c = (c.requires.5, c.requires.6)
+head_side-requires c = (c.requires.2, c.requires.3)
 
 pub returns : goal.returns
 unfolding pair_of

@@ -1,11 +1,9 @@
-use Rattle.entry_table.specs.Entered.{Entered, table_size}
-use mathlib.Core.Path.{◌≡◌}
+use Rattle.entry_table.specs.Entered.{Entered}
 use Prim.Native.Nat.{◌-◌}
-use lib.ListN.{length}
 use Rattle.entry_table.proofs.fill.Given as goal
 
 abbrev pub invariant-loop-every : goal.invariant-loop-every
-invariant-loop-every l = Entered l.names l.table l.every l.count × (length l.table ≡ table_size)
+invariant-loop-every l = Entered l.names l.table l.every l.count
 
 abbrev pub decreases-loop-every : goal.decreases-loop-every
 decreases-loop-every l = 8 - l.every

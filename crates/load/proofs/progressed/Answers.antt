@@ -1,32 +1,30 @@
 use Rattle.load.proofs.Room.{few-relations, few-clauses, block_room}
 use Rattle.parlog.specs.Load.{progressed}
+use mathlib.Core.Path.{refl}
 use native.Mathlib.Omega.{arith}
-use borrow.Author.Tests.{eq-eqb, ne_eqb}
 use Rattle.load.proofs.progressed.Goals as goal
 
-pub returns-then-kind-eq-RELATION_KIND-clause-value : goal.returns-then-kind-eq-RELATION_KIND-clause-value
+pub returns-in-Relation-clause-value : goal.returns-in-Relation-clause-value
 unfolding progressed
-returns-then-kind-eq-RELATION_KIND-clause-value c = rw (eq-eqb _ _ c.if-kind-eq-RELATION_KIND.true)
+returns-in-Relation-clause-value c = rw (c.number.ensures, c.in-Relation.is) refl
 
-pub returns-then-kind-eq-RELATION_KIND-clause-small_2 : goal.returns-then-kind-eq-RELATION_KIND-clause-small_2
-returns-then-kind-eq-RELATION_KIND-clause-small_2 c = let h = c.requires in
-    record { relations = omega (arith, few-relations c.args.g c.args.kind c.if-kind-eq-RELATION_KIND.true h.kind_value); clauses = h.small.clauses; block = h.small.block }
+pub returns-in-Relation-clause-small : goal.returns-in-Relation-clause-small
+returns-in-Relation-clause-small c = let k = c.args.known.now in
+    record { relations = omega (arith, few-relations k.before 1 refl (rw c.in-Relation.is at c.requires.few)); clauses = k.clauses; block = k.block }
 
-pub returns-then-kind-eq-CLAUSE_KIND-clause-value : goal.returns-then-kind-eq-CLAUSE_KIND-clause-value
+pub returns-in-Clause-clause-value : goal.returns-in-Clause-clause-value
 unfolding progressed
-returns-then-kind-eq-CLAUSE_KIND-clause-value c =
-    rw (ne_eqb _ _ c.if-kind-eq-RELATION_KIND.false, eq-eqb _ _ c.if-kind-eq-CLAUSE_KIND.true, c.block_with.ensures, c.byte_at-mark.ensures.0, c.byte_at-relation.ensures.0)
+returns-in-Clause-clause-value c = rw (c.number.ensures, c.in-Clause.is, c.block_with.ensures, c.byte_at-mark.ensures.0, c.byte_at-relation.ensures.0) refl
 
-pub returns-then-kind-eq-CLAUSE_KIND-clause-small_2 : goal.returns-then-kind-eq-CLAUSE_KIND-clause-small_2
-returns-then-kind-eq-CLAUSE_KIND-clause-small_2 c = let k = c.if-kind-eq-CLAUSE_KIND.true in
-    let h = c.requires in
-    let b = block_room c.args.s.now c.args.g c.args.at c.args.kind k h.kind_value_2 in
+pub returns-in-Clause-clause-small : goal.returns-in-Clause-clause-small
+returns-in-Clause-clause-small c = let k = c.args.known.now in
+    let b = block_room k.image.now k.before c.args.known.now.at 2 refl (rw c.in-Clause.is at c.requires.room) in
     record {
-      relations = h.small.relations;
-      clauses = omega (arith, few-clauses c.args.g c.args.kind k h.kind_value);
+      relations = k.relations;
+      clauses = omega (arith, few-clauses k.before 2 refl (rw c.in-Clause.is at c.requires.few));
       block = rw (c.block_with.ensures, c.byte_at-relation.ensures.0, c.byte_at-mark.ensures.0) b;
     }
 
-pub returns-clause-value : goal.returns-clause-value
+pub returns-in-Goal-clause-value : goal.returns-in-Goal-clause-value
 unfolding progressed
-returns-clause-value c = rw (ne_eqb _ _ c.if-kind-eq-RELATION_KIND.false, ne_eqb _ _ c.if-kind-eq-CLAUSE_KIND.false)
+returns-in-Goal-clause-value c = rw (c.number.ensures, c.in-Goal.is) refl

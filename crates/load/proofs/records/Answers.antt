@@ -13,7 +13,7 @@ use Rattle.load.proofs.Accepted.{all-passed, reached, kept, nothing-reached}
 use Rattle.load.proofs.records.Goals as goal
 
 pub loop-at-init : goal.loop-at-init
-loop-at-init c = let s = c.args.s.now in (refl, record { relations = omega arith; clauses = omega arith; block = omega arith }, nothing-reached s, record { arity = λ k h. absurd (omega arith) }, refl, holds-start s c.requires.1 c.requires.2)
+loop-at-init c = let s = c.args.s.now in (refl, record { relations = omega arith; clauses = omega arith; block = omega arith }, nothing-reached s, record { arity = λ k h. absurd (omega arith) }, refl, holds-start s c.told-ix c.requires.1)
 
 pub returns-in-Err-clause-value : goal.returns-in-Err-clause-value
 returns-in-Err-clause-value c = let l = c.loop-at in

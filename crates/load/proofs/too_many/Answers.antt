@@ -1,11 +1,15 @@
-use borrow.Author.Tests.{eq-eqb, ne_eqb}
+use mathlib.Core.Path.{refl}
 use Rattle.parlog.specs.Load.{too_many}
 use Rattle.load.proofs.too_many.Goals as goal
 
-pub returns-then-kind-eq-RELATION_KIND : goal.returns-then-kind-eq-RELATION_KIND
+pub returns-in-Relation : goal.returns-in-Relation
 unfolding too_many
-returns-then-kind-eq-RELATION_KIND c = rw (eq-eqb _ _ c.if-kind-eq-RELATION_KIND.true)
+returns-in-Relation c = rw c.in-Relation.is refl
 
-pub returns-else-kind-eq-RELATION_KIND : goal.returns-else-kind-eq-RELATION_KIND
+pub returns-in-Clause : goal.returns-in-Clause
 unfolding too_many
-returns-else-kind-eq-RELATION_KIND c = rw (ne_eqb _ _ c.if-kind-eq-RELATION_KIND.false)
+returns-in-Clause c = rw c.in-Clause.is refl
+
+pub returns-in-Goal : goal.returns-in-Goal
+unfolding too_many
+returns-in-Goal c = rw c.in-Goal.is refl

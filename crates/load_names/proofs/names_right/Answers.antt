@@ -1,15 +1,15 @@
+use mathlib.Core.Path.{refl}
 use Rattle.parlog.specs.Names.{names_right}
-use borrow.Author.Tests.{eq-eqb, ne_eqb}
 use Rattle.load_names.proofs.names_right.Goals as goal
 
-pub returns-then-kind-eq-RELATION_KIND : goal.returns-then-kind-eq-RELATION_KIND
+pub returns-in-Relation : goal.returns-in-Relation
 unfolding names_right
-returns-then-kind-eq-RELATION_KIND c = rw (eq-eqb _ _ c.if-kind-eq-RELATION_KIND.true)
+returns-in-Relation c = rw c.in-Relation.is refl
 
-pub returns-then-kind-eq-CLAUSE_KIND : goal.returns-then-kind-eq-CLAUSE_KIND
+pub returns-in-Clause : goal.returns-in-Clause
 unfolding names_right
-returns-then-kind-eq-CLAUSE_KIND c = rw (ne_eqb _ _ c.if-kind-eq-RELATION_KIND.false, eq-eqb _ _ c.if-kind-eq-CLAUSE_KIND.true, c.clause_placed.ensures, c.clause_inside.ensures)
+returns-in-Clause c = rw (c.in-Clause.is, c.clause_placed.ensures, c.clause_inside.ensures) refl
 
-pub returns : goal.returns
+pub returns-in-Goal : goal.returns-in-Goal
 unfolding names_right
-returns c = rw (ne_eqb _ _ c.if-kind-eq-RELATION_KIND.false, ne_eqb _ _ c.if-kind-eq-CLAUSE_KIND.false) c.ask_named.ensures
+returns-in-Goal c = rw c.in-Goal.is c.ask_named.ensures

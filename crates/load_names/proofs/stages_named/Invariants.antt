@@ -7,4 +7,4 @@ use lib.ListN.{length}
 use Rattle.load_names.proofs.stages_named.Given as goal
 
 abbrev pub invariant-loop : goal.invariant-loop
-invariant-loop l = (row (stage_named l.known.image.now l.known.relations l.vars) (stage_end l.known.image.now) (l.n - l.counter) l.at ≡ row (stage_named l.known.image.now l.known.relations l.vars) (stage_end l.known.image.now) l.n l.from) × (l.at ≤ l.from + 130561 * l.counter) × (stages_end l.known.image.now (l.n - l.counter) l.at ≤ length l.known.image.now)
+invariant-loop l = (row (stage_named l.known.image.now l.known.before.relations l.vars) (stage_end l.known.image.now) (l.n - l.counter) l.at ≡ row (stage_named l.known.image.now l.known.before.relations l.vars) (stage_end l.known.image.now) l.n l.from) × (l.at ≤ l.from + 130561 * l.counter) × (stages_end l.known.image.now (l.n - l.counter) l.at ≤ length l.known.image.now)

@@ -6,4 +6,4 @@ use Rattle.machine.proofs.begin_procs.Goals as goal
 
 pub returns : goal.returns
 unfolding small
-returns c = begun-procs _ small-usable _ _ _ _ c.requires.2 c.wipe.ensures c.goal_process-x.ensures c.append.ensures (λ b. omega (arith, c.type_inv.procs b))
+returns c = begun-procs _ small-usable _ _ _ _ c.requires c.wipe.ensures c.goal_process-x.ensures c.append.ensures (λ b. omega (arith, c.type_inv.procs b))

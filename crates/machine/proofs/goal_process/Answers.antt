@@ -2,4 +2,4 @@ use Rattle.machine.proofs.Beginning.{process-new}
 use Rattle.machine.proofs.goal_process.Goals as goal
 
 pub returns : goal.returns
-returns c = process-new _ c.tag_of_goal-tag.ensures.0
+returns c = rw (c.new_process.ensures, c.goal_spot-goal.ensures) (process-new _ c.tag_of_goal-tag.ensures)

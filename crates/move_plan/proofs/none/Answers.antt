@@ -5,4 +5,4 @@ use Rattle.move_plan.proofs.none.Goals as goal
 
 pub returns : goal.returns
 unfolding applied_of
-returns c = (refl, search rules, c.no_changes.ensures)
+returns c = (refl, search rules, c.none.ensures.1)

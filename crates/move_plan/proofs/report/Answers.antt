@@ -1,7 +1,7 @@
 use mathlib.Core.Path.{◌∙◌, ap}
 use Rattle.move_plan.proofs.Plans.{reports-plain}
-use Rattle.move_plan.specs.declared.Changes.{Changes}
+use Rattle.unify.specs.declared.waiting.Changes.{Changes}
 use Rattle.move_plan.proofs.report.Goals as goal
 
 pub returns : goal.returns
-returns c = (λ t e. reports-plain t c.args.x c.no_changes.result c.no_changes.ensures (c.report_with.ensures.0 t e), c.report_with.ensures.1, ap (λ (cs : Changes). cs.count) c.report_with.ensures.2 ∙ c.no_changes.ensures)
+returns c = (reports-plain _ c.args.x c.none.result c.none.ensures.0 c.report_with.ensures.0, c.report_with.ensures.1, ap (λ (cs : Changes). cs.count) c.report_with.ensures.2 ∙ c.none.ensures.1)

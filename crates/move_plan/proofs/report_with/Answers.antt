@@ -7,4 +7,4 @@ use Rattle.move_plan.proofs.report_with.Goals as goal
 
 pub returns : goal.returns
 unfolding applied_of delta_of with_result
-returns c = (λ t e. rw (procs-none, e), search rules, refl, refl)
+returns c = (rw (procs-none, c.number.ensures, c.number-2.ensures), search rules, refl, refl)

@@ -21,4 +21,4 @@ pub returns-in-4 : goal.returns-in-4
 returns-in-4 c = (reports _ _ _ _ c.get-x.ensures c.in-4.is c.stop.ensures.0, c.stop.ensures.1, (let h = c.stop.ensures.2 in omega arith), within_none _ c.stop.result c.stop.ensures.2)
 
 pub returns-in_default : goal.returns-in_default
-returns-in_default c = let a = able-there _ _ _ _ c.get-x.ensures c.requires.7 in (wakes _ _ _ _ c.get-x.ensures (suspended-left _ a.mode (search rules) (search rules) (search rules) (search rules) (search rules)) c.wake.ensures.0, c.wake.ensures.1, c.wake.ensures.2, c.wake.ensures.3)
+returns-in_default c = let a = able-there _ _ _ _ c.get-x.ensures c.requires.3 in (wakes _ _ _ _ c.get-x.ensures (suspended-left _ a.mode (search rules) (search rules) (search rules) (search rules) (search rules)) c.wake.ensures.0, c.wake.ensures.1, c.wake.ensures.2, c.wake.ensures.3)

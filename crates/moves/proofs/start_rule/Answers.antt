@@ -7,13 +7,13 @@ use Rattle.moves.proofs.Ways.{equate-started, match-started}
 use Rattle.moves.proofs.start_rule.Goals as goal
 
 pub start_input_match-requires : goal.start_input_match-requires
-start_input_match-requires c = (c.requires.0, c.requires.1, c.requires.4, (let h = c.requires.5 in omega arith), c.requires.7.matching c.in-6.is, c.requires.8)
+start_input_match-requires c = ((let h = c.requires.1 in omega arith), c.requires.3.matching c.in-6.is)
 
 pub start_equate-requires : goal.start_equate-requires
-start_equate-requires c = (c.requires.0, c.requires.1, c.requires.2, c.requires.4, (let h = c.requires.5 in omega arith), c.requires.7.equating c.in-8.is, c.requires.8)
+start_equate-requires c = ((let h = c.requires.1 in omega arith), c.requires.3.equating c.in-8.is)
 
 pub start_tree-requires : goal.start_tree-requires
-start_tree-requires c = let f = c.requires.7.members c.args.p in search rules
+start_tree-requires c = let f = c.requires.3.members c.args.p in search rules
 
 pub returns-in-6 : goal.returns-in-6
 returns-in-6 c = (match-started _ _ _ _ _ c.in-6.is c.start_input_match.ensures.0, c.start_input_match.ensures.1, c.start_input_match.ensures.2, c.start_input_match.ensures.3)

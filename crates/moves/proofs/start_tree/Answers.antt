@@ -22,4 +22,4 @@ pub returns-in-5 : goal.returns-in-5
 returns-in-5 c = (λ s h v. started try_clause _ _ _ _ _ c.in-5.is (c.start_try_clause.ensures.0 _ s h), c.start_try_clause.ensures.1, c.start_try_clause.ensures.2)
 
 pub returns-in_default : goal.returns-in_default
-returns-in_default c = (λ s h v. started guard_eval _ _ _ _ _ (guard-left _ c.requires.5 c.requires.6 c.requires.7 (search rules) (search rules) (search rules) (search rules) (search rules) (search rules)) (c.start_guard_eval.ensures.0 s h), c.start_guard_eval.ensures.1, c.start_guard_eval.ensures.2)
+returns-in_default c = (λ s h v. started guard_eval _ _ _ _ _ (guard-left _ c.requires.3 c.requires.4 c.requires.5 (search rules) (search rules) (search rules) (search rules) (search rules) (search rules)) (c.start_guard_eval.ensures.0 s h), c.start_guard_eval.ensures.1, c.start_guard_eval.ensures.2)

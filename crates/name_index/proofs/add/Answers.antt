@@ -1,24 +1,11 @@
-use native.Mathlib.Omega.{arith}
 use mathlib.Core.Path.{refl}
-use lib.ListN.{drop, length-set}
+use lib.ListN.{drop}
 use Rattle.text_names.specs.Bytes.{front}
-use Rattle.name_index.proofs.Chains.{chain-small, none-look, one-full, one_known, one-new, some-less}
+use Rattle.name_index.proofs.Chains.{none-look, one-full, one_known, one-new, some-less}
 use Rattle.name_index.proofs.add.Goals as goal
 
 pub returns-in-Some : goal.returns-in-Some
 returns-in-Some c = one_known c.args.s.now c.args.places.now c.args.links.now c.args.n c.args.q c.args.chain c.in-Some.number (front (drop c.args.q c.args.s.now)) c.requires.2 refl c.requires.1 c.in-Some.ensures.0 (some-less c.args.s.now c.args.places.now c.args.n (front (drop c.args.q c.args.s.now)) c.requires.2.inside c.in-Some.number c.in-Some.ensures)
-
-pub offset_bounds-links-chain : goal.offset_bounds-links-chain
-offset_bounds-links-chain c = omega (arith, chain-small (front (drop c.args.q c.args.s.now)))
-
-pub bounds-links-chain : goal.bounds-links-chain
-bounds-links-chain c = let e = c.requires.2.size in omega (arith, chain-small (front (drop c.args.q c.args.s.now)))
-
-pub offset_bounds-links-chain-then-n-places : goal.offset_bounds-links-chain-then-n-places
-offset_bounds-links-chain-then-n-places c = omega (arith, chain-small (front (drop c.args.q c.args.s.now)))
-
-pub bounds-links-chain-then-n-places : goal.bounds-links-chain-then-n-places
-bounds-links-chain-then-n-places c = let e = c.requires.2.size in let f = chain-small (front (drop c.args.q c.args.s.now)) in rw length-set (omega arith)
 
 pub returns-then-n-places : goal.returns-then-n-places
 returns-then-n-places c = one-new c.args.s.now c.args.places.now c.args.links.now c.args.n c.args.q c.args.chain c.args.n (front (drop c.args.q c.args.s.now)) c.requires.2 refl c.requires.1 (none-look c.args.s.now c.args.places.now c.args.n (front (drop c.args.q c.args.s.now)) c.requires.2.inside c.in_default.ensures) refl c.if-n-places.true

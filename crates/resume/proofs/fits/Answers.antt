@@ -12,8 +12,8 @@ pub keeps_rules-requires : goal.keeps_rules-requires
 unfolding small
 keeps_rules-requires c = let s = c.args in
     let p = c.requires in
-    let f = fits-few small (program_of s.image.now s.rels s.clauses) _ _ _ _ c.full_size-full.ensures c.counts_agree-agree.ensures refl refl refl (c.if-not-so_far.false) in
-    (p.0, p.1, f.0, f.1, p.2, p.3)
+    let f = fits-few small (program_of s.image.now.bytes.now s.image.now.relations s.image.now.clauses) _ _ _ _ c.full_size-full.ensures c.counts_agree-agree.ensures refl refl refl (c.if-not-so_far.false) in
+    (f.0, f.1, p)
 
 pub returns : goal.returns
 unfolding small

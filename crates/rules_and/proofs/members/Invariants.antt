@@ -7,4 +7,4 @@ use Rattle.parlog.specs.Tables.{procs_of}
 use Rattle.rules_and.proofs.members.Given as goal
 
 abbrev pub invariant-loop-j : goal.invariant-loop-j
-invariant-loop-j l = (length l.new ≡ length l.initial.new) × (procs_of l.new l.j ≡ build (member (program_of l.image l.rels l.clauses) l.p l.z) l.j)
+invariant-loop-j l = (length l.new ≡ length l.initial.new) × (procs_of l.new l.j ≡ build (member (program_of l.image.bytes.now l.image.relations l.image.clauses) l.p l.z) l.j)

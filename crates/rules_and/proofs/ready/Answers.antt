@@ -1,7 +1,5 @@
-use mathlib.Core.Path.{refl}
-use Rattle.parlog.specs.Codes.{starting}
 use Rattle.rules_and.proofs.Ways.{readied}
 use Rattle.rules_and.proofs.ready.Goals as goal
 
 pub returns : goal.returns
-returns c = (readied _ _ (c.with_mode-me.ensures starting refl) c.only.ensures.0, c.only.ensures.1, c.only.ensures.2)
+returns c = (readied _ _ c.with_mode-me.ensures c.only.ensures.0, c.only.ensures.1, c.only.ensures.2)

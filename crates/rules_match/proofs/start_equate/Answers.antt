@@ -3,7 +3,7 @@ use Rattle.rules_match.proofs.Ways.{equate-started, equate-writes, itself}
 use Rattle.rules_match.proofs.start_equate.Goals as goal
 
 pub start_by-requires : goal.start_by-requires
-start_by-requires c = (itself c.equate_at-d.ensures, equate-writes _ _ _ _ (vars-length _ _) c.requires.5 c.equate_at-d.ensures)
+start_by-requires c = (itself c.equate_at-d.ensures, equate-writes _ _ _ _ (vars-length _ _) c.requires.1 c.equate_at-d.ensures)
 
 pub way_of-requires : goal.way_of-requires
 way_of-requires c = itself c.equate_at-d.ensures

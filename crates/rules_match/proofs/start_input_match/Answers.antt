@@ -3,7 +3,7 @@ use Rattle.rules_match.proofs.Ways.{itself, match-started, match-writes}
 use Rattle.rules_match.proofs.start_input_match.Goals as goal
 
 pub start_by-requires : goal.start_by-requires
-start_by-requires c = (itself c.match_at-d.ensures, match-writes _ _ _ (vars-length _ _) c.requires.4 c.match_at-d.ensures)
+start_by-requires c = (itself c.match_at-d.ensures, match-writes _ _ _ (vars-length _ _) c.requires.1 c.match_at-d.ensures)
 
 pub way_of-requires : goal.way_of-requires
 way_of-requires c = itself c.match_at-d.ensures

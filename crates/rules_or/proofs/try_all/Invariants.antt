@@ -9,5 +9,5 @@ use Rattle.rules_or.proofs.try_all.Given as goal
 
 abbrev pub invariant-loop-j : goal.invariant-loop-j
 invariant-loop-j l = (l.v ≤ l.m + 510 * l.j) × (length l.rows ≡ length l.initial.rows)
-    × (procs_of l.rows l.j ++ tries (program_of l.image l.rels l.clauses) l.p l.z l.v (drop l.j (block_of (program_of l.image l.rels l.clauses) l.rel l.b)) ≡ tries (program_of l.image l.rels l.clauses) l.p l.z l.m (block_of (program_of l.image l.rels l.clauses) l.rel l.b))
-    × (l.v + tries_vars (program_of l.image l.rels l.clauses) (drop l.j (block_of (program_of l.image l.rels l.clauses) l.rel l.b)) ≡ l.m + tries_vars (program_of l.image l.rels l.clauses) (block_of (program_of l.image l.rels l.clauses) l.rel l.b))
+    × (procs_of l.rows l.j ++ tries (program_of l.image.bytes.now l.image.relations l.image.clauses) l.p l.z l.v (drop l.j (block_of (program_of l.image.bytes.now l.image.relations l.image.clauses) l.rel l.b)) ≡ tries (program_of l.image.bytes.now l.image.relations l.image.clauses) l.p l.z l.m (block_of (program_of l.image.bytes.now l.image.relations l.image.clauses) l.rel l.b))
+    × (l.v + tries_vars (program_of l.image.bytes.now l.image.relations l.image.clauses) (drop l.j (block_of (program_of l.image.bytes.now l.image.relations l.image.clauses) l.rel l.b)) ≡ l.m + tries_vars (program_of l.image.bytes.now l.image.relations l.image.clauses) (block_of (program_of l.image.bytes.now l.image.relations l.image.clauses) l.rel l.b))

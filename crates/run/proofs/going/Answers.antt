@@ -16,7 +16,7 @@ pub returns-then-k-limit : goal.returns-then-k-limit
 returns-then-k-limit c = going-spent _ _ _ _ _ _ c.requires.0 _ _ c.loop-k.invariant c.look-w.ensures c.in-Some.is c.if-k-limit.true
 
 pub stepped-a-requires : goal.stepped-a-requires
-stepped-a-requires c = (c.loop-k.invariant.inside, look-below _ c.look-w.ensures c.in-Some.is, (λ w. c.look-w.ensures.told _ c.in-Some.is), c.requires.2)
+stepped-a-requires c = (c.loop-k.invariant.inside, look-below _ c.look-w.ensures c.in-Some.is, (λ w. c.look-w.ensures.told _ c.in-Some.is))
 
 pub returns-in_default-a : goal.returns-in_default-a
 returns-in_default-a c = going-room _ _ _ _ _ _ c.requires.0 _ _ c.loop-k.invariant c.look-w.ensures c.in-Some.is c.if-k-limit.false c.stepped-a.ensures c.in_default-a.is

@@ -1,3 +1,4 @@
+use native.Mathlib.Omega.{arith}
 use Rattle.run.proofs.Turning.{look-ended, look-goes}
 use Rattle.run.proofs.look.Goals as goal
 
@@ -12,3 +13,6 @@ whose-t-requires c = c.requires
 
 pub returns : goal.returns
 returns c = look-goes _ c.proc_count-n.ensures.0 c.mode_at.ensures c.if-mode_at-eq-DORMANT.false c.whose-t.ensures
+
+pub invariant_of-used : goal.invariant_of-used
+invariant_of-used c = record { whole = omega (arith, c.requires.rows, c.proc_count-n.ensures.0) }

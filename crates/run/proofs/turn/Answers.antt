@@ -1,12 +1,8 @@
 use Rattle.run.proofs.Turning.{turn-refused, turn-turned}
-use Rattle.entry.proofs.Entering.{indexed_of, inside_of}
 use Rattle.run.proofs.turn.Goals as goal
 
 pub returns-in_default : goal.returns-in_default
 returns-in_default c = turn-refused _ _ _ c.enter-e.ensures.enter_says c.in_default.is c.refusal-away.ensures
-
-pub turn_in-requires : goal.turn_in-requires
-turn_in-requires c = (inside_of _ _ _ c.enter-e.ensures.enter_says c.in-Ok.is, indexed_of _ _ c.enter-e.ensures.indexed_of c.in-Ok.is)
 
 pub returns : goal.returns
 returns c = turn-turned _ _ _ c.enter-e.ensures.enter_says c.in-Ok.is c.turn_in.ensures

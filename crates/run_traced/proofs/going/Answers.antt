@@ -16,7 +16,7 @@ pub returns-then-k-limit : goal.returns-then-k-limit
 returns-then-k-limit c = traced-spent _ _ _ _ _ _ _ _ c.requires.0 _ _ _ _ c.loop-k.invariant c.look-w.ensures c.in-Some.is c.if-k-limit.true
 
 pub move_noted-a-requires : goal.move_noted-a-requires
-move_noted-a-requires c = (c.loop-k.invariant.going.inside, look-below _ c.look-w.ensures c.in-Some.is, (λ w. c.look-w.ensures.told _ c.in-Some.is), c.requires.2, omega (arith, c.loop-k-test.true, c.requires.1))
+move_noted-a-requires c = (c.loop-k.invariant.going.inside, look-below _ c.look-w.ensures c.in-Some.is, (λ w. c.look-w.ensures.told _ c.in-Some.is), omega (arith, c.loop-k-test.true, c.requires.1))
 
 pub returns-in_default-a : goal.returns-in_default-a
 returns-in_default-a c = traced-room _ _ _ _ _ _ _ _ c.requires.0 _ _ _ _ c.loop-k.invariant c.look-w.ensures c.in-Some.is c.if-k-limit.false c.move_noted-a.ensures c.in_default-a.is

@@ -1,13 +1,9 @@
 use Rattle.std.proofs.lemmas.Result.{err_from_is_err_and}
-use Rattle.parlog.proofs.Limits.{small-usable}
-use Rattle.run_traced.proofs.Noting.{move-kept, move_noted, rule-within}
+use Rattle.run_traced.proofs.Noting.{move-kept, move_noted}
 use Rattle.run_traced.proofs.move_noted.Goals as goal
 
 pub returns-in_err-m : goal.returns-in_err-m
 returns-in_err-m c = let p = err_from_is_err_and c.from_residual.result c.from_residual.ensures.1 in rw (p.1, p.2) (move-kept _ _ _ _ _ _ c.stepped.ensures _ _ _ c.in_err-m.was)
-
-pub rule_number-rule-requires : goal.rule_number-rule-requires
-rule_number-rule-requires c = rule-within _ _ _ _ _ _ c.stepped.ensures small-usable c.requires.0 c.in_ok-m.was
 
 pub returns : goal.returns
 returns c = move_noted _ _ _ _ _ _ c.stepped.ensures _ _ _ c.in_ok-m.was c.rule_number-rule.ensures.0 c.put_record.ensures.row

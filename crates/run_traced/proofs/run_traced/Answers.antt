@@ -1,13 +1,8 @@
-use native.Mathlib.Omega.{arith}
-use Rattle.entry.proofs.Entering.{indexed_of, inside_of}
 use Rattle.run_traced.proofs.Noting.{run_away, run-noted}
 use Rattle.run_traced.proofs.run_traced.Goals as goal
 
 pub returns-in_default : goal.returns-in_default
 returns-in_default c = run_away _ _ _ _ _ _ c.enter-e.ensures.enter_says c.in_default.is c.refusal-r.ensures
-
-pub going-requires : goal.going-requires
-going-requires c = (inside_of _ _ _ c.enter-e.ensures.enter_says c.in-Ok.is, omega (arith, c.moves_for-most.ensures.1), indexed_of _ _ c.enter-e.ensures.indexed_of c.in-Ok.is)
 
 pub returns : goal.returns
 returns c = run-noted _ _ _ _ _ _ c.enter-e.ensures.enter_says c.in-Ok.is c.moves_for-most.ensures.0 c.going.ensures

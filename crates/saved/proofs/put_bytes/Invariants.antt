@@ -5,4 +5,4 @@ use Rattle.saved.specs.Form.{bytes_from}
 use Rattle.saved.proofs.put_bytes.Given as goal
 
 abbrev pub invariant-loop-byte : goal.invariant-loop-byte
-invariant-loop-byte l = (l.next ≡ l.at + l.byte-index) × Lays l.initial.out l.out l.at (bytes_from l.row l.from l.byte-index) l.next
+invariant-loop-byte l = (l.next ≡ l.at + l.byte-index) × Lays l.initial.out l.out l.at (bytes_from l.row 0 l.byte-index) l.next

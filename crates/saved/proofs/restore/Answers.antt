@@ -1,12 +1,11 @@
-use mathlib.Core.Path.{◌∙◌, sym}
-use Rattle.saved.proofs.Bytes.{from-length}
-use Rattle.saved.proofs.Written.{head_done}
+use Rattle.std.proofs.Common.{◌∙◌, arith, sym}
+use Rattle.saved.proofs.Bytes.{from-part}
 use Rattle.saved.proofs.restore.Goals as goal
 
 pub returns : goal.returns
-returns c = let s = c.args in
+returns c =
     record {
-      head_is = head_done s.head.now _ (from-length s.s.now 4 10 ∙ sym c.requires.3) c.put_bytes.ensures.row;
+      head_is = c.copy_from_slice.ensures.after ∙ sym (from-part c.args.s.now 4 10 (omega arith));
       procs_are = c.take_processes.ensures;
       vars_are = c.take_variables.ensures;
     }

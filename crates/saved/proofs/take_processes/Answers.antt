@@ -1,8 +1,9 @@
+use Prim.Native.Nat.{◌*◌, ◌+◌}
 use native.Mathlib.Omega.{arith}
 use borrow.Author.Rules.{rules}
 use lib.ListN.{length}
 use Rattle.saved.specs.Restored.{process_in, rows_in}
-use Rattle.saved.proofs.Written.{process-in-length, rows-laid, table-begin, table_done}
+use Rattle.saved.proofs.Written.{part-laid, process-in-length, rows-laid, table-begin, table_done}
 use Rattle.saved.proofs.take_processes.Goals as goal
 
 pub loop-i-init : goal.loop-i-init
@@ -10,7 +11,7 @@ loop-i-init c = table-begin (process_in c.args.s.now) c.args.procs.now _ _ (sear
 
 pub loop-i-preserved : goal.loop-i-preserved
 loop-i-preserved c =
-    rows-laid (process_in c.args.s.now) 24 (process-in-length c.args.s.now) _ c.loop-i.i c.loop-i.invariant c.put_bytes.ensures.row
+    rows-laid (process_in c.args.s.now) 24 (process-in-length c.args.s.now) _ c.loop-i.i c.loop-i.invariant (part-laid c.args.s.now _ (18 + c.loop-i.i * 28 + 4) (c.loop-i.i * 24) 24 c.copy_from_slice.ensures.after (omega arith) (omega arith))
 
 pub returns : goal.returns
 unfolding rows_in

@@ -12,10 +12,10 @@ returns-then-t-lt-OR_PAR c =
       | then-t-waits w ↦ rw w.if-t-waits.true w.there-is
       | else-t-waits w ↦ rw w.if-t-waits.false w.there-is
     ] in
-    goal-stage (program_of c.args.image.now c.args.rels c.args.clauses) c.args.n c.args.z c.args.waits c.args.t c.if-t-lt-OR_PAR.true c.goal_size-stages.ensures.0 refl there c.split_by-split.ensures refl refl
+    goal-stage (program_of c.args.image.now.bytes.now c.args.image.now.relations c.args.image.now.clauses) c.args.n c.args.z c.args.waits c.args.t c.if-t-lt-OR_PAR.true c.goal_size-stages.ensures.0 refl there c.split_by-split.ensures refl refl
 
 pub returns-then-size-z : goal.returns-then-size-z
-returns-then-size-z c = goal-none (program_of c.args.image.now c.args.rels c.args.clauses) c.args.n c.args.z c.args.waits c.args.t c.if-t-lt-OR_PAR.false c.called-x.ensures.0 c.if-size-z.true
+returns-then-size-z c = goal-none (program_of c.args.image.now.bytes.now c.args.image.now.relations c.args.image.now.clauses) c.args.n c.args.z c.args.waits c.args.t c.if-t-lt-OR_PAR.false c.called-x.ensures.0 c.if-size-z.true
 
 pub returns : goal.returns
-returns c = goal-literal (program_of c.args.image.now c.args.rels c.args.clauses) c.args.n c.args.z c.args.waits c.args.t c.if-t-lt-OR_PAR.false c.called-x.ensures.0 c.if-size-z.false c.called-x.ensures.1 c.behind_literal.ensures
+returns c = goal-literal (program_of c.args.image.now.bytes.now c.args.image.now.relations c.args.image.now.clauses) c.args.n c.args.z c.args.waits c.args.t c.if-t-lt-OR_PAR.false c.called-x.ensures.0 c.if-size-z.false c.called-x.ensures.1 c.behind_literal.ensures

@@ -7,11 +7,11 @@ pub loop-q-init : goal.loop-q-init
 loop-q-init c = up-none _
 
 pub returns-then-not-ok : goal.returns-then-not-ok
-returns-then-not-ok c = sym (sym (cells-both c.args.vars.now c.args.n c.args.n) ∙ up-stop _ _ c.loop-q.q c.loop-q-test.true c.cell_ok-ok.ensures c.if-not-ok.true)
+returns-then-not-ok c = sym (sym (cells-both c.args.vars.now.bytes.now c.args.vars.now.count c.args.vars.now.count) ∙ up-stop _ _ c.loop-q.q c.loop-q-test.true c.cell_ok-ok.ensures c.if-not-ok.true)
 
 pub loop-q-preserved : goal.loop-q-preserved
 loop-q-preserved c = up_step _ c.loop-q.q c.loop-q.invariant c.cell_ok-ok.ensures c.if-not-ok.false
 
 pub returns : goal.returns
-returns c = let e : c.loop-q.q ≡ c.args.n = omega arith in
-    sym (sym (cells-both c.args.vars.now c.args.n c.args.n) ∙ rw e at c.loop-q.invariant)
+returns c = let e : c.loop-q.q ≡ c.args.vars.now.count = omega arith in
+    sym (sym (cells-both c.args.vars.now.bytes.now c.args.vars.now.count c.args.vars.now.count) ∙ rw e at c.loop-q.invariant)

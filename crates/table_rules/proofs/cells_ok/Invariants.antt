@@ -5,4 +5,4 @@ use Rattle.table_rules.specs.Parts.{cell_ok}
 use Rattle.table_rules.proofs.cells_ok.Given as goal
 
 abbrev pub invariant-loop-q : goal.invariant-loop-q
-invariant-loop-q l = every (cell_ok l.vars l.n) l.q ≡ true
+invariant-loop-q l = every (cell_ok l.vars.bytes.now l.vars.count) l.q ≡ true

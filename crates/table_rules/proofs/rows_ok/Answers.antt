@@ -13,4 +13,4 @@ pub loop-q-preserved : goal.loop-q-preserved
 loop-q-preserved c = up_step _ c.loop-q.q c.loop-q.invariant c.row_ok-ok.ensures c.if-not-ok.false
 
 pub returns : goal.returns
-returns c = let e : c.loop-q.q ≡ c.args.count = omega arith in sym (rw e at c.loop-q.invariant)
+returns c = let e : c.loop-q.q ≡ c.args.procs.now.count = omega arith in sym (rw e at c.loop-q.invariant)

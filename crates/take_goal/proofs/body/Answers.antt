@@ -1,9 +1,9 @@
-use Rattle.read_names.specs.Tables.{modes_from}
+use Rattle.mode_table.specs.Held.{lines_in}
 use Rattle.take_goal.proofs.Ways.{body-none, body-some}
 use Rattle.take_goal.proofs.body.Goals as goal
 
-pub returns-then-mark : goal.returns-then-mark
-returns-then-mark c = (body-none (modes_from (c.args.s.now) (c.args.lines.from)) _ c.byte_at-mark.ensures.0 c.if-mark.true c.requires.0 c.move_to.ensures c.number.ensures)
+pub returns-then-mark-clause-taken : goal.returns-then-mark-clause-taken
+returns-then-mark-clause-taken g c = (body-none (lines_in c.args.relations.now) _ c.byte_at-mark.ensures.0 c.if-mark.true c.requires c.move_to.ensures c.number.ensures)
 
-pub returns : goal.returns
-returns c = (body-some (modes_from (c.args.s.now) (c.args.lines.from)) _ c.byte_at-mark.ensures.0 c.if-mark.false c.goal.ensures)
+pub returns-clause-taken : goal.returns-clause-taken
+returns-clause-taken g c = (body-some (lines_in c.args.relations.now) _ c.byte_at-mark.ensures.0 c.if-mark.false c.goal.ensures.taken)

@@ -1,7 +1,7 @@
-use Rattle.read_names.specs.Tables.{modes_from}
+use Rattle.mode_table.specs.Held.{lines_in}
 use Rattle.take_goal.proofs.Ways.{goal-row, take-goal}
 use Rattle.text_program.specs.Source.{read_literal, row}
 use Rattle.take_goal.proofs.goal.Goals as goal
 
-pub returns : goal.returns
-returns c = (goal-row (modes_from (c.args.s.now) (c.args.lines.from)) (take-goal (modes_from (c.args.s.now) (c.args.lines.from)) (row (row read_literal 44) 38) c.number-a.ensures c.stages-b.ensures c.patch.ensures))
+pub returns-clause-taken : goal.returns-clause-taken
+returns-clause-taken g c = (goal-row (lines_in c.args.relations.now) (take-goal (lines_in c.args.relations.now) (row (row read_literal 44) 38) c.number-a.ensures c.stages-b.ensures.taken c.patch.ensures))

@@ -1,11 +1,10 @@
-use mathlib.Core.Path.{◌≡◌}
-use lib.ListN.{length}
-use Rattle.read_names.specs.Tables.{modes_from}
+use Rattle.mode_table.specs.Held.{lines_in}
+use Rattle.take_term.specs.Lent.{Same}
 use Rattle.take_text.proofs.Far.{Far}
 use Rattle.take_text.proofs.clause_lines.Given as goal
 
 abbrev pub invariant-loop-w : goal.invariant-loop-w
-invariant-loop-w l = Far l.s (modes_from l.s l.lines.from) l.initial.out l.initial.consts l.from l.at l.n l.initial.w.known l.out l.consts l.links l.w l.before l.semicolon × (length l.out ≡ length l.initial.out) × (length l.consts ≡ length l.initial.consts) × (length l.links ≡ length l.initial.links)
+invariant-loop-w l = Far l.relations.text.now (lines_in l.relations) l.initial.draft.out.now l.initial.draft.consts.now l.from l.at l.consts l.initial.w.known l.draft.out.now l.draft.consts.now l.draft.links.now l.w l.before l.semicolon × Same l.initial.draft l.draft
 
 abbrev pub decreases-loop-w : goal.decreases-loop-w
 decreases-loop-w l = l.w.left

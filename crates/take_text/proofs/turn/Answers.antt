@@ -4,8 +4,5 @@ use mathlib.Core.Path.{◌∙◌, ap, refl}
 use Rattle.take_text.specs.Turned.{turned_by}
 use Rattle.take_text.proofs.turn.Goals as goal
 
-pub clause-c-requires : goal.clause-c-requires
-clause-c-requires c = (c.requires.0, c.requires.1, c.requires.2, c.requires.3)
-
-pub returns : goal.returns
-returns c = record { taken = c.clause-c.result; takes = c.clause-c.ensures; next = c.turned.ensures ∙ ap (λ (d : Result Progress ℕ). turned_by d c.args.w c.clause-c.result) c.test-v.ensures.0; kept = rw (c.test-v.ensures.0) at c.test-v.ensures.1; semicolon = refl }
+pub returns-clause-taken : goal.returns-clause-taken
+returns-clause-taken c = record { taken = c.clause-c.result; takes = c.clause-c.ensures.taken; next = c.turned.ensures ∙ ap (λ (d : Result Progress ℕ). turned_by d c.args.w c.clause-c.result) c.test-v.ensures.0; kept = rw (c.test-v.ensures.0) at c.test-v.ensures.1; semicolon = refl }

@@ -1,7 +1,7 @@
 use mathlib.Core.Path.{sym}
 use native.Mathlib.Omega.{arith}
+use Rattle.std.proofs.Common.{rules}
 use Rattle.std.proofs.lemmas.Result.{err_from_is_err_and}
-use Rattle.entry.proofs.Entering.{indexed_of, inside_of}
 use Rattle.step.proofs.Deciding.{told_of}
 use Rattle.step.proofs.Stepping.{step-nobody, step-refused}
 use Rattle.traced.proofs.Noting.{unnoted-as, unnoted-made, unnoted-refused}
@@ -10,17 +10,11 @@ use Rattle.traced.proofs.step_unnoted.Goals as goal
 pub returns-in_default : goal.returns-in_default
 returns-in_default c = unnoted-as _ _ _ _ (step-refused _ _ _ _ c.enter-e.ensures.enter_says c.in_default.is c.refusal-r.ensures)
 
-pub proc_count-n-requires : goal.proc_count-n-requires
-proc_count-n-requires c = let i = inside_of _ _ _ c.enter-e.ensures.enter_says c.in-Ok.is in omega (arith, i.head)
-
 pub returns-then-n-p : goal.returns-then-n-p
 returns-then-n-p c = unnoted-as _ _ _ _ (step-nobody _ _ _ _ c.enter-e.ensures.enter_says c.in-Ok.is c.proc_count-n.ensures.0 c.if-n-p.true c.refusal.ensures)
 
-pub ask-told-requires : goal.ask-told-requires
-ask-told-requires c = let i = inside_of _ _ _ c.enter-e.ensures.enter_says c.in-Ok.is in let en = c.proc_count-n.ensures in (omega (arith, i.rows, en.0), en.1)
-
 pub planned-requires : goal.planned-requires
-planned-requires c = let i = inside_of _ _ _ c.enter-e.ensures.enter_says c.in-Ok.is in let en = c.proc_count-n.ensures.0 in (i, omega (arith, en, c.if-n-p.false), told_of _ _ (sym en) c.ask-told.ensures, indexed_of _ _ c.enter-e.ensures.indexed_of c.in-Ok.is)
+planned-requires c = let en = c.proc_count-n.ensures.0 in (search rules, omega (arith, en, c.if-n-p.false), told_of _ _ (sym en) c.ask-told.ensures)
 
 pub returns-in_err-planned : goal.returns-in_err-planned
 returns-in_err-planned c = let p = err_from_is_err_and c.from_residual.result c.from_residual.ensures.1 in rw (p.1, p.2) (unnoted-refused _ _ _ _ c.enter-e.ensures.enter_says c.in-Ok.is c.planned.ensures c.in_err-planned.was)

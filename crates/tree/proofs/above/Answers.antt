@@ -7,4 +7,4 @@ use Rattle.tree.proofs.above.Goals as goal
 pub returns : goal.returns
 unfolding process_at
 returns c =
-    c.from.ensures ∙ c.get_u16.ensures ∙ sym (ap (λ (x : Process). x.parent) (procs-at c.args.procs.now _ _ c.requires.1))
+    c.from.ensures ∙ c.get_u16.ensures ∙ sym (ap (λ (x : Process). x.parent) (procs-at c.args.procs.now.bytes.now _ _ c.requires))

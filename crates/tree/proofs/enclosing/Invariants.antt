@@ -5,4 +5,4 @@ use Rattle.parlog.specs.Tree.{enclosing, try_above}
 use Rattle.tree.proofs.enclosing.Given as goal
 
 abbrev pub invariant-loop : goal.invariant-loop
-invariant-loop l = enclosing (procs_of l.procs l.n) l.p ≡ try_above (l.n - l.counter) (procs_of l.procs l.n) l.a
+invariant-loop l = enclosing (procs_of l.procs.bytes.now l.procs.count) l.p ≡ try_above (l.procs.count - l.counter) (procs_of l.procs.bytes.now l.procs.count) l.a

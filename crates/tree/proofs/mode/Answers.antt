@@ -6,4 +6,4 @@ use Rattle.tree.proofs.mode.Goals as goal
 
 pub returns : goal.returns
 unfolding process_at
-returns c = sym (ap (λ (x : Process). x.mode) (procs-at c.args.procs.now _ _ c.requires.1))
+returns c = sym (ap (λ (x : Process). x.mode) (procs-at c.args.procs.now.bytes.now _ _ c.requires))

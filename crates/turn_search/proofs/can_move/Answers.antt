@@ -5,10 +5,10 @@ pub returns-then-mode-eq-DORMANT : goal.returns-then-mode-eq-DORMANT
 returns-then-mode-eq-DORMANT c = λ pr. can-dormant _ _ _ _ _ c.mode_at-mode.ensures pr c.if-mode-eq-DORMANT.true
 
 pub tells-requires : goal.tells-requires
-tells-requires c = said-small _ _ c.requires.2
+tells-requires c = said-small _ _ c.requires
 
 pub returns-then-mode-eq-WAITING : goal.returns-then-mode-eq-WAITING
-returns-then-mode-eq-WAITING c = λ pr. can-waiting _ _ _ _ _ c.mode_at-mode.ensures pr c.if-mode-eq-WAITING.true c.requires.2 c.tag_at-tag.ensures c.tells.ensures
+returns-then-mode-eq-WAITING c = λ pr. can-waiting _ _ _ _ _ c.mode_at-mode.ensures pr c.if-mode-eq-WAITING.true c.requires c.tag_at-tag.ensures c.tells.ensures
 
 pub returns-then-mode-eq-REPORTING : goal.returns-then-mode-eq-REPORTING
 returns-then-mode-eq-REPORTING c = λ pr. can-reporting _ _ _ _ _ c.mode_at-mode.ensures pr c.if-mode-eq-REPORTING.true

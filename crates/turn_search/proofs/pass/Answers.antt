@@ -10,11 +10,11 @@ use Rattle.turn_search.proofs.pass.Goals.{then-can_move+then-last-q, then-can_mo
 use Rattle.turn_search.proofs.pass.Goals as goal
 
 pub can_move-requires : goal.can_move-requires
-can_move-requires g c = (c.requires.0, c.requires.3, (note_in c.loop-q.notes (c.loop-q.q - 1), sym c.said_to-s.ensures, all_here _ _ (procs-length _ _) c.requires.4 _ _ (omega arith) (omega arith) c.loop-q.invariant.0))
+can_move-requires g c = (note_in c.loop-q.notes (c.loop-q.q - 1), sym c.said_to-s.ensures, all_here _ _ (procs-length _ _) c.requires.2 _ _ (omega arith) (omega arith) c.loop-q.invariant.0)
 
 pub loop-q-preserved : goal.loop-q-preserved
 loop-q-preserved g c =
-    let next = sweep-next _ c.args.n c.args.last _ c.loop-q.behind c.loop-q.round (omega arith) c.loop-q.invariant.1 c.can_move.ensures in (
+    let next = sweep-next _ c.args.procs.now.count c.args.last _ c.loop-q.behind c.loop-q.round (omega arith) c.loop-q.invariant.1 c.can_move.ensures in (
       c.hear_row.ensures,
       elim c.if-can_move.branch [
         | then-can_move+then-last-q w ↦ next (rw (w.if-can_move.true, lt-ltb _ _ w.if-last-q.true) w.behind-is) (rw w.if-can_move.true w.round-is)
@@ -24,4 +24,4 @@ loop-q-preserved g c =
     )
 
 pub returns : goal.returns
-returns g c = (sweep-end _ c.args.n c.args.last _ c.loop-q.behind c.loop-q.round (omega arith) c.loop-q.invariant.1 c.or.ensures, all_end _ _ _ _ _ (omega arith) c.loop-q.invariant.0)
+returns g c = (sweep-end _ c.args.procs.now.count c.args.last _ c.loop-q.behind c.loop-q.round (omega arith) c.loop-q.invariant.1 c.or.ensures, all_end _ _ _ _ _ (omega arith) c.loop-q.invariant.0)

@@ -1,4 +1,4 @@
-use Rattle.std.proofs.Common.{◌∙◌, rules, take, tests}
+use Rattle.std.proofs.Common.{◌∙◌, rules, tests}
 use Rattle.std.proofs.lemmas.Iterator.{YieldsList-from_slice}
 use Rattle.std.proofs.lemmas.Iterator.Search.{any_from_yields_List}
 use Rattle.parlog.specs.Tables.{binding_of, vars_in}
@@ -9,5 +9,5 @@ use Rattle.unify.proofs.some_bound.Goals as goal
 pub returns : goal.returns
 returns c =
     let a = c.args in
-    let vs = vars_in a.vars.now a.n in
-    any_from_yields_List (λ v. is_bound (binding_of vs v)) _ _ _ c.any.ensures.ran (YieldsList-from_slice (take a.count a.notes) cc) (λ x b q k. search (rules, tests)) ∙ some-is vs (take a.count a.notes)
+    let vs = vars_in a.vars.now.bytes.now a.vars.now.count in
+    any_from_yields_List (λ v. is_bound (binding_of vs v)) _ _ _ c.any.ensures.ran (YieldsList-from_slice a.notes.now cc) (λ x b q k. search (rules, tests)) ∙ some-is vs a.notes.now

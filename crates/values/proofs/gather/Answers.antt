@@ -6,5 +6,5 @@ returns-then-values-goal c = gather-short _ _ _ c.goal_vars-goal.ensures.0 c.if-
 
 pub returns : goal.returns
 returns c =
-    let n = c.var_count-n.ensures.0 in
+    let n = c.var_count.ensures.0 in
     gather-all _ _ _ c.goal_vars-goal.ensures.0 c.if-values-goal.false (rw n at c.write.ensures)

@@ -1,5 +1,5 @@
 use Rattle.values.proofs.Laws.{inside-ruled, values-gathered, values-refused}
-use Rattle.entry.proofs.Entering.{indexed_of, inside_of}
+use Rattle.entry.proofs.Entering.{inside_of}
 use native.Mathlib.Omega.{arith}
 use Rattle.values.proofs.values.Goals as goal
 
@@ -10,7 +10,7 @@ pub gather-requires : goal.gather-requires
 gather-requires c =
     let says = c.enter-e.ensures in
     let i = inside_of _ _ _ says.enter_says c.in-Ok.is in
-    (i.relations, i.clauses, omega (arith, i.head), i.cells, i.goal, inside-ruled _ _ _ _ _ i, indexed_of _ _ says.indexed_of c.in-Ok.is)
+    (omega (arith, i.head), i.cells, i.goal, inside-ruled _ _ _ _ _ i)
 
 pub returns : goal.returns
 returns c =

@@ -2,17 +2,8 @@ use mathlib.Core.Bool.{◌&&◌, Bool}
 use mathlib.Core.Path.{◌∙◌, ap, refl, sym}
 use Rattle.entry_table.proofs.Places.{entry-is}
 use Rattle.text_names.specs.Bytes.{front}
-use Rattle.lay_text.proofs.Laws.{capped-min, entry-told, name-order}
+use Rattle.lay_text.proofs.Laws.{capped-min, entry-told}
 use Rattle.lay_text.proofs.Writer.name.Goals as goal
-
-pub slice_bounds-copy-count : goal.slice_bounds-copy-count
-slice_bounds-copy-count c = name-order _ _ _ c.find-from.ensures.1 c.name_end-end.ensures.1 c.name_end-end.ensures.0
-
-pub slice_bounds-copy-start : goal.slice_bounds-copy-start
-slice_bounds-copy-start c = name-order _ _ _ c.find-from.ensures.1 c.name_end-end.ensures.1 c.name_end-end.ensures.0
-
-pub overflow_sub-end : goal.overflow_sub-end
-overflow_sub-end c = name-order _ _ _ c.find-from.ensures.1 c.name_end-end.ensures.1 c.name_end-end.ensures.0
 
 pub returns : goal.returns
 returns c = let f = c.find-from in

@@ -1,8 +1,0 @@
-use Rattle.missing_call.proofs.Ways.{body-none, body-some}
-use Rattle.missing_call.proofs.body.Goals as goal
-
-pub returns-then-mark : goal.returns-then-mark
-returns-then-mark c = body-none c.requires _ c.byte_at-mark.ensures.0 c.if-mark.true
-
-pub returns : goal.returns
-returns c = body-some c.requires _ c.byte_at-mark.ensures.0 c.goal.result c.if-mark.false c.goal.ensures

@@ -1,9 +1,0 @@
-use Rattle.missing_call.proofs.Ways.{text-seen}
-use Rattle.missing_call.proofs.Walked.{looks_on}
-use Rattle.missing_call.proofs.least.Goals as goal
-
-pub body-requires : goal.body-requires
-body-requires c = rw c.moved.ensures (looks_on c.requires c.behind_arrow-arrow.ensures.1 c.clauses-c.ensures.within)
-
-pub returns : goal.returns
-returns c = text-seen c.args.s.now c.args.places.now c.args.a c.args.from c.args.left c.clauses-c.result c.moved.result c.body.result c.behind_arrow-arrow.result c.clauses-c.ensures c.behind_arrow-arrow.ensures.0 c.moved.ensures c.body.ensures

@@ -1,8 +1,0 @@
-use Rattle.runner_text.proofs.Lines.{term-const, term-var}
-use Rattle.runner_text.proofs.term.Goals as goal
-
-pub returns-in-Const : goal.returns-in-Const
-returns-in-Const c = term-const _ c.put-q.ensures c.number.ensures c.in-Const.is
-
-pub returns-in-Var : goal.returns-in-Var
-returns-in-Var c = term-var _ c.put-q.ensures c.number-n.ensures c.in-Var.is c.put.ensures

@@ -1,8 +1,0 @@
-use Rattle.text_names.specs.Bytes.{skip}
-use mathlib.Core.Path.{◌≡◌}
-use Prim.Native.Nat.{◌≤◌}
-use lib.ListN.{length, drop}
-use Rattle.text_names.proofs.skip_blanks.Given as goal
-
-abbrev pub invariant-loop-i : goal.invariant-loop-i
-invariant-loop-i l = (l.i ≤ length l.s) × (skip (drop l.i l.s) ≡ skip (drop l.from l.s))
