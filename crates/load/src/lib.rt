@@ -44,6 +44,7 @@ fn too_many(g: Progress, kind: Kind) -> bool
 
 // 6, MANY: 9th clause of a block.
 fn block_full(known: &Known, kind: Kind) -> bool
+    requires { known.now.before.block ≤ 8 }
     ensures { result ≡ block_full known.now.image.now known.now.before known.now.at (kind_number kind) }
 {
     let Kind::Clause = kind else {
@@ -56,6 +57,7 @@ fn block_full(known: &Known, kind: Kind) -> bool
 
 // What is known after the record.
 fn progressed(known: &Known, kind: Kind) -> Progress
+    requires small { Small known.now.before }
     requires few { too_many known.now.before (kind_number kind) ≡ false }
     requires room { block_full known.now.image.now known.now.before known.now.at (kind_number kind) ≡ false }
     ensures value { result ≡ progressed known.now.image.now known.now.before known.now.at (kind_number kind) }
@@ -86,6 +88,7 @@ fn progressed(known: &Known, kind: Kind) -> Progress
 
 // The tests of a record's fields, 4, 5, and the ninth-clause part of 6: what is known after it, and where the body of a clause begins.
 fn test_fields(known: &Known, kind: Kind) -> Result<(Progress, usize), u8>
+    requires small { Small known.now.before }
     requires inside { record_end known.now.image.now known.now.at ≤ length known.now.image.now }
     requires few { too_many known.now.before (kind_number kind) ≡ false }
     ensures { (result ≡ told (fields_verdict known.now.image.now known.now.before known.now.at (kind_number kind)) (place_of known.now.image.now known.now.at (kind_number kind))) × Next result }
@@ -102,6 +105,7 @@ fn test_fields(known: &Known, kind: Kind) -> Result<(Progress, usize), u8>
 
 // The tests of a record, 2, 3, 6, then those of its fields.
 fn test_record(known: &Known) -> Result<(Progress, usize), u8>
+    requires { Small known.now.before }
     ensures { (result ≡ told (record_verdict known.now.image.now known.now.before known.now.at) (place_of known.now.image.now known.now.at (kind_at known.now.image.now known.now.at))) × Next result }
 {
     if records::cut(known.image, known.at) {

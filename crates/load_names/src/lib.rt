@@ -50,8 +50,6 @@ pub struct Known<'a> {
     pub ghost near: { at ≤ 32768 },
     pub ghost told: { (k : ℕ) → k < before.relations → byte_at arities.now k ≡ arity_of image.now k },
     pub ghost relations: { before.relations ≤ 32 },
-    pub ghost clauses: { before.clauses ≤ 64 },
-    pub ghost block: { before.block ≤ 8 },
 }
 
 // The number that a term is in an image. Kept, no `From`: it would be the same match, in crate parlog, which has the type.

@@ -1,17 +1,16 @@
 -- Scans over the rows, and the tables as a whole.
 use mathlib.Core.Path.{◌∙◌, ◌≡◌, ap, refl, sym}
-use mathlib.Core.Bool.{◌&&◌, Bool, false, true, true≢false, and-false}
+use mathlib.Core.Bool.{◌&&◌, Bool, false, true, and-false}
 use mathlib.Core.List.{List}
-use Prim.Native.Nat.{◌*◌, ◌+◌, ◌<◌, ◌≤◌, suc, zero, ℕ}
+use Prim.Native.Nat.{◌*◌, ◌-◌, ◌<◌, ◌≤◌, suc, zero, ℕ}
 use lib.Dec.{eqb, leb, ltb}
 use lib.ListN.{length}
 use borrow.Author.Tests.{leb-true}
 use native.Mathlib.Omega.{arith}
-use native.Mathlib.Numerals.{add-one}
+use native.Mathlib.Nat.{not-suc-le-zero}
+use Rattle.parlog.proofs.Along.{less_one}
 use Rattle.parlog.proofs.Assume.{full-sizes}
 use Rattle.std.proofs.lemmas.Bool.{and_parts}
-use Rattle.parlog.proofs.Bools.{split}
-use Rattle.parlog.proofs.Scans.{every-at}
 use Rattle.parlog.specs.Limits.{Limits}
 use Rattle.parlog.specs.Program.{Program}
 use Rattle.parlog.specs.Scan.{every, implies}
@@ -21,19 +20,22 @@ use Rattle.rows.proofs.Tables.{procs-length}
 use Rattle.table_rules.specs.Parts.{cell_ok}
 use Rattle.vars.proofs.Tables.{vars-at, vars-length}
 
--- ---- counting up
+-- ---- counting down
 
 module _ (f : ℕ → Bool) where
-  pub up-none : every f 0 ≡ true
+  pub down_step : (q : ℕ) → 0 < q → {b : Bool} → b ≡ f (q - 1) → b ≡ true → every f q ≡ every f (q - 1)
   unfolding every
-  up-none = refl
+  down_step zero h e t = absurd (not-suc-le-zero h)
+  down_step (suc q) h e t = rw less_one (rw (sym (rw less_one at e) ∙ t))
 
-  pub up_step : (q : ℕ) → every f q ≡ true → {b : Bool} → b ≡ f q → b ≡ true → every f (q + 1) ≡ true
+  pub down-stop : (q : ℕ) → 0 < q → {b : Bool} → b ≡ f (q - 1) → b ≡ false → every f q ≡ false
   unfolding every
-  up_step q h e t = rw (add-one q, ← e, t) h
+  down-stop zero h e t = absurd (not-suc-le-zero h)
+  down-stop (suc q) h e t = rw (sym (rw less_one at e) ∙ t)
 
-  pub up-stop : (n q : ℕ) → q < n → {b : Bool} → b ≡ f q → b ≡ false → every f n ≡ false
-  up-stop n q h e z = split (every f n) (λ y. absurd (true≢false (sym (every-at f n q y h) ∙ sym e ∙ z))) (λ y. y)
+  pub down-none : (q : ℕ) → q ≡ 0 → every f q ≡ true
+  unfolding every
+  down-none q e = rw e
 
 -- ---- variables
 

@@ -169,12 +169,12 @@ fn row_ok(image: &Image, procs: &Processes, n: usize, i: usize) -> bool
 
 // ---- the tables
 
-// Each of the first count rows.
+// Each of the first count rows, from the last one on.
 // Kept beside `cells_ok`, which is alike: one loop for both would take its test as a closure, and be no plainer.
 fn rows_ok(image: &Image, procs: &Processes, n: usize) -> bool
     ensures { result ≡ every (row_ok (program_in image.now) (processes_in procs.now) n) procs.now.count }
 {
-    for q in 0..procs.count {
+    for q in (0..procs.count).rev() {
         let ok = row_ok(image, procs, n, q);
         if !ok {
             return false;
@@ -194,11 +194,11 @@ fn cell_ok(vars: &Variables, v: usize) -> bool
     row_tests::cell_ok(v, vars.bytes[b], number)
 }
 
-// Each of the first n rows of variables.
+// Each of the first n rows of variables, from the last one on.
 fn cells_ok(vars: &Variables) -> bool
     ensures { result ≡ (every (cell_known vars.now.bytes.now) vars.now.count && every (var_ok (variables_in vars.now)) vars.now.count) }
 {
-    for q in 0..vars.count {
+    for q in (0..vars.count).rev() {
         let ok = cell_ok(vars, q);
         if !ok {
             return false;

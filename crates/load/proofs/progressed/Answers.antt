@@ -10,7 +10,7 @@ returns-in-Relation-clause-value c = rw (c.number.ensures, c.in-Relation.is) ref
 
 pub returns-in-Relation-clause-small : goal.returns-in-Relation-clause-small
 returns-in-Relation-clause-small c = let k = c.args.known.now in
-    record { relations = omega (arith, few-relations k.before 1 refl (rw c.in-Relation.is at c.requires.few)); clauses = k.clauses; block = k.block }
+    record { relations = omega (arith, few-relations k.before 1 refl (rw c.in-Relation.is at c.requires.few)); clauses = c.requires.small.clauses; block = c.requires.small.block }
 
 pub returns-in-Clause-clause-value : goal.returns-in-Clause-clause-value
 unfolding progressed

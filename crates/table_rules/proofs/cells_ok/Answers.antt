@@ -1,17 +1,13 @@
 use native.Mathlib.Omega.{arith}
-use mathlib.Core.Path.{◌∙◌, ◌≡◌, sym}
-use Rattle.table_rules.proofs.Whole.{cells-both, up-none, up_step, up-stop}
+use mathlib.Core.Path.{◌∙◌, sym}
+use Rattle.table_rules.proofs.Whole.{cells-both, down-none, down_step, down-stop}
 use Rattle.table_rules.proofs.cells_ok.Goals as goal
 
-pub loop-q-init : goal.loop-q-init
-loop-q-init c = up-none _
-
 pub returns-then-not-ok : goal.returns-then-not-ok
-returns-then-not-ok c = sym (sym (cells-both c.args.vars.now.bytes.now c.args.vars.now.count c.args.vars.now.count) ∙ up-stop _ _ c.loop-q.q c.loop-q-test.true c.cell_ok-ok.ensures c.if-not-ok.true)
+returns-then-not-ok c = sym (sym (cells-both c.args.vars.now.bytes.now c.args.vars.now.count c.args.vars.now.count) ∙ c.loop-q.invariant ∙ down-stop _ c.loop-q.q (omega arith) c.cell_ok-ok.ensures c.if-not-ok.true)
 
 pub loop-q-preserved : goal.loop-q-preserved
-loop-q-preserved c = up_step _ c.loop-q.q c.loop-q.invariant c.cell_ok-ok.ensures c.if-not-ok.false
+loop-q-preserved c = c.loop-q.invariant ∙ down_step _ c.loop-q.q (omega arith) c.cell_ok-ok.ensures c.if-not-ok.false
 
 pub returns : goal.returns
-returns c = let e : c.loop-q.q ≡ c.args.vars.now.count = omega arith in
-    sym (sym (cells-both c.args.vars.now.bytes.now c.args.vars.now.count c.args.vars.now.count) ∙ rw e at c.loop-q.invariant)
+returns c = sym (sym (cells-both c.args.vars.now.bytes.now c.args.vars.now.count c.args.vars.now.count) ∙ c.loop-q.invariant ∙ down-none _ c.loop-q.q (omega arith))
