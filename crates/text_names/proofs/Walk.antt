@@ -1,54 +1,43 @@
--- Names and blanks: how many bytes they have, and one turn of the loop over two names.
+-- One turn of the loops over names and blanks.
 use mathlib.Core.Path.{◌∙◌, ◌≡◌, ap, refl, sym}
-use mathlib.Core.Bool.{Bool, cond, false, false≢true, not, true}
+use mathlib.Core.Bool.{Bool, false, false≢true, not, true}
 use mathlib.Core.List.{[], ◌∷◌, List}
-use Prim.Native.Nat.{◌+◌, ◌-◌, ◌<◌, ◌≤◌, suc, ℕ}
+use Prim.Native.Nat.{◌+◌, ◌<◌, ◌≤◌, ℕ}
 use lib.Dec.{leb}
-use lib.ListN.{drop, drop_of_length-le, get_or, get_or-eq_default, length, length-drop, take}
-use lib.Seq.{take_all, drop-cons, drop-drop}
+use lib.ListN.{drop, drop_of_length-le, get_or, get_or-eq_default, length}
+use lib.Seq.{drop-cons, drop-drop}
 use borrow.Author.Tests.{eq-eqb, leb-false, leb-true, ne_eqb, not-false, not-true}
 use native.Mathlib.Omega.{arith}
 use native.Mathlib.Numerals.{add-one}
-use Rattle.std.specs.List.{prefix_len}
-use Rattle.std.proofs.lemmas.List.Folds.{length-prefix_len}
-use Rattle.std.proofs.lemmas.List.Sums.{prefix_len-le-length}
 use Rattle.text_names.specs.Bytes.{back, front, is_blank, is_capital, is_name, is_small, next, skip}
 use Rattle.text_names.specs.Names.{same_name}
 
--- ---- bytes of a kind from the front on
+-- ---- one turn of the loops over blanks and over a name
 
-skip-drop : (s : List ℕ) → drop (prefix_len is_blank s) s ≡ skip s
-unfolding skip
-skip-drop [] = refl
-skip-drop (b ∷ s) = go (is_blank b) (skip-drop s)
-  where
-    go : (t : Bool) → drop (prefix_len is_blank s) s ≡ skip s → drop (cond t (1 + prefix_len is_blank s) 0) (b ∷ s) ≡ cond t (skip s) (b ∷ s)
-    go true e = let z : 1 + prefix_len is_blank s ≡ suc (prefix_len is_blank s) = omega arith in rw z e
-    go false e = refl
+module _ (s : List ℕ) (i : ℕ) where
+  pub skip_stop : (r : Bool) → i < length s → r ≡ is_blank (get_or s i 0) → not r ≡ true → drop i s ≡ skip (drop i s)
+  unfolding skip
+  skip_stop r h e f = rw (drop-cons s i 0, ← e, not-true r f)
 
-back-drop : (s : List ℕ) → drop (prefix_len is_name s) s ≡ back s
-unfolding back
-back-drop [] = refl
-back-drop (b ∷ s) = go (is_name b) (back-drop s)
-  where
-    go : (t : Bool) → drop (prefix_len is_name s) s ≡ back s → drop (cond t (1 + prefix_len is_name s) 0) (b ∷ s) ≡ cond t (back s) (b ∷ s)
-    go true e = let z : 1 + prefix_len is_name s ≡ suc (prefix_len is_name s) = omega arith in rw z e
-    go false e = refl
+  pub skip-go : (r : Bool) → i < length s → r ≡ is_blank (get_or s i 0) → not r ≡ false → skip (drop i s) ≡ skip (drop (i + 1) s)
+  unfolding skip
+  skip-go r h e f = rw (add-one, drop-cons s i 0, ← e, not-false r f)
 
--- a slice up to the end
-pub all-behind : (s : List ℕ) (from : ℕ) → take (length s - from) (drop from s) ≡ drop from s
-all-behind s from = take_all (length s - from) (drop from s) (omega (arith, length-drop from s))
+  pub skip-none : length s ≤ i → drop i s ≡ skip (drop i s)
+  unfolding skip
+  skip-none h = rw (drop_of_length-le s h)
 
-module _ (s : List ℕ) (from n : ℕ) (h : from ≤ length s) where
-  -- what `count` gives is how many there are
-  pub counted : (t : ℕ → Bool) → n ≡ length (take (prefix_len t (drop from s)) (drop from s)) → from + n ≤ length s
-  counted t e = omega (arith, length-prefix_len t (drop from s), prefix_len-le-length t (drop from s), length-drop from s)
+  pub back-stop : (r : Bool) → i < length s → r ≡ is_name (get_or s i 0) → not r ≡ true → drop i s ≡ back (drop i s)
+  unfolding back
+  back-stop r h e f = rw (drop-cons s i 0, ← e, not-true r f)
 
-  pub blanks-counted : n ≡ length (take (prefix_len is_blank (drop from s)) (drop from s)) → drop (from + n) s ≡ skip (drop from s)
-  blanks-counted e = rw (e, length-prefix_len is_blank (drop from s)) (sym (drop-drop (prefix_len is_blank (drop from s)) from s) ∙ skip-drop (drop from s))
+  pub back-go : (r : Bool) → i < length s → r ≡ is_name (get_or s i 0) → not r ≡ false → back (drop i s) ≡ back (drop (i + 1) s)
+  unfolding back
+  back-go r h e f = rw (add-one, drop-cons s i 0, ← e, not-false r f)
 
-  pub name-counted : n ≡ length (take (prefix_len is_name (drop from s)) (drop from s)) → drop (from + n) s ≡ back (drop from s)
-  name-counted e = rw (e, length-prefix_len is_name (drop from s)) (sym (drop-drop (prefix_len is_name (drop from s)) from s) ∙ back-drop (drop from s))
+  pub back_none : length s ≤ i → drop i s ≡ back (drop i s)
+  unfolding back
+  back_none h = rw (drop_of_length-le s h)
 
 -- ---- the names at two places
 

@@ -47,7 +47,10 @@ pub fn is_capital(b: usize) -> bool
 pub fn is_name(b: usize) -> bool
     ensures { result ≡ is_name b }
 {
-    is_small(b) || is_capital(b) || in_span(b'0', b'9', b) || b == UNDERSCORE
+    if is_small(b) {
+        return true;
+    }
+    is_capital(b) | (in_span(b'0', b'9', b) | (b == UNDERSCORE))
 }
 
 // A blank or a line end.
@@ -65,8 +68,12 @@ pub fn name_end(s: &[u8], from: usize) -> usize
     requires { from ≤ length s.now }
     ensures { (drop result s.now ≡ back (drop from s.now)) × (result ≤ length s.now) × (from ≤ result) }
 {
-    let bytes = s[from..].iter();
-    from + bytes.take_while(|b| is_name(usize::from(**b))).count()
+    for i in from..s.len() {
+        if !is_name(place::byte_in(s, i)) {
+            return i;
+        }
+    }
+    s.len()
 }
 
 // The place behind the blanks at a place.
@@ -74,8 +81,12 @@ pub fn skip_blanks(s: &[u8], from: usize) -> usize
     requires { from ≤ length s.now }
     ensures { (drop result s.now ≡ skip (drop from s.now)) × (result ≤ length s.now) }
 {
-    let bytes = s[from..].iter();
-    from + bytes.take_while(|b| is_blank(usize::from(**b))).count()
+    for i in from..s.len() {
+        if !is_blank(place::byte_in(s, i)) {
+            return i;
+        }
+    }
+    s.len()
 }
 
 // The place behind a mark and the blanks there.
