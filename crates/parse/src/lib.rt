@@ -16,7 +16,7 @@ use mode_table::Relations;
 use parlog::{Answer, Refusal, codes};
 use take_clause::Next;
 use take_modes::{Modes, Tables};
-use take_term::{Draft, VARIABLES};
+use take_term::Draft;
 
 // 16, TEXT.
 const TEXT: u8 = 16;
@@ -119,7 +119,7 @@ fn clauses(
     image: &mut [u8],
     names: &mut [u8],
     relations: &Relations,
-    mut draft: Draft<VARIABLES>,
+    mut draft: Draft,
     modes: Modes,
 ) -> Answer<(usize, usize)>
     requires { Behind relations.now.text.now draft.out.now relations.now.lines modes.rest modes.at modes.known × Indexed relations.now.text.now draft.consts.now draft.links.now 0 × (length draft.consts.now ≡ 4385) }
@@ -164,10 +164,13 @@ fn spelled(image: &mut [u8], names: &mut [u8], s: &[u8]) -> Answer<(usize, usize
     let mut out = [0u8; IMAGE];
     let mut consts = [0; CONSTANTS];
     let mut links = [0u16; CONSTANT_LINKS];
+    let mut places = [0; codes::MOST_RELATIONS];
+    let mut arities = [0; codes::MOST_RELATIONS];
+    let mut chains = [0u16; take_modes::LINKS];
     let mut tables = Tables {
-        places: [0; codes::MOST_RELATIONS],
-        arities: [0; codes::MOST_RELATIONS],
-        links: [0; take_modes::LINKS],
+        places: &mut places,
+        arities: &mut arities,
+        links: &mut chains,
     };
     match take_modes::mode_lines(s, m, &mut out, &mut tables) {
         Err(refused) => {
@@ -178,16 +181,15 @@ fn spelled(image: &mut [u8], names: &mut [u8], s: &[u8]) -> Answer<(usize, usize
         Ok(modes) => {
             let relations = Relations {
                 text: s,
-                places: &tables.places,
-                arities: &tables.arities,
-                links: &tables.links,
+                places: &places,
+                arities: &arities,
+                links: &chains,
                 lines: modes.lines,
             };
             let draft = Draft {
                 out: &mut out,
                 consts: &mut consts,
                 links: &mut links,
-                vars: [0; VARIABLES],
             };
             clauses(image, names, &relations, draft, modes)
         }

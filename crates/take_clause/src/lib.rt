@@ -110,10 +110,16 @@ fn ask_front(out: &mut [u8], at: usize, size: usize, vars: usize) -> To
 // ---- terms, guard and body
 
 // A goal where it stands; where there is none, a byte tells so.
-fn part(relations: &Relations, draft: &mut Draft<VARIABLES>, w: Reading, p: Part) -> Reading
-    requires { Ready relations.now.text.now (rows_in draft.old) w × PartIn relations.now.text.now p }
+fn part(
+    relations: &Relations,
+    draft: &mut Draft,
+    vars: &mut [usize],
+    w: Reading,
+    p: Part,
+) -> Reading
+    requires { Ready relations.now.text.now (rows_in draft.old vars.old) w × PartIn relations.now.text.now p }
     ensures lent { Same draft.old draft.new }
-    ensures taken { TakesPart relations.now.text.now (lines_in relations.now) (rows_in draft.old) w (part_of relations.now.text.now p) (rows_in draft.new) result }
+    ensures taken { TakesPart relations.now.text.now (lines_in relations.now) (rows_in draft.old vars.old) w (part_of relations.now.text.now p) (rows_in draft.new vars.new) result }
 {
     match p {
         Part::Absent => {
@@ -126,24 +132,30 @@ fn part(relations: &Relations, draft: &mut Draft<VARIABLES>, w: Reading, p: Part
         }
         Part::Goal(at) => {
             let v = take_term::move_to(w, at, 0);
-            take_goal::goal(relations, draft, v)
+            take_goal::goal(relations, draft, vars, v)
         }
         Part::Body(at) => {
             let v = take_term::move_to(w, at, 0);
-            take_goal::body(relations, draft, v)
+            take_goal::body(relations, draft, vars, v)
         }
     }
 }
 
 // Terms, guard and body of a clause.
-fn parts(relations: &Relations, draft: &mut Draft<VARIABLES>, w: Reading, c: ClauseAt) -> Reading
-    requires { Ready relations.now.text.now (rows_in draft.old) w × (w.end ≡ c.terms) × PartIn relations.now.text.now c.guard × PartIn relations.now.text.now c.body }
+fn parts(
+    relations: &Relations,
+    draft: &mut Draft,
+    vars: &mut [usize],
+    w: Reading,
+    c: ClauseAt,
+) -> Reading
+    requires { Ready relations.now.text.now (rows_in draft.old vars.old) w × (w.end ≡ c.terms) × PartIn relations.now.text.now c.guard × PartIn relations.now.text.now c.body }
     ensures lent { Same draft.old draft.new }
-    ensures taken { TakesParts relations.now.text.now (lines_in relations.now) (rows_in draft.old) w (said_at relations.now.text.now c) (rows_in draft.new) result }
+    ensures taken { TakesParts relations.now.text.now (lines_in relations.now) (rows_in draft.old vars.old) w (said_at relations.now.text.now c) (rows_in draft.new vars.new) result }
 {
-    let a = take_term::terms(relations.text, draft, w);
-    let b = part(relations, draft, a, c.guard);
-    part(relations, draft, b, c.body)
+    let a = take_term::terms(relations.text, draft, vars, w);
+    let b = part(relations, draft, vars, a, c.guard);
+    part(relations, draft, vars, b, c.body)
 }
 
 // ---- records
@@ -182,7 +194,7 @@ fn told(end: usize, number: usize, semicolon: bool, right: bool, x: Reading) -> 
 }
 
 // The clause that is next; it opens a block or not.
-pub fn clause(relations: &Relations, draft: &mut Draft<VARIABLES>, next: Next, opens: bool) -> Taken
+pub fn clause(relations: &Relations, draft: &mut Draft, next: Next, opens: bool) -> Taken
     requires { (next.from ≤ length relations.now.text.now) × (next.at ≤ 65536) × Indexed relations.now.text.now draft.old.consts.now draft.old.links.now next.consts }
     ensures lent { Same draft.old draft.new }
     ensures taken { TakesClause relations.now.text.now (lines_in relations.now) draft.old.out.now draft.old.consts.now next.at next.consts opens (read_clause (drop next.from relations.now.text.now)) draft.new.out.now draft.new.consts.now draft.new.links.now result }
@@ -190,11 +202,11 @@ pub fn clause(relations: &Relations, draft: &mut Draft<VARIABLES>, next: Next, o
     let Next { from, at, consts } = next;
     let c = read_clause::clause(relations.text, from);
     let head = relation_at(relations, from);
-    draft.vars = [0; VARIABLES];
+    let mut vars = [0; VARIABLES];
     let fits = c.arity == head.arity.unwrap_or(0);
     let known = head.arity.is_some();
     let w = start(c.terms, at + codes::CLAUSE_HEAD, consts, fits, known);
-    let x = parts(relations, draft, w, c);
+    let x = parts(relations, draft, &mut vars, w, c);
     clause_front(
         draft.out,
         at,
@@ -208,16 +220,16 @@ pub fn clause(relations: &Relations, draft: &mut Draft<VARIABLES>, next: Next, o
 }
 
 // The goal that is next.
-pub fn ask(relations: &Relations, draft: &mut Draft<VARIABLES>, next: Next) -> Taken
+pub fn ask(relations: &Relations, draft: &mut Draft, next: Next) -> Taken
     requires { (next.from ≤ length relations.now.text.now) × (next.at ≤ 65536) × Indexed relations.now.text.now draft.old.consts.now draft.old.links.now next.consts }
     ensures lent { Same draft.old draft.new }
     ensures taken { TakesAsk relations.now.text.now (lines_in relations.now) draft.old.out.now draft.old.consts.now next.at next.consts (read_body (drop next.from relations.now.text.now)) draft.new.out.now draft.new.consts.now draft.new.links.now result }
 {
     let Next { from, at, consts } = next;
     let body = read_goal::body(relations.text, from);
-    draft.vars = [0; VARIABLES];
+    let mut vars = [0; VARIABLES];
     let w = start(from, at + codes::GOAL_AT, consts, true, true);
-    let x = take_goal::body(relations, draft, w);
+    let x = take_goal::body(relations, draft, &mut vars, w);
     ask_front(draft.out, at, x.at - at, x.vars);
     told(x.end, 0, false, body.right, x)
 }

@@ -45,36 +45,37 @@ fn number(out: &mut [u8], w: Reading, n: usize) -> Reading
 // ---- literals
 
 // An equality of two terms.
-fn equality<const V: usize>(s: &[u8], draft: &mut Draft<V>, w: Reading) -> Reading
-    requires { Ready s.now (rows_in draft.old) w }
+fn equality(s: &[u8], draft: &mut Draft, vars: &mut [usize], w: Reading) -> Reading
+    requires { Ready s.now (rows_in draft.old vars.old) w }
     ensures lent { Same draft.old draft.new }
-    ensures taken { TakesEquality s.now (rows_in draft.old) w (literal_by true (drop w.end s.now)) (rows_in draft.new) result }
+    ensures taken { TakesEquality s.now (rows_in draft.old vars.old) w (literal_by true (drop w.end s.now)) (rows_in draft.new vars.new) result }
 {
     let a = number(draft.out, w, codes::EQUALITY);
     let b = number(draft.out, a, codes::EQUALITY_ARITY);
-    let c = take_term::term(s, draft, b);
+    let c = take_term::term(s, draft, vars, b);
     let d = take_term::move_to(c, text_names::after_mark(s, c.end), codes::EQUALITY_ARITY);
-    let e = take_term::term(s, draft, d);
+    let e = take_term::term(s, draft, vars, d);
     take_term::move_to(e, e.end, codes::EQUALITY_ARITY)
 }
 
 // A call of the relation of the name here, which is in a chain, with the terms behind it; tested by the way.
-fn call<const V: usize>(
+fn call(
     relations: &Relations,
-    draft: &mut Draft<V>,
+    draft: &mut Draft,
+    vars: &mut [usize],
     w: Reading,
     behind: usize,
     chain: usize,
 ) -> Reading
-    requires { Ready relations.now.text.now (rows_in draft.old) w × (drop behind relations.now.text.now ≡ past (drop w.end relations.now.text.now)) × (behind ≤ length relations.now.text.now) × (chain ≡ chain_of (front (drop w.end relations.now.text.now))) }
+    requires { Ready relations.now.text.now (rows_in draft.old vars.old) w × (drop behind relations.now.text.now ≡ past (drop w.end relations.now.text.now)) × (behind ≤ length relations.now.text.now) × (chain ≡ chain_of (front (drop w.end relations.now.text.now))) }
     ensures lent { Same draft.old draft.new }
-    ensures taken { TakesLiteral relations.now.text.now (lines_in relations.now) (rows_in draft.old) w (literal_by false (drop w.end relations.now.text.now)) (rows_in draft.new) result }
+    ensures taken { TakesLiteral relations.now.text.now (lines_in relations.now) (rows_in draft.old vars.old) w (literal_by false (drop w.end relations.now.text.now)) (rows_in draft.new vars.new) result }
 {
     let entry = relations.find(w.end, chain);
     let a = number(draft.out, w, entry.number);
     let b = number(draft.out, a, 0);
     let from = take_term::move_to(b, behind, 0);
-    let c = take_term::terms(relations.text, draft, from);
+    let c = take_term::terms(relations.text, draft, vars, from);
     patch(draft.out, a.at, c.count);
     Reading {
         fits: c.fits & (c.count == entry.arity.unwrap_or(0)),
@@ -84,32 +85,32 @@ fn call<const V: usize>(
 }
 
 // A literal.
-fn literal<const V: usize>(relations: &Relations, draft: &mut Draft<V>, w: Reading) -> Reading
-    requires { Ready relations.now.text.now (rows_in draft.old) w }
+fn literal(relations: &Relations, draft: &mut Draft, vars: &mut [usize], w: Reading) -> Reading
+    requires { Ready relations.now.text.now (rows_in draft.old vars.old) w }
     ensures lent { Same draft.old draft.new }
-    ensures taken { TakesLiteral relations.now.text.now (lines_in relations.now) (rows_in draft.old) w (read_literal (drop w.end relations.now.text.now)) (rows_in draft.new) result }
+    ensures taken { TakesLiteral relations.now.text.now (lines_in relations.now) (rows_in draft.old vars.old) w (read_literal (drop w.end relations.now.text.now)) (rows_in draft.new vars.new) result }
 {
     let word = name_index::name_at(relations.text, w.end);
     let behind = text_names::skip_blanks(relations.text, word.end);
     if place::byte_at(relations.text, behind) == read_goal::EQUALS {
-        return equality(relations.text, draft, w);
+        return equality(relations.text, draft, vars, w);
     }
-    call(relations, draft, w, behind, word.chain)
+    call(relations, draft, vars, w, behind, word.chain)
 }
 
 // ---- stages and goals
 
 // Literals with a comma between them.
 // Kept beside `stages`, like `take_term::names`: one loop for both would take what an item is, reads and lays as a closure with ghost arguments.
-fn literals<const V: usize>(relations: &Relations, draft: &mut Draft<V>, w: Reading) -> Reading
-    requires { Ready relations.now.text.now (rows_in draft.old) w }
+fn literals(relations: &Relations, draft: &mut Draft, vars: &mut [usize], w: Reading) -> Reading
+    requires { Ready relations.now.text.now (rows_in draft.old vars.old) w }
     ensures lent { Same draft.old draft.new }
-    ensures taken { TakesLiterals relations.now.text.now (lines_in relations.now) (rows_in draft.old) w (row read_literal 44 (drop w.end relations.now.text.now)) (rows_in draft.new) result }
+    ensures taken { TakesLiterals relations.now.text.now (lines_in relations.now) (rows_in draft.old vars.old) w (row read_literal 44 (drop w.end relations.now.text.now)) (rows_in draft.new vars.new) result }
 {
     let mut x = w;
     let most = relations.text.len() - w.end;
     for n in 0..most {
-        x = literal(relations, draft, x);
+        x = literal(relations, draft, vars, x);
         if place::byte_at(relations.text, x.end) != read_goal::COMMA {
             return take_term::move_to(x, x.end, n + 1);
         }
@@ -119,28 +120,28 @@ fn literals<const V: usize>(relations: &Relations, draft: &mut Draft<V>, w: Read
 }
 
 // A stage: how many literals, and the literals.
-fn stage<const V: usize>(relations: &Relations, draft: &mut Draft<V>, w: Reading) -> Reading
-    requires { Ready relations.now.text.now (rows_in draft.old) w }
+fn stage(relations: &Relations, draft: &mut Draft, vars: &mut [usize], w: Reading) -> Reading
+    requires { Ready relations.now.text.now (rows_in draft.old vars.old) w }
     ensures lent { Same draft.old draft.new }
-    ensures taken { TakesStage relations.now.text.now (lines_in relations.now) (rows_in draft.old) w (row read_literal 44 (drop w.end relations.now.text.now)) (rows_in draft.new) result }
+    ensures taken { TakesStage relations.now.text.now (lines_in relations.now) (rows_in draft.old vars.old) w (row read_literal 44 (drop w.end relations.now.text.now)) (rows_in draft.new vars.new) result }
 {
     let a = number(draft.out, w, 0);
-    let b = literals(relations, draft, a);
+    let b = literals(relations, draft, vars, a);
     patch(draft.out, w.at, b.count);
     b
 }
 
 // Stages with `&` between them.
 // Kept, like `literals`.
-fn stages<const V: usize>(relations: &Relations, draft: &mut Draft<V>, w: Reading) -> Reading
-    requires { Ready relations.now.text.now (rows_in draft.old) w }
+fn stages(relations: &Relations, draft: &mut Draft, vars: &mut [usize], w: Reading) -> Reading
+    requires { Ready relations.now.text.now (rows_in draft.old vars.old) w }
     ensures lent { Same draft.old draft.new }
-    ensures taken { TakesStages relations.now.text.now (lines_in relations.now) (rows_in draft.old) w (row (row read_literal 44) 38 (drop w.end relations.now.text.now)) (rows_in draft.new) result }
+    ensures taken { TakesStages relations.now.text.now (lines_in relations.now) (rows_in draft.old vars.old) w (row (row read_literal 44) 38 (drop w.end relations.now.text.now)) (rows_in draft.new vars.new) result }
 {
     let mut x = w;
     let most = relations.text.len() - w.end;
     for n in 0..most {
-        x = stage(relations, draft, x);
+        x = stage(relations, draft, vars, x);
         if place::byte_at(relations.text, x.end) != read_goal::AMPERSAND {
             return take_term::move_to(x, x.end, n + 1);
         }
@@ -151,26 +152,26 @@ fn stages<const V: usize>(relations: &Relations, draft: &mut Draft<V>, w: Readin
 
 // A goal: how many stages, and the stages.
 // Kept beside `stage`: one function for both would take what stands behind the count as a closure that is lent the draft, under a contract for any; these four lines are no longer.
-pub fn goal<const V: usize>(relations: &Relations, draft: &mut Draft<V>, w: Reading) -> Reading
-    requires { Ready relations.now.text.now (rows_in draft.old) w }
+pub fn goal(relations: &Relations, draft: &mut Draft, vars: &mut [usize], w: Reading) -> Reading
+    requires { Ready relations.now.text.now (rows_in draft.old vars.old) w }
     ensures lent { Same draft.old draft.new }
-    ensures taken { TakesGoal relations.now.text.now (lines_in relations.now) (rows_in draft.old) w (read_goal (drop w.end relations.now.text.now)) (rows_in draft.new) result }
+    ensures taken { TakesGoal relations.now.text.now (lines_in relations.now) (rows_in draft.old vars.old) w (read_goal (drop w.end relations.now.text.now)) (rows_in draft.new vars.new) result }
 {
     let a = number(draft.out, w, 0);
-    let b = stages(relations, draft, a);
+    let b = stages(relations, draft, vars, a);
     patch(draft.out, w.at, b.count);
     b
 }
 
 // A goal, or nothing where the line ends.
-pub fn body<const V: usize>(relations: &Relations, draft: &mut Draft<V>, w: Reading) -> Reading
-    requires { Ready relations.now.text.now (rows_in draft.old) w }
+pub fn body(relations: &Relations, draft: &mut Draft, vars: &mut [usize], w: Reading) -> Reading
+    requires { Ready relations.now.text.now (rows_in draft.old vars.old) w }
     ensures lent { Same draft.old draft.new }
-    ensures taken { TakesGoal relations.now.text.now (lines_in relations.now) (rows_in draft.old) w (read_body (drop w.end relations.now.text.now)) (rows_in draft.new) result }
+    ensures taken { TakesGoal relations.now.text.now (lines_in relations.now) (rows_in draft.old vars.old) w (read_body (drop w.end relations.now.text.now)) (rows_in draft.new vars.new) result }
 {
     let mark = place::byte_at(relations.text, w.end);
     if (mark == read_goal::DOT) | (mark == read_goal::SEMICOLON) {
         return number(draft.out, take_term::move_to(w, w.end, 0), 0);
     }
-    goal(relations, draft, w)
+    goal(relations, draft, vars, w)
 }

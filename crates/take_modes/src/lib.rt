@@ -8,6 +8,7 @@ ghost use Rattle.lay_literal.specs.Lows.{lows};
 ghost use Rattle.name_index.specs.Index.{chain_of, Indexed};
 ghost use Rattle.read_goal.specs.Spans.{Spans};
 ghost use Rattle.read_names.specs.Tables.{names_at};
+ghost use Rattle.take_modes.specs.Lent.{Same};
 ghost use Rattle.take_modes.specs.TakesModes.{EntersLine, modes_front, one_more, ReadsLine, TakesModes, told_by};
 ghost use Rattle.text_names.specs.Bytes.{front};
 ghost use Rattle.text_names.specs.Names.{look};
@@ -34,12 +35,12 @@ pub struct Modes {
 // How many numbers serve for the chains of any mode lines: how many chains there are, and how many names there may be.
 pub const LINKS: usize = name_index::CHAINS + codes::MOST_RELATIONS;
 
-// Mode lines in tables with room for R: the places of their names with their chains, L numbers, and how many modes each has.
+// Mode lines in tables: the places of their names with their chains, and how many modes each has.
 #[derive(Drop)]
-pub struct Tables<const R: usize, const L: usize> {
-    pub places: [usize; R],
-    pub arities: [usize; R],
-    pub links: [u16; L],
+pub struct Tables<'a> {
+    pub places: &'a mut [usize],
+    pub arities: &'a mut [usize],
+    pub links: &'a mut [u16],
 }
 
 // A mode line: the place of its name, the name's chain, the place behind the line, and how many modes it has.
@@ -136,20 +137,15 @@ fn read_line(s: &[u8], out: &mut [u8], p: usize, at: usize) -> Line
 }
 
 // The tests of a mode line.
-fn test_line<const R: usize, const L: usize>(
-    s: &[u8],
-    tables: &Tables<R, L>,
-    g: Progress,
-    line: Line,
-) -> Result<Progress, u8>
-    requires { (line.name ≤ length s.now) × (line.chain ≡ chain_of (front (drop line.name s.now))) × Indexed s.now tables.now.places tables.now.links g.relations × (g.relations ≤ 32) }
-    ensures { result ≡ tested (leb 32 g.relations) (leb line.count 4) (leb g.relations (look (names_at s.now (take g.relations tables.now.places)) (front (drop line.name s.now)))) false (one_more g) }
+fn test_line(s: &[u8], tables: &Tables, g: Progress, line: Line) -> Result<Progress, u8>
+    requires { (line.name ≤ length s.now) × (line.chain ≡ chain_of (front (drop line.name s.now))) × Indexed s.now tables.now.places.now tables.now.links.now g.relations × (g.relations ≤ 32) }
+    ensures { result ≡ tested (leb 32 g.relations) (leb line.count 4) (leb g.relations (look (names_at s.now (take g.relations tables.now.places.now)) (front (drop line.name s.now)))) false (one_more g) }
 {
     let n = g.relations;
     let names = Table {
         text: s,
-        places: &tables.places,
-        links: &tables.links,
+        places: tables.places,
+        links: tables.links,
         count: n,
     };
     let fresh = names.find(line.name, line.chain).is_none();
@@ -179,18 +175,12 @@ fn begin(out: &mut [u8], at: usize, count: usize)
 }
 
 // A new mode line into the tables, as number n.
-fn enter<const R: usize, const L: usize>(s: &[u8], tables: &mut Tables<R, L>, n: usize, line: Line)
-    requires { (line.name ≤ length s.now) × (line.chain ≡ chain_of (front (drop line.name s.now))) × Indexed s.now tables.old.places tables.old.links n × (n < R) × (n ≤ look (names_at s.now (take n tables.old.places)) (front (drop line.name s.now))) }
-    ensures { EntersLine s.now (front (drop line.name s.now)) line.count tables.old.places tables.old.arities n tables.new.places tables.new.arities tables.new.links }
+fn enter(s: &[u8], tables: &mut Tables, n: usize, line: Line)
+    requires { (line.name ≤ length s.now) × (line.chain ≡ chain_of (front (drop line.name s.now))) × Indexed s.now tables.old.places.now tables.old.links.now n × (n < length tables.old.places.now) × (length tables.old.arities.now ≡ length tables.old.places.now) × (n ≤ look (names_at s.now (take n tables.old.places.now)) (front (drop line.name s.now))) }
+    ensures lent { Same tables.old tables.new }
+    ensures entered { EntersLine s.now (front (drop line.name s.now)) line.count tables.old.places.now tables.old.arities.now n tables.new.places.now tables.new.arities.now tables.new.links.now }
 {
-    name_index::add(
-        s,
-        &mut tables.places,
-        &mut tables.links,
-        n,
-        line.name,
-        line.chain,
-    );
+    name_index::add(s, tables.places, tables.links, n, line.name, line.chain);
     tables.arities[n] = line.count;
 }
 
@@ -210,14 +200,10 @@ fn told(m: usize, p: usize, g: Progress, at: usize) -> Modes
 }
 
 // The mode lines from a place on, up to the first that is refused.
-pub fn mode_lines<const R: usize, const L: usize>(
-    s: &[u8],
-    m: usize,
-    out: &mut [u8],
-    tables: &mut Tables<R, L>,
-) -> Answer<Modes>
-    requires { (m ≤ length s.now) × (32 ≤ R) × Indexed s.now tables.old.places tables.old.links 0 }
-    ensures { TakesModes s.now m out.old out.new tables.new.places tables.new.arities tables.new.links result }
+pub fn mode_lines(s: &[u8], m: usize, out: &mut [u8], tables: &mut Tables) -> Answer<Modes>
+    requires { (m ≤ length s.now) × (32 ≤ length tables.old.places.now) × (length tables.old.arities.now ≡ length tables.old.places.now) × Indexed s.now tables.old.places.now tables.old.links.now 0 }
+    ensures lent { Same tables.old tables.new }
+    ensures taken { TakesModes s.now m out.old out.new tables.new.places.now tables.new.arities.now tables.new.links.now result }
 {
     let mut p = m;
     let mut at = 0;

@@ -16,14 +16,13 @@ use parlog::codes;
 // How many places of variables serve for any clause: one more than it may have.
 pub const VARIABLES: usize = codes::MOST_VARIABLES + 1;
 
-// An image that is being made: its bytes, the places of its constants with their chains, and those of a clause's variables, V of them.
+// An image that is being made: its bytes, and the places of its constants with their chains.
 // Kept apart from the relations that are lent beside it: what is read comes by & and what is written by &mut, so that no step has to promise that it left the relations as they were.
 #[derive(Drop)]
-pub struct Draft<'a, const V: usize> {
+pub struct Draft<'a> {
     pub out: &'a mut [u8],
     pub consts: &'a mut [usize],
     pub links: &'a mut [u16],
-    pub vars: [usize; V],
 }
 
 // Kept apart from a draft, and so `Ready` as a clause of each step: it ties the text, a draft and a reading, and one struct of the three would have each step promise besides that it is still that text.
@@ -69,10 +68,10 @@ fn variable(s: &[u8], vars: &mut [usize], n: usize, q: usize) -> Added
 }
 
 // The term at a place.
-pub fn term<const V: usize>(s: &[u8], draft: &mut Draft<V>, w: Reading) -> Reading
-    requires { Ready s.now (rows_in draft.old) w }
+pub fn term(s: &[u8], draft: &mut Draft, vars: &mut [usize], w: Reading) -> Reading
+    requires { Ready s.now (rows_in draft.old vars.old) w }
     ensures lent { Same draft.old draft.new }
-    ensures taken { TakesTerm s.now (rows_in draft.old) w (rows_in draft.new) result }
+    ensures taken { TakesTerm s.now (rows_in draft.old vars.old) w (rows_in draft.new vars.new) result }
 {
     let q = w.end;
     let word = name_index::name_at(s, q);
@@ -82,7 +81,7 @@ pub fn term<const V: usize>(s: &[u8], draft: &mut Draft<V>, w: Reading) -> Readi
         named: true,
     };
     if text_names::is_capital(place::byte_at(s, q)) {
-        let v = variable(s, &mut draft.vars, w.vars, q);
+        let v = variable(s, vars, w.vars, q);
         let to = lay_literal::word(draft.out, from, codes::FIRST_VARIABLE + v.number);
         return Reading {
             end,
@@ -103,15 +102,15 @@ pub fn term<const V: usize>(s: &[u8], draft: &mut Draft<V>, w: Reading) -> Readi
 
 // The terms with a comma between them.
 // Kept, a loop beside those of take_goal and take_modes: one for all would take an item's taker as a closure, and with it what it reads, which names and bytes that has and what is tested, as ghost arguments. The loop is shorter.
-fn names<const V: usize>(s: &[u8], draft: &mut Draft<V>, w: Reading) -> Reading
-    requires { Ready s.now (rows_in draft.old) w }
+fn names(s: &[u8], draft: &mut Draft, vars: &mut [usize], w: Reading) -> Reading
+    requires { Ready s.now (rows_in draft.old vars.old) w }
     ensures lent { Same draft.old draft.new }
-    ensures taken { TakesTerms s.now (rows_in draft.old) w (row read_term 44 (drop w.end s.now)) (rows_in draft.new) result }
+    ensures taken { TakesTerms s.now (rows_in draft.old vars.old) w (row read_term 44 (drop w.end s.now)) (rows_in draft.new vars.new) result }
 {
     let mut r = w;
     let most = s.len() - w.end;
     for n in 0..most {
-        r = term(s, draft, r);
+        r = term(s, draft, vars, r);
         let end = r.end;
         if place::byte_at(s, end) != read_goal::COMMA {
             return move_to(r, end, n + 1);
@@ -124,17 +123,17 @@ fn names<const V: usize>(s: &[u8], draft: &mut Draft<V>, w: Reading) -> Reading
 }
 
 // The terms in brackets, or no brackets.
-pub fn terms<const V: usize>(s: &[u8], draft: &mut Draft<V>, w: Reading) -> Reading
-    requires { Ready s.now (rows_in draft.old) w }
+pub fn terms(s: &[u8], draft: &mut Draft, vars: &mut [usize], w: Reading) -> Reading
+    requires { Ready s.now (rows_in draft.old vars.old) w }
     ensures lent { Same draft.old draft.new }
-    ensures taken { TakesTerms s.now (rows_in draft.old) w (read_brackets read_term (drop w.end s.now)) (rows_in draft.new) result }
+    ensures taken { TakesTerms s.now (rows_in draft.old vars.old) w (read_brackets read_term (drop w.end s.now)) (rows_in draft.new vars.new) result }
 {
     let at = w.end;
     if place::byte_at(s, at) != read_goal::OPEN {
         return move_to(w, at, 0);
     }
     let from = text_names::after_mark(s, at);
-    let inner = names(s, draft, move_to(w, from, 0));
+    let inner = names(s, draft, vars, move_to(w, from, 0));
     let behind = text_names::after_mark(s, inner.end);
     move_to(inner, behind, inner.count)
 }

@@ -13,7 +13,7 @@ use mode_table::Relations;
 use parlog::{Progress, codes};
 use read_goal::ARROW;
 use take_clause::{Next, Taken};
-use take_term::{Draft, VARIABLES};
+use take_term::Draft;
 
 // How far the clauses were taken: the place in the text and how many may still follow, the number of the first refusal, or 0, and the place of its record, or the place behind all; how many constants there are, what is known there, and whether each call so far has a mode line.
 // Kept: no Result, since the places, `left` and `declared` are read behind a refusal too.
@@ -93,7 +93,7 @@ fn turned(v: Result<Progress, u8>, w: Clauses, c: Taken) -> Clauses
 }
 
 // One clause more.
-fn turn(relations: &Relations, draft: &mut Draft<VARIABLES>, w: Clauses, opens: bool) -> Behind
+fn turn(relations: &Relations, draft: &mut Draft, w: Clauses, opens: bool) -> Behind
     requires { (w.end ≤ length relations.now.text.now) × (w.at ≤ 65536) × Indexed relations.now.text.now draft.old.consts.now draft.old.links.now w.consts × Counted w.known × (1 ≤ w.left) }
     ensures lent { Same draft.old draft.new }
     ensures taken { Turns relations.now.text.now (lines_in relations.now) draft.old.out.now draft.old.consts.now w opens draft.new.out.now draft.new.consts.now draft.new.links.now result }
@@ -129,7 +129,7 @@ fn start(left: usize, from: usize, n: usize, at: usize, known: Progress) -> Clau
 // The clauses that are next, up to the first that is refused.
 pub fn clause_lines(
     relations: &Relations,
-    draft: &mut Draft<VARIABLES>,
+    draft: &mut Draft,
     next: Next,
     known: Progress,
 ) -> Clauses

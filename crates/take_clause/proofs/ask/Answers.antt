@@ -6,7 +6,7 @@ use mathlib.Core.Path.{refl}
 use Rattle.take_clause.proofs.ask.Goals as goal
 
 pub body-x-requires : goal.body-x-requires
-body-x-requires c = (omega arith, ready-start _ _ _ _ _ c.start-w.ensures c.requires.0 c.requires.2)
+body-x-requires c = ready-start _ _ _ _ _ c.start-w.ensures c.requires.0 c.requires.2
 
 pub overflow_sub-x : goal.overflow_sub-x
 overflow_sub-x c = ends-behind _ c.args.next.at 5 _ _ _ c.requires.1 (omega arith) c.start-w.ensures c.body-x.ensures.taken

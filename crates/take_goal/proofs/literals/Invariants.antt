@@ -10,4 +10,4 @@ use Rattle.take_term.specs.Lent.{rows_in, Same}
 use Rattle.take_goal.proofs.literals.Given as goal
 
 abbrev pub invariant-loop-n : goal.invariant-loop-n
-invariant-loop-n g l = Going read_literal 44 said_terms (literal_in (lines_in l.relations)) (literal_fits true (lines_in l.relations)) (literal_fits false (lines_in l.relations)) l.relations.text.now (rows_in l.initial.draft) l.initial.x (rows_in l.draft) l.x l.n (l.most - l.n) × Same l.initial.draft l.draft
+invariant-loop-n l = Going read_literal 44 said_terms (literal_in (lines_in l.relations)) (literal_fits true (lines_in l.relations)) (literal_fits false (lines_in l.relations)) l.relations.text.now (rows_in l.initial.draft l.initial.vars) l.initial.x (rows_in l.draft l.vars) l.x l.n (l.most - l.n) × Same l.initial.draft l.draft

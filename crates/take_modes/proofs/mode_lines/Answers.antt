@@ -1,3 +1,4 @@
+use Rattle.std.proofs.Common.{rules}
 use native.Mathlib.Nat.{sub-add-eq}
 use native.Mathlib.Omega.{arith}
 use Rattle.take_modes.proofs.Walked.{line-few, line-fresh, line-right, near-enough, walk_end, walk-on, walk_start, walk-stop}
@@ -6,25 +7,25 @@ use mathlib.Core.Path.{refl}
 use Rattle.take_modes.proofs.mode_lines.Goals as goal
 
 pub loop-init : goal.loop-init
-loop-init g c = walk_start c.args.s.now c.args.m c.args.out.now c.args.tables.now.places c.args.tables.now.arities c.args.tables.now.links _ c.requires.0 (omega arith) (omega arith) c.requires.2 refl
+loop-init c = (walk_start c.args.s.now c.args.m c.args.out.now c.args.tables.now.places.now c.args.tables.now.arities.now c.args.tables.now.links.now _ c.requires.0 c.requires.1 c.requires.2 c.requires.3 refl, search rules)
 
-pub returns-then-not-is_mode_line : goal.returns-then-not-is_mode_line
-returns-then-not-is_mode_line g c = walk_end c.loop.invariant (lines-last c.args.s.now c.loop.p _ c.is_mode_line.ensures (c.if-not-is_mode_line.true)) c.told.ensures
+pub returns-then-not-is_mode_line-clause-taken : goal.returns-then-not-is_mode_line-clause-taken
+returns-then-not-is_mode_line-clause-taken c = walk_end c.loop.invariant.0 (lines-last c.args.s.now c.loop.p _ c.is_mode_line.ensures (c.if-not-is_mode_line.true)) c.told.ensures
 
-pub returns-in-Err : goal.returns-in-Err
-returns-in-Err g c = walk-stop c.loop.invariant _ c.is_mode_line.ensures (c.if-not-is_mode_line.false) c.read_line-line.ensures c.test_line.result _ c.test_line.ensures c.in-Err.is
+pub returns-in-Err-clause-taken : goal.returns-in-Err-clause-taken
+returns-in-Err-clause-taken c = walk-stop c.loop.invariant.0 _ c.is_mode_line.ensures (c.if-not-is_mode_line.false) c.read_line-line.ensures c.test_line.result _ c.test_line.ensures c.in-Err.is
 
 pub enter-requires : goal.enter-requires
-enter-requires g c = (omega arith, (c.read_line-line.ensures.inside, c.read_line-line.ensures.chain, c.loop.invariant.moded.index, let few = line-few c.loop.invariant _ c.is_mode_line.ensures (c.if-not-is_mode_line.false) c.read_line-line.ensures c.test_line.result _ c.test_line.ensures c.in-Ok.is in omega arith, line-fresh c.loop.invariant _ c.is_mode_line.ensures (c.if-not-is_mode_line.false) c.read_line-line.ensures c.test_line.result _ c.test_line.ensures c.in-Ok.is))
+enter-requires c = (c.read_line-line.ensures.inside, c.read_line-line.ensures.chain, c.loop.invariant.0.moded.index, let few = line-few c.loop.invariant.0 _ c.is_mode_line.ensures (c.if-not-is_mode_line.false) c.read_line-line.ensures c.test_line.result _ c.test_line.ensures c.in-Ok.is in let room = c.loop.invariant.0.room in omega arith, c.loop.invariant.0.moded.size, line-fresh c.loop.invariant.0 _ c.is_mode_line.ensures (c.if-not-is_mode_line.false) c.read_line-line.ensures c.test_line.result _ c.test_line.ensures c.in-Ok.is)
 
 pub begin-requires : goal.begin-requires
-begin-requires g c = line-right c.loop.invariant _ c.is_mode_line.ensures (c.if-not-is_mode_line.false) c.read_line-line.ensures c.test_line.result _ c.test_line.ensures c.in-Ok.is
+begin-requires c = line-right c.loop.invariant.0 _ c.is_mode_line.ensures (c.if-not-is_mode_line.false) c.read_line-line.ensures c.test_line.result _ c.test_line.ensures c.in-Ok.is
 
 pub overflow_add-at-in-loop : goal.overflow_add-at-in-loop
-overflow_add-at-in-loop g c = let h = near-enough c.loop.invariant in let k = line-right c.loop.invariant _ c.is_mode_line.ensures (c.if-not-is_mode_line.false) c.read_line-line.ensures c.test_line.result _ c.test_line.ensures c.in-Ok.is in omega arith
+overflow_add-at-in-loop c = let h = near-enough c.loop.invariant.0 in let k = line-right c.loop.invariant.0 _ c.is_mode_line.ensures (c.if-not-is_mode_line.false) c.read_line-line.ensures c.test_line.result _ c.test_line.ensures c.in-Ok.is in omega arith
 
 pub loop-preserved : goal.loop-preserved
-loop-preserved g c = rw sub-add-eq (walk-on c.loop.invariant _ c.is_mode_line.ensures (c.if-not-is_mode_line.false) c.read_line-line.ensures c.test_line.result _ c.test_line.ensures c.in-Ok.is (omega arith) c.enter.ensures c.begin.ensures)
+loop-preserved c = (rw sub-add-eq (walk-on c.loop.invariant.0 _ c.is_mode_line.ensures (c.if-not-is_mode_line.false) c.read_line-line.ensures c.test_line.result _ c.test_line.ensures c.in-Ok.is (omega arith) c.enter.ensures.entered c.begin.ensures), search rules)
 
-pub returns : goal.returns
-returns g c = walk_end c.loop.invariant (lines_none c.args.s.now c.loop.p (let h = c.loop.invariant.fuel in omega arith)) c.told-2.ensures
+pub returns-clause-taken : goal.returns-clause-taken
+returns-clause-taken c = walk_end c.loop.invariant.0 (lines_none c.args.s.now c.loop.p (let h = c.loop.invariant.0.fuel in omega arith)) c.told-2.ensures

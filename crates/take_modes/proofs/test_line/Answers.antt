@@ -4,4 +4,4 @@ use lib.ListN.{drop}
 use Rattle.take_modes.proofs.test_line.Goals as goal
 
 pub returns : goal.returns
-returns g c = rw (fresh-is c.args.s.now c.args.tables.now.places c.args.g.relations (front (drop c.args.line.name c.args.s.now)) _ _ c.requires.2.inside c.find.ensures c.is_none-fresh.ensures) c.verdict.ensures
+returns c = rw (fresh-is c.args.s.now c.args.tables.now.places.now c.args.g.relations (front (drop c.args.line.name c.args.s.now)) _ _ c.requires.2.inside c.find.ensures c.is_none-fresh.ensures) c.verdict.ensures
