@@ -1,11 +1,9 @@
 // Text laid into a lent row as far as there is room: bytes, words, and names of a names row.
 #![tactic(auto)]
 
-ghost use Rattle.std.specs.Prelude.{true, [], ◌∷◌, ◌≡◌, ◌+◌, ◌<◌};
+ghost use Rattle.std.specs.Prelude.{true, [], ◌∷◌, ◌≡◌, ◌+◌, ◌<◌, ◌≤◌, length};
 ghost use Rattle.lay.specs.Lay.{laid};
-ghost use Rattle.lay_text.specs.Laying.{Writes};
-ghost use Rattle.lay_text.specs.Wrote.{Wrote};
-ghost use Rattle.text_names.specs.Entries.{entry_name, is_entry};
+ghost use Rattle.lay_text.specs.Laying.{most, Writes};
 
 use entry_table::Names;
 
@@ -64,13 +62,18 @@ pub fn word(out: &mut [u8], w: To, bytes: &[u8]) -> To
 // ---- a writer
 
 // A lent row, and how far the text in it has come.
+// What it holds is so by its types: the row's length and the place are numbers.
 #[derive(Drop)]
 pub struct Writer<'a> {
     pub out: &'a mut [u8],
     pub to: To,
+    pub ghost holds: { (length out.now ≤ most) × (to.at ≤ most) },
 }
 
 impl<'a> Writer<'a> {
+    ghost use Rattle.lay_text.specs.Wrote.{Wrote};
+    ghost use Rattle.text_names.specs.Entries.{entry_name, is_entry};
+
     // A text that begins in a row.
     pub fn new(out: &'a mut [u8]) -> Self
         ensures row { (result.out.ghost_name ≡ out.entry.ghost_name) × (result.out.now ≡ out.old) }

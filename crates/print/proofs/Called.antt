@@ -11,7 +11,7 @@ use native.Mathlib.Omega.{arith}
 use native.Mathlib.Nat.{zero-add}
 use Rattle.lay.proofs.Laws.{laid-start}
 use Rattle.lay_text.proofs.Laws.{capped-below, capped-in, capped-under}
-use Rattle.lay_text.specs.Laying.{capped, most, Writes}
+use Rattle.lay_text.specs.Laying.{capped, most}
 use Rattle.lay_text.specs.Wrote.{Wrote}
 use Rattle.lay_text.specs.declared.Writer.{Writer}
 use Rattle.parlog.specs.Load.{load_of, refusal}
@@ -21,15 +21,12 @@ use Rattle.parlog.specs.declared.Refusal.{Refusal}
 use Rattle.print.specs.Says.{PrintSays, Tells}
 use Rattle.text_program.specs.Printing.{nameable, PrintCall, print_call, program_named, program_text, unwritten}
 
-module _ (tx t : List ℕ) (ok : Bool) {w m : Writer} (start : (w.to.at ≡ 0) × (w.to.named ≡ true)) (fits : length w.out.now ≤ most) (v : Wrote w t ok m) where
-  text-holds : Writes w.out.now w.to t ok m.out.now m.to
-  text-holds = v.writes (fits, rw start.0 (omega arith))
-
+module _ (tx t : List ℕ) (ok : Bool) {w m : Writer} (start : (w.to.at ≡ 0) × (w.to.named ≡ true)) (v : Wrote w t ok m) where
   told : m.to.named ≡ ok
-  told = text-holds.named ∙ rw start.1
+  told = v.writes.named ∙ rw start.1
 
   measured : m.to.at ≡ capped (length t)
-  measured = text-holds.place ∙ rw start.0 (ap capped (zero-add (length t)))
+  measured = v.writes.place ∙ rw start.0 (ap capped (zero-add (length t)))
 
   pub lacks-room : m.to.named ≡ true → length tx < m.to.at → unwritten tx (refusal 11 0) ≡ nameable tx ok t
   lacks-room h g =
@@ -41,8 +38,7 @@ module _ (tx t : List ℕ) (ok : Bool) {w m : Writer} (start : (w.to.at ≡ 0) �
       record { answer = Ok y.to.at; text = q } ≡ nameable tx ok t
   unfolding written
   prints {x} {y} {q} h g l s o u e =
-      let z : (length x.out.now ≤ most) × (x.to.at ≤ most) = (rw o (omega arith), rw s.0 (omega arith)) in
-      let f = u.writes z in
+      let f = u.writes in
       let n : length t ≤ length tx = capped-under (length t) (length tx) (omega (arith, measured)) l in
       let a : y.to.at ≡ length t = f.place ∙ rw s.0 (ap capped (zero-add (length t)) ∙ capped-in (length t) (omega arith)) in
       let b : q ≡ t ++ drop (length t) tx = e ∙ f.row ∙ rw (o, s.0) (laid-start t tx n) in

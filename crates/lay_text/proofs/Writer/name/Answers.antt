@@ -12,6 +12,6 @@ returns c = let f = c.find-from in
     record {
       lent = refl;
       size = c.copy.auto.out;
-      writes = λ h. entry-told w.out.now _ _ w.to _ f.result n.result _ _ f.ensures.1 n.ensures.1 n.ensures.0 (ap front f.ensures.0) h.0 c.copy.ensures (c.saturating_add-self.ensures ∙ capped-min _)
+      writes = entry-told w.out.now _ _ w.to _ f.result n.result _ _ f.ensures.1 n.ensures.1 n.ensures.0 (ap front f.ensures.0) w.holds.0 c.copy.ensures (c.saturating_add-self.ensures ∙ capped-min _)
           (ap (λ (v : Bool). w.to.named && v) (c.is_name-there.ensures ∙ sym (entry-is _ _ f.result n.result f.ensures.0 n.ensures.0)));
     }
