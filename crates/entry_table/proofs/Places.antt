@@ -57,6 +57,19 @@ pub record Thinned (before after : List ℕ) (k : ℕ) : Type 0 where
   pub kept : (j : ℕ) → k ≤ j → get_or after j 0 ≡ get_or before j 0
   pub same : length after ≡ length before
 
+pub thin-start : (t : List ℕ) → Thinned t t 0
+thin-start t = record { done = λ j h. absurd (omega arith); kept = λ j h. refl; same = refl }
+
+pub thin-turn : (o t : List ℕ) (k v : ℕ) → k < length t → v ≡ get_or t (2 * k) 0 → Thinned o t k → Thinned o (set t k v) (k + 1)
+thin-turn o t k v h e i = record { done = done_at; kept = λ j g. get_or-set_other t k j v 0 (λ f. absurd (omega (arith, f))) ∙ i.kept j (omega arith); same = length-set t k v ∙ i.same }
+  where
+    done_at : (j : ℕ) → j < k + 1 → get_or (set t k v) j 0 ≡ get_or o (2 * j) 0
+    done_at j g = go (eqb j k) refl
+      where
+        go : (b : Bool) → eqb j k ≡ b → get_or (set t k v) j 0 ≡ get_or o (2 * j) 0
+        go true f = let z = eqb-true j k f in rw z (get_or-set_same t k v 0 h ∙ e ∙ i.kept (2 * k) (omega arith))
+        go false f = let z = eqb-false j k f in get_or-set_other t k j v 0 z ∙ i.done j (omega (arith, z))
+
 -- ---- places in a table
 
 module _ (s t : List ℕ) where

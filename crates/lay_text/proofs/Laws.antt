@@ -1,15 +1,16 @@
 -- Writers one behind the other.
 use mathlib.Core.Path.{◌∙◌, ◌≡◌, ap, refl, sym}
 use mathlib.Core.Bool.{◌&&◌, and_assoc, and-true as true-right, Bool, cond, false, true}
-use mathlib.Core.List.{[], ◌++◌, ◌∷◌, append_assoc, List}
+use mathlib.Core.List.{[], ◌++◌, ◌∷◌, List}
 use Prim.Native.Nat.{◌+◌, ◌-◌, ◌<◌, ◌≤◌, min, ℕ}
 use lib.Dec.{ltb}
-use lib.ListN.{drop, length, length-append, length-drop, take}
+use lib.ListN.{drop, get_or, length, length-append, length-drop, set, take}
 use Rattle.std.proofs.lemmas.List.{take-append-drop}
-use lib.Seq.{drop-drop, length-take-le, take-append_seam, take-length}
+use lib.Seq.{length-take-le, take-append_seam, take-length, take-suc}
 use borrow.Author.Tests.{le-ltb, ltb-false, ltb-true}
 use native.Mathlib.Omega.{arith}
-use Rattle.lay.proofs.Laws.{laid-fits, laid-length, laid_none, laid-past, laid_then}
+use native.Mathlib.Numerals.{add-one}
+use Rattle.lay.proofs.Laws.{laid-length, laid_none, laid_one, laid-past, laid_then}
 use Rattle.lay.specs.Lay.{laid}
 use Rattle.lay_text.specs.Laying.{capped, Left, most, Writes}
 use Rattle.lay_text.specs.declared.To.{To}
@@ -168,10 +169,19 @@ module _ (o b : List ℕ) (at n : ℕ) where
           ∙ rw l at (laid_then (take n b) (drop n b) o at)
           ∙ ap (laid o at) (take-append-drop n b)
 
-  pub copied : (q : List ℕ) → at < length o → n ≡ min (length b) (length o - at) → q ≡ take n b → take at o ++ (q ++ drop n (drop at o)) ≡ laid o at b
-  copied q h m e =
-      let l : length (take n b) ≡ n = length-take-le n b (omega arith) in
-      rw (e, drop-drop n at o) (sym (append_assoc (take at o) (take n b) (drop (at + n) o)) ∙ ap (λ (k : ℕ). take at o ++ take n b ++ drop (at + k) o) (sym l) ∙ sym (laid-fits (take n b) o at (omega arith)) ∙ part-laid (omega arith) (λ x. omega arith))
+  -- the same at the end of a loop over these n
+  pub part-copied : (p : List ℕ) (k : ℕ) → at < length o → n ≡ min (length b) (length o - at) → k ≡ n → p ≡ laid o at (take k b) → p ≡ laid o at b
+  part-copied p k h m e f = rw e at f ∙ part-laid (omega arith) (λ x. omega arith)
+
+module _ (o b : List ℕ) (at : ℕ) where
+  pub copy_start : o ≡ laid o at (take 0 b)
+  copy_start = sym (laid_none o at)
+
+  pub copy-turn : (p : List ℕ) (k v : ℕ) → k < length b → v ≡ get_or b k 0 → p ≡ laid o at (take k b) → set p (at + k) v ≡ laid o at (take (k + 1) b)
+  copy-turn p k v h e f =
+      let m : length (take k b) ≡ k = length-take-le k b (omega arith) in
+      sym (laid_one p (at + k) v) ∙ rw f (rw m at (laid_then (take k b) (v ∷ []) o at))
+      ∙ ap (laid o at) (sym (rw add-one (take-suc b k 0 h) ∙ ap (λ (x : ℕ). take k b ++ (x ∷ [])) (sym e)))
 
 -- the name from one place to another, and whether it is one
 pub entry-told : (o p s : List ℕ) (w y : To) (from end : ℕ) (cs : List ℕ) (ok : Bool) → from ≤ length s → end ≤ length s → drop end s ≡ back (drop from s) → front (drop from s) ≡ cs → length o ≤ most →

@@ -24,12 +24,15 @@ fn store(out: &mut [u8], at: usize, byte: u8)
 }
 
 // A part of a row, as far as there is room.
+// Byte by byte: `copy_from_slice` over a length that is known at run time alone would have the archive need `memmove` of the C library.
 fn copy(out: &mut [u8], at: usize, part: &[u8])
     ensures { out.new ≡ laid out.old at part.now }
 {
     if at < out.len() {
         let n = part.len().min(out.len() - at);
-        out[at..at + n].copy_from_slice(&part[..n]);
+        for k in 0..n {
+            out[at + k] = part[k];
+        }
     }
 }
 

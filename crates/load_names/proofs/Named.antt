@@ -1,15 +1,18 @@
 -- What the names of a relation, a literal, a stage and a clause come to by their parts.
-use mathlib.Core.Path.{refl, ◌≡◌}
+use mathlib.Core.Path.{refl, sym, ◌∙◌, ◌≡◌}
 use mathlib.Core.Bool.{Bool, cond, false, true, ◌&&◌}
 use mathlib.Core.List.{List}
 use Prim.Native.Nat.{ℕ, ◌*◌, ◌+◌, ◌<◌, ◌≤◌}
-use lib.Dec.{eqb}
-use borrow.Author.Tests.{le-ltb, lt-ltb}
+use lib.Dec.{eqb, ltb}
+use borrow.Author.Tests.{le-ltb, lt-ltb, ltb-false, ltb-true}
 use native.Mathlib.Omega.{arith}
-use Rattle.parlog.specs.Image.{body_at, equality, goal_end, guard_at, literals_end, stage_end, term_at}
+use Rattle.load_names.specs.Reading.{word_of}
+use Rattle.parlog.proofs.Bools.{split}
+use Rattle.parlog.specs.Image.{body_at, equality, goal_end, guard_at, literals_end, number_of, stage_end, term_at}
 use Rattle.parlog.specs.Names.{arity_of, clause_inside, goal_named, literal_named, literals_named, relation_named, stage_named, term_named, term_named_at, terms_named}
 use Rattle.parlog.specs.Records.{byte_at}
 use Rattle.parlog.specs.declared.Term.{Term}
+use Rattle.parlog.specs.declared.Term.TheVariants.{Const, Var}
 use Rattle.place.proofs.Grows.{goal-grows}
 use Rattle.std.specs.Bool.{then_some}
 
@@ -18,6 +21,14 @@ use Rattle.std.specs.Bool.{then_some}
 pub term-read : (s : List ℕ) (vars at : ℕ) (t : Term) (b : Bool) → t ≡ term_at s at → b ≡ term_named vars t → term_named_at s vars at ≡ b
 unfolding term_named_at
 term-read s vars at t b e q = rw (← e, ← q)
+
+-- constants have the lower numbers, so one comparison tells
+pub word_below : (vars : ℕ) (t : Term) → number_of t ≤ 32767 → ltb (word_of t) (32768 + vars) ≡ term_named vars t
+word_below vars (Const c) h = lt-ltb c (32768 + vars) (omega arith)
+word_below vars (Var v) h =
+    split (ltb v vars)
+    (λ e. let l = ltb-true v vars e in lt-ltb (32768 + v) (32768 + vars) (omega arith) ∙ sym e)
+    (λ e. let l = ltb-false v vars e in le-ltb (32768 + v) (32768 + vars) (omega arith) ∙ sym e)
 
 -- ---- relations by the table of arities
 

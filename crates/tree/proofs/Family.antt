@@ -88,6 +88,9 @@ module _ (ps : List Process) (falls : Falls ps) (p : ℕ) where
 -- ---- the way to the first child
 
 module _ (l : List ℕ) (n p : ℕ) where
+  pub child-starts : Childless (procs_of l n) p (p + 1)
+  child-starts i u v z = omega arith
+
   pub child-on : (q : ℕ) → Childless (procs_of l n) p q → {v : ℕ} → v ≡ (at (procs_of l n) q).parent → (v ≡ p → ⊥) → Childless (procs_of l n) p (q + 1)
   child-on q free {v} ev ne i u w z = split (ltb i q)
       (λ e. free i u (ltb-true i q e) z)
